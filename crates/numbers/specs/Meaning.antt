@@ -1,0 +1,47 @@
+-- Numbers of `w` bytes: what bytes spell, which bytes spell a number, and reading one off the front of some bytes.
+use Prim.Native.Nat.{ℕ, zero, suc, _+_, _-_, _*_, _/_, _%_, _^_}
+use mathlib.Core.Bool.{cond}
+use mathlib.Core.List.{List, [], _∷_, _++_}
+use lib.Dec.{leb, ltb}
+use lib.IntN.{ℤ, pos, negsuc}
+use lib.ListN.{length, drop, getD}
+
+-- the number of the w bytes of s from `at` on, the first of the greatest weight (big-endian)
+abbrev pub beAt : ℕ → List ℕ → ℕ → ℕ
+beAt zero s at = 0
+beAt (suc w) s at = beAt w s at * 256 + getD s (at + w) 0
+
+-- the same, the first of the least weight (little-endian)
+abbrev pub leAt : ℕ → List ℕ → ℕ → ℕ
+leAt zero s at = 0
+leAt (suc w) s at = leAt w s at + 256 ^ w * getD s (at + w) 0
+
+-- the w bytes that spell v
+abbrev pub be : ℕ → ℕ → List ℕ
+be zero v = []
+be (suc w) v = be w (v / 256) ++ (v % 256 ∷ [])
+
+abbrev pub le : ℕ → ℕ → List ℕ
+le zero v = []
+le (suc w) v = v % 256 ∷ le w (v / 256)
+
+-- the two byte orders, for what is said of both at once
+pub data Order : Type 0 where
+  big : Order
+  little : Order
+
+abbrev pub numberAt : Order → ℕ → List ℕ → ℕ → ℕ
+numberAt big w s at = beAt w s at
+numberAt little w s at = leAt w s at
+
+abbrev pub spelled : Order → ℕ → ℕ → List ℕ
+spelled big w v = be w v
+spelled little w v = le w v
+
+-- w bytes off the front of s: k of their number and of what is left; `short` where there are fewer
+unfoldable pub number : {A : Type 0} → Order → ℕ → A → List ℕ → (ℕ → List ℕ → A) → A
+number o w short s k = cond (leb w (length s)) (k (numberAt o w s 0) (drop w s)) short
+
+-- the signed number that 32 bits hold, in two's complement
+abbrev pub signed32 : ℕ → ℤ
+signed32 x = cond (ltb x 2147483648) (pos x) (negsuc (4294967295 - x))

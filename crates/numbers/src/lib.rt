@@ -1,0 +1,77 @@
+// Integers of 1, 2, 4 and 8 bytes at a position of a slice, in both byte orders.
+ghost use mathlib.Core.Path.{_≡_};
+ghost use Prim.Native.Nat.{ℕ, _+_, _<_, _≤_};
+ghost use lib.ListN.{length, getD};
+ghost use Rattle.numbers.specs.Meaning.{beAt, leAt, signed32};
+
+// A byte position in a buffer: a kind of its own (document 01), which no row number can stand in for.
+pub struct Position(pub usize);
+
+fn wide(x: u8) -> u64
+    ensures { λ r. ⌜ (r ≡ x) × (r < 256) ⌝ }
+{
+    x as u64
+}
+
+// Each reader below `requires` that its bytes are there: whoever calls has just tested that, and none hands a caller's position on untested.
+
+pub fn byte(s: &[u8], at: Position) -> u64
+    requires { ⌜ at .0 < length (now s) ⌝ }
+    ensures { λ r. ⌜ (r ≡ getD (now (s .entry)) (at .0) 0) × (r < 256) ⌝ }
+{
+    let p = at.0;
+    wide(s[p])
+}
+
+pub fn le16(s: &[u8], at: Position) -> u64
+    requires { ⌜ at .0 + 2 ≤ length (now s) ⌝ }
+    ensures { λ r. ⌜ (r ≡ leAt 2 (now (s .entry)) (at .0)) × (r < 65536) ⌝ }
+{
+    let p = at.0;
+    wide(s[p + 0]) + 256 * wide(s[p + 1])
+}
+
+pub fn le32(s: &[u8], at: Position) -> u64
+    requires { ⌜ at .0 + 4 ≤ length (now s) ⌝ }
+    ensures { λ r. ⌜ (r ≡ leAt 4 (now (s .entry)) (at .0)) × (r < 4294967296) ⌝ }
+{
+    let p = at.0;
+    wide(s[p + 0]) + 256 * wide(s[p + 1]) + 65536 * wide(s[p + 2]) + 16777216 * wide(s[p + 3])
+}
+
+pub fn be16(s: &[u8], at: Position) -> u64
+    requires { ⌜ at .0 + 2 ≤ length (now s) ⌝ }
+    ensures { λ r. ⌜ (r ≡ beAt 2 (now (s .entry)) (at .0)) × (r < 65536) ⌝ }
+{
+    let p = at.0;
+    wide(s[p + 0]) * 256 + wide(s[p + 1])
+}
+
+pub fn be32(s: &[u8], at: Position) -> u64
+    requires { ⌜ at .0 + 4 ≤ length (now s) ⌝ }
+    ensures { λ r. ⌜ (r ≡ beAt 4 (now (s .entry)) (at .0)) × (r < 4294967296) ⌝ }
+{
+    let p = at.0;
+    ((wide(s[p + 0]) * 256 + wide(s[p + 1])) * 256 + wide(s[p + 2])) * 256 + wide(s[p + 3])
+}
+
+pub fn be64(s: &[u8], at: Position) -> u64
+    requires { ⌜ at .0 + 8 ≤ length (now s) ⌝ }
+    ensures { λ r. ⌜ r ≡ beAt 8 (now (s .entry)) (at .0) ⌝ }
+{
+    let p = at.0;
+    let a = ((wide(s[p + 0]) * 256 + wide(s[p + 1])) * 256 + wide(s[p + 2])) * 256 + wide(s[p + 3]);
+    (((a * 256 + wide(s[p + 4])) * 256 + wide(s[p + 5])) * 256 + wide(s[p + 6])) * 256
+        + wide(s[p + 7])
+}
+
+// Two's complement: the signed number that the 32 bits of x hold.
+pub fn to_signed(x: u32) -> i32
+    ensures { λ r. ⌜ r ≡ signed32 x ⌝ }
+{
+    if x < 2147483648 {
+        x as i32
+    } else {
+        -1 - ((4294967295 - x) as i32)
+    }
+}
