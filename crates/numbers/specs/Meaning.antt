@@ -16,11 +16,12 @@ abbrev pub leAt : ℕ → List ℕ → ℕ → ℕ
 leAt zero s at = 0
 leAt (suc w) s at = leAt w s at + 256 ^ w * getD s (at + w) 0
 
--- the w bytes that spell v
+-- the w bytes that spell v below 256 ^ w, big-endian
 abbrev pub be : ℕ → ℕ → List ℕ
 be zero v = []
 be (suc w) v = be w (v / 256) ++ (v % 256 ∷ [])
 
+-- the same, little-endian
 abbrev pub le : ℕ → ℕ → List ℕ
 le zero v = []
 le (suc w) v = v % 256 ∷ le w (v / 256)

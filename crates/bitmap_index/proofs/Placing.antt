@@ -1,0 +1,136 @@
+-- Placing rows: what marking answers, put into the reading, and that no byte behind a field of n rows changes. Assumes nothing.
+use Prim.Native.Nat.{ℕ, zero, suc, _-_, _/_, _<_, _≤_}
+use mathlib.Core.Path.{_≡_, refl, sym, ap, _∙_}
+use mathlib.Core.Bool.{Bool, true, false, _||_}
+use mathlib.Core.List.{List, [], _∷_}
+use native.Mathlib.Omega.{arith}
+use lib.Dec.{leb}
+use lib.IntN.{ℤ, pos, negsuc, _-ℤ_, natAbs}
+use lib.ListN.{length, take, drop, set, length-drop, drop-of-length-le}
+use lib.Seq.{take-all}
+use lib.Signed.{ltZ}
+use mir.Syntax.{w32}
+use mir.Val.{SFits, toZ, ofZ}
+use borrow.Author.Tests.{lt-ltb, le-ltb, leb-false, eq-eqb, ne-eqb}
+use Rattle.numbers.specs.Meaning.{signed32, number}
+use Rattle.refusal.specs.declared.Refusal.{Refusal}
+use Rattle.refusal.specs.declared.Refusal.the-variants.{Bitmap, Range, Twice}
+use Rattle.row_field.specs.Meaning.{bit, mark, markAll, zeroed, cleared, size}
+use Rattle.roaring.specs.declared.Extent.{Extent}
+use Rattle.roaring.specs.declared.Extent.the-variants.{AsLong, Exactly}
+use Rattle.roaring.specs.declared.Marked.{Marked}
+use Rattle.roaring.specs.declared.Marked.the-variants.{Refused, Done}
+use Rattle.roaring.specs.Reading.{Read, refused, got, choose, fits, anyFrom, read, marking, fieldAfter}
+use Rattle.stored_value.specs.Reading.{ok, check}
+use Rattle.bitmap_index.specs.Reading.{extentOf, once, placeBitmap, placeAt}
+use Rattle.bitmap_index.specs.declared.Outcome.{Outcome}
+use Rattle.bitmap_index.specs.Code.{Placing}
+use Rattle.bitmap_index.proofs.Offsets.{signed-fits, of, row-is, at, place-is}
+
+-- ---- no byte behind the field changes
+
+zeroed-set : (k : ℕ) (f : List ℕ) (i v : ℕ) → i < k → zeroed k (set f i v) ≡ zeroed k f
+unfolding zeroed
+zeroed-set zero f i v h = absurd (omega arith)
+zeroed-set (suc k) [] i v h = refl
+zeroed-set (suc k) (x ∷ f) zero v h = refl
+zeroed-set (suc k) (x ∷ f) (suc i) v h = ap (λ (t : List ℕ). 0 ∷ t) (zeroed-set k f i v (omega arith))
+
+pub cleared-mark : (n : ℕ) (f : List ℕ) (r : ℕ) → r < n → cleared n (mark f r) ≡ cleared n f
+unfolding mark
+cleared-mark n f r h = zeroed-set (size n) f (r / 8) _ (omega arith)
+
+none-first : (a b : Bool) → a || b ≡ false → a ≡ false
+none-first true b e = e
+none-first false b e = refl
+
+none-rest : (a b : Bool) → a || b ≡ false → b ≡ false
+none-rest true b e = absurd (let w : _≡_ {A = ℕ} 0 1 = cc in omega arith)
+none-rest false b e = e
+
+cleared-marks : (n : ℕ) (f rs : List ℕ) → anyFrom n rs ≡ false → cleared n (markAll f rs) ≡ cleared n f
+unfolding markAll anyFrom
+cleared-marks n f [] e = refl
+cleared-marks n f (r ∷ rs) e =
+    let h : r < n = leb-false n r (none-first (leb n r) (anyFrom n rs) e) in
+    cleared-marks n (mark f r) rs (none-rest (leb n r) (anyFrom n rs) e) ∙ cleared-mark n f r h
+
+after-go : (n : ℕ) (f rs : List ℕ) (fit any : Bool) → anyFrom n rs ≡ any → cleared n (choose fit (choose any f (markAll f rs)) f) ≡ cleared n f
+unfolding choose
+after-go n f rs true true e = refl
+after-go n f rs true false e = cleared-marks n f rs e
+after-go n f rs false any e = refl
+
+cleared-after : (extent : Extent) (n : ℕ) (f : List ℕ) (x : Read) → cleared n (fieldAfter extent n f x) ≡ cleared n f
+unfolding fieldAfter
+cleared-after extent n f refused = refl
+cleared-after extent n f (got rows length s) = after-go n f rows (fits extent length) (anyFrom n rows) refl
+
+-- ---- a single row
+
+module _ (r n : ℕ) (f : List ℕ) where
+  pub row-range : n ≤ r → Placing n (Outcome.Refused Range) (placeAt (negsuc r) 0 n [] f) f f
+  unfolding placeAt check
+  row-range h = record { so = rw (le-ltb r n h); kept = refl }
+
+  module _ (h : r < n) {was : Bool} {after : List ℕ} (b : was ≡ bit f r) (m : after ≡ mark f r) where
+    pub row-twice : was ≡ true → Placing n (Outcome.Refused Twice) (placeAt (negsuc r) 0 n [] f) f after
+    unfolding placeAt check
+    row-twice t = record { so = rw (lt-ltb r n h, ← b, t); kept = rw m (cleared-mark n f r h) }
+
+    pub row-done : was ≡ false → Placing n Outcome.Done (placeAt (negsuc r) 0 n [] f) f after
+    unfolding placeAt check
+    row-done t = record { so = rw (lt-ltb r n h, ← b, t) (ap ok (sym m)); kept = rw m (cleared-mark n f r h) }
+
+-- ---- a bitmap
+
+-- a part that goes to the end
+pub to-end : (o : ℕ) (s : List ℕ) → take (length s - o) (drop o s) ≡ drop o s
+to-end o s = take-all (length s - o) (drop o s) (rw length-drop (omega arith))
+
+pub as-long : (extent : ℕ) → extent ≡ 4294967295 → AsLong ≡ extentOf extent
+unfolding extentOf
+as-long extent h = rw (eq-eqb extent 4294967295 h)
+
+pub exactly : (extent : ℕ) → (extent ≡ 4294967295 → ⊥) → Exactly extent ≡ extentOf extent
+unfolding extentOf
+exactly extent h = rw (ne-eqb extent 4294967295 h)
+
+module _ (o e n : ℕ) (region f : List ℕ) where
+  pub behind-region : length region < o → Placing n (Outcome.Refused Bitmap) (placeAt (pos o) e n region f) f f
+  unfolding placeAt placeBitmap once read number marking
+  behind-region h = record { so = rw (drop-of-length-le region (let l : length region ≤ o = omega arith in l)); kept = refl }
+
+  module _ {bytes : List ℕ} {extent : Extent} {m : Marked} {after : List ℕ} (p : bytes ≡ drop o region) (x : extent ≡ extentOf e)
+      (a : m ≡ marking extent n f (read bytes)) (g : after ≡ fieldAfter extent n f (read bytes)) where
+    behind : cleared n after ≡ cleared n f
+    behind = rw g (cleared-after extent n f (read bytes))
+
+    pub bitmap-refused : {r : Refusal} → m ≡ Refused r → Placing n (Outcome.Refused r) (placeAt (pos o) e n region f) f after
+    unfolding placeAt placeBitmap once
+    bitmap-refused t = record { so = rw (← p, ← x, ← a, t); kept = behind }
+
+    pub bitmap-twice : {long : ℕ} {twice : Bool} → m ≡ Done long twice → twice ≡ true → Placing n (Outcome.Refused Twice) (placeAt (pos o) e n region f) f after
+    unfolding placeAt placeBitmap once
+    bitmap-twice t w = record { so = rw (← p, ← x, ← a, t, w); kept = behind }
+
+    pub bitmap-done : {long : ℕ} {twice : Bool} → m ≡ Done long twice → twice ≡ false → Placing n Outcome.Done (placeAt (pos o) e n region f) f after
+    unfolding placeAt placeBitmap once
+    bitmap-done t w = record { so = rw (← p, ← x, ← a, t, w) (ap ok (sym g)); kept = behind }
+
+-- ---- an entry's rows
+
+module _ (x e n : ℕ) (region f : List ℕ) (h : x < 4294967296) {z : ℤ} (s : z ≡ signed32 x) {r : Outcome} {after : List ℕ} where
+  pub as-row : (t : ltZ (toZ w32 (ofZ w32 z)) (pos 0) ≡ true)
+      → Placing n r (placeAt (negsuc (natAbs (toZ w32 (ofZ w32 (negsuc 0 -ℤ toZ w32 (ofZ w32 z)))))) 0 n [] f) f after
+      → Placing n r (placeAt (signed32 x) e n region f) f after
+  unfolding placeAt
+  as-row t p =
+      let k : SFits w32 z = rw s (signed-fits x h) in
+      rw (← s, of z k t .so) (rw (row-is z k t) at p)
+
+  pub as-place : (t : ltZ (toZ w32 (ofZ w32 z)) (pos 0) ≡ false) → Placing n r (placeAt (pos (natAbs (toZ w32 (ofZ w32 z)))) e n region f) f after
+      → Placing n r (placeAt (signed32 x) e n region f) f after
+  as-place t p =
+      let k : SFits w32 z = rw s (signed-fits x h) in
+      rw (← s, at z k t .so) (rw (place-is z k t) at p)

@@ -1,0 +1,63 @@
+-- `answer` meets its contract: the rows of the chosen entries are counted, and no row says skip.
+use mathlib.Core.List.{_++_}
+use lib.ListN.{drop}
+use Rattle.dictionary.specs.Code.{nullsOf}
+use Rattle.bitmap_index.proofs.Asking.{answer-refused, answer-skip, answer-keep}
+use borrow.Author.Needs.{needs}
+use Rattle.bitmap_index.proofs.answer.Statement.{statement}
+use Rattle.bitmap_index.proofs.answer.Tie as tie
+
+place-all-requires : tie.Need-place-all-requires
+place-all-requires c κs = search needs
+
+enum-known-placed : tie.Need-enum-known-placed
+enum-known-placed c = search needs
+
+clear-requires : tie.Need-clear-requires
+clear-requires c κs = search needs
+
+same-length : tie.Need-same-length
+same-length c = search needs
+
+returns : tie.Need-returns
+returns c =
+    let a = c .before .before .before .before .before .before .before .before .before .before .before .before .before .before .args in
+    λ es ls l k. answer-refused (a .head .rows) (drop (a .head .region) (a .body .now)) (a .question) ls (nullsOf (a .head) ++ es) (a .field .now) (c .before .before .before .before .before .before .before .before .before .place-all .ensures es ls l k) (c .before .before .before .before .before .placed .given .1) (c .before .before .clear .ensures)
+
+enum-told : tie.Need-enum-told
+enum-told c = search needs
+
+count-requires : tie.Need-count-requires
+count-requires c κs = search needs
+
+same-length-2 : tie.Need-same-length-2
+same-length-2 c = search needs
+
+returns-2 : tie.Need-returns-2
+returns-2 c =
+    let a = c .before .before .before .before .before .before .before .before .before .before .before .before .args in
+    λ es ls l k. answer-skip (a .head .rows) (drop (a .head .region) (a .body .now)) (a .question) ls (nullsOf (a .head) ++ es) (a .field .now) (c .before .before .before .before .before .before .before .place-all .ensures es ls l k) (c .before .before .before .enum-told .given .1) (c .before .count .ensures) (c .if1 .taken)
+
+same-length-3 : tie.Need-same-length-3
+same-length-3 c = search needs
+
+returns-3 : tie.Need-returns-3
+returns-3 c =
+    let a = c .before .before .before .before .before .before .before .before .before .before .before .before .args in
+    λ es ls l k. answer-keep (a .head .rows) (drop (a .head .region) (a .body .now)) (a .question) ls (nullsOf (a .head) ++ es) (a .field .now) (c .before .before .before .before .before .before .before .place-all .ensures es ls l k) (c .before .before .before .enum-told .given .1) (c .before .count .ensures) (c .if1 .left)
+
+pub answer-spec : {M : Type 1} → statement M
+answer-spec =
+    tie.close
+    (tie.spec
+    place-all-requires
+    enum-known-placed
+    clear-requires
+    same-length
+    returns
+    enum-told
+    count-requires
+    same-length-2
+    returns-2
+    same-length-3
+    returns-3)

@@ -1,0 +1,33 @@
+-- `place_row` meets its contract: RANGE by the first test, TWICE by what `row_field::mark` says of the row.
+use Rattle.bitmap_index.proofs.Placing.{row-range, row-twice, row-done}
+use borrow.Author.Needs.{needs}
+use Rattle.bitmap_index.proofs.place_row.Statement.{statement}
+use Rattle.bitmap_index.proofs.place_row.Tie as tie
+
+returns : tie.Need-returns
+returns c =
+    let a = c .before .before .args in
+    row-range (a .row .0) (a .rows) (a .field .now) (c .if1 .taken)
+
+mark-requires : tie.Need-mark-requires
+mark-requires c κs = search needs
+
+same-length : tie.Need-same-length
+same-length c = search needs
+
+returns-2 : tie.Need-returns-2
+returns-2 c =
+    let a = c .before .before .before .before .before .before .before .args in
+    row-twice (a .row .0) (a .rows) (a .field .now) (c .before .before .before .before .before .if1 .left) (c .before .before .before .mark .ensures .0) (c .before .before .before .mark .ensures .1) (c .if2 .taken)
+
+same-length-2 : tie.Need-same-length-2
+same-length-2 c = search needs
+
+returns-3 : tie.Need-returns-3
+returns-3 c =
+    let a = c .before .before .before .before .before .before .before .args in
+    row-done (a .row .0) (a .rows) (a .field .now) (c .before .before .before .before .before .if1 .left) (c .before .before .before .mark .ensures .0) (c .before .before .before .mark .ensures .1) (c .if2 .left)
+
+pub place-row-spec : {M : Type 1} → statement M
+place-row-spec =
+    tie.close (tie.spec returns mark-requires same-length returns-2 same-length-2 returns-3)

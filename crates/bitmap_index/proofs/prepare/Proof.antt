@@ -1,0 +1,57 @@
+-- `prepare` meets its contract by the stages in their order; offsets of a dictionary that was read are 32-bit patterns.
+use borrow.Author.Tests.{not-true, not-false}
+use Rattle.bitmap_index.proofs.Auditing.{too-long, no-type, no-dictionary, no-room, ready}
+use borrow.Author.Needs.{needs}
+use Rattle.bitmap_index.proofs.prepare.Statement.{statement}
+use Rattle.bitmap_index.proofs.prepare.Tie as tie
+
+returns : tie.Need-returns
+returns c =
+    let a = c .before .before .before .args in
+    too-long (a .t) (a .body .now) (a .field .now) (c .if1 .taken)
+
+returns-2 : tie.Need-returns-2
+returns-2 c =
+    let a = c .before .before .before .before .args in
+    no-type (a .t) (a .body .now) (a .field .now) (c .before .if1 .left) (c .if2 .taken)
+
+read-requires : tie.Need-read-requires
+read-requires c κs = search needs
+
+enum-known-checked : tie.Need-enum-known-checked
+enum-known-checked c = search needs
+
+enum-known-checked-2 : tie.Need-enum-known-checked-2
+enum-known-checked-2 c = search needs
+
+has-room-requires : tie.Need-has-room-requires
+has-room-requires c κs = search needs
+
+returns-3 : tie.Need-returns-3
+returns-3 c =
+    let a = c .before .before .before .before .before .before .before .before .before .before .args in
+    no-room (a .t) (a .body .now) (a .field .now) (c .before .before .before .before .before .before .before .if1 .left) (c .before .before .before .before .before .before .if2 .left) (c .before .before .before .checked2 .given .1) (c .before .before .before .before .before .read .ensures) (c .before .has-room .ensures) (not-true _ (c .if3 .taken))
+
+returns-4 : tie.Need-returns-4
+returns-4 c =
+    let a = c .before .before .before .before .before .before .before .before .args in
+    no-dictionary (a .t) (a .body .now) (a .field .now) (c .before .before .before .before .before .if1 .left) (c .before .before .before .before .if2 .left) (c .before .checked .given .1) (c .before .before .before .read .ensures)
+
+returns-5 : tie.Need-returns-5
+returns-5 c =
+    let a = c .before .before .before .before .before .before .before .before .before .before .args in
+    ready (a .t) (a .body .now) (a .field .now) (c .before .before .before .before .before .before .before .if1 .left) (c .before .before .before .before .before .before .if2 .left) (c .before .before .before .checked2 .given .1) (c .before .before .before .before .before .read .ensures) (c .before .has-room .ensures) (not-false _ (c .if3 .left)) (λ i. c .before .before .before .before .before .before .before .before .before .shared-slice-known .given i .fits)
+
+pub prepare-spec : {M : Type 1} → statement M
+prepare-spec =
+    tie.close
+    (tie.spec
+    returns
+    returns-2
+    read-requires
+    enum-known-checked
+    enum-known-checked-2
+    has-room-requires
+    returns-3
+    returns-4
+    returns-5)

@@ -1,0 +1,69 @@
+-- `test_question` meets its contract by the tests in their order.
+use borrow.Author.Tests.{not-true, not-false}
+use Rattle.bitmap_index.proofs.Asking.{long-body, long-literals, unknown-type, unknown-question, misfit, wrong-number, fits-question}
+use borrow.Author.Needs.{needs}
+use Rattle.bitmap_index.proofs.test_question.Statement.{statement}
+use Rattle.bitmap_index.proofs.test_question.Tie as tie
+
+returns : tie.Need-returns
+returns c =
+    let a = c .before .before .before .args in
+    long-body (a .t) (a .question) (a .literals .now) (a .body .now) (c .if1 .taken)
+
+returns-2 : tie.Need-returns-2
+returns-2 c =
+    let a = c .before .before .before .before .args in
+    long-literals (a .t) (a .question) (a .literals .now) (a .body .now) (c .before .if1 .left) (c .if2 .taken)
+
+returns-3 : tie.Need-returns-3
+returns-3 c =
+    let a = c .before .before .before .before .before .args in
+    unknown-type (a .t) (a .question) (a .literals .now) (a .body .now) (c .before .before .if1 .left) (c .before .if2 .left) (c .if3 .taken)
+
+returns-4 : tie.Need-returns-4
+returns-4 c =
+    let a = c .before .before .before .before .before .before .args in
+    unknown-question (a .t) (a .question) (a .literals .now) (a .body .now) (c .before .before .before .if1 .left) (c .before .before .if2 .left) (c .before .if3 .left) (c .if4 .taken)
+
+literals-requires : tie.Need-literals-requires
+literals-requires c κs = search needs
+
+enum-known-counted : tie.Need-enum-known-counted
+enum-known-counted c = search needs
+
+enum-known-counted-2 : tie.Need-enum-known-counted-2
+enum-known-counted-2 c = search needs
+
+takes-requires : tie.Need-takes-requires
+takes-requires c κs = search needs
+
+returns-5 : tie.Need-returns-5
+returns-5 c =
+    let a = c .before .before .before .before .before .before .before .before .before .before .before .before .args in
+    wrong-number (a .t) (a .question) (a .literals .now) (a .body .now) (c .before .before .before .before .before .before .before .before .before .if1 .left) (c .before .before .before .before .before .before .before .before .if2 .left) (c .before .before .before .before .before .before .before .if3 .left) (c .before .before .before .before .before .before .if4 .left) (c .before .before .before .before .before .literals .ensures) (c .before .before .before .counted2 .given .1) (c .before .takes .ensures) (not-true _ (c .if5 .taken))
+
+returns-6 : tie.Need-returns-6
+returns-6 c =
+    let a = c .before .before .before .before .before .before .before .before .before .before .args in
+    misfit (a .t) (a .question) (a .literals .now) (a .body .now) (c .before .before .before .before .before .before .before .if1 .left) (c .before .before .before .before .before .before .if2 .left) (c .before .before .before .before .before .if3 .left) (c .before .before .before .before .if4 .left) (c .before .before .before .literals .ensures) (c .before .counted .given .1)
+
+returns-7 : tie.Need-returns-7
+returns-7 c =
+    let a = c .before .before .before .before .before .before .before .before .before .before .before .before .args in
+    fits-question (a .t) (a .question) (a .literals .now) (a .body .now) (c .before .before .before .before .before .before .before .before .before .if1 .left) (c .before .before .before .before .before .before .before .before .if2 .left) (c .before .before .before .before .before .before .before .if3 .left) (c .before .before .before .before .before .before .if4 .left) (c .before .before .before .before .before .literals .ensures) (c .before .before .before .counted2 .given .1) (c .before .takes .ensures) (not-false _ (c .if5 .left))
+
+pub test-question-spec : {M : Type 1} → statement M
+test-question-spec =
+    tie.close
+    (tie.spec
+    returns
+    returns-2
+    returns-3
+    returns-4
+    literals-requires
+    enum-known-counted
+    enum-known-counted-2
+    takes-requires
+    returns-5
+    returns-6
+    returns-7)

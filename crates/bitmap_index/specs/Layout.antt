@@ -1,0 +1,49 @@
+-- What a writer may lay out for a column (01, "Bitmap body"). His choices: the version, the order of entries where it is free, the cuts into blocks, each
+-- bitmap's form and place, its extent or -1, has-null with no null rows, values that no row has.
+use mathlib.Core.Path.{_≡_}
+use mathlib.Core.Logic.{_⊎_}
+use Prim.Native.Nat.{ℕ, _+_, _-_, _≤_, _<_}
+use mathlib.Core.Bool.{true, cond}
+use mathlib.Core.List.{List, [], _∷_, _++_}
+use lib.ListN.{length}
+use Rattle.roaring.specs.Layout.{Bitmap}
+use Rattle.stored_value.specs.Meaning.{Cell, null, sameCell}
+use Rattle.dictionary.specs.Layout.{Entry, minusOne, NullOnly, someHas, Distinct, NoExtents, body1, Rises, NoneEmpty, joined, body2}
+use Rattle.bitmap_index.specs.Meaning.{Column}
+
+-- the rows, from r on, whose cell is c
+abbrev pub rowsWith : Cell → ℕ → List Cell → List ℕ
+rowsWith c r [] = []
+rowsWith c r (d ∷ cells) = cond (sameCell c d) (r ∷ rowsWith c (r + 1) cells) (rowsWith c (r + 1) cells)
+
+-- ---- where an entry's rows are: -1 less the single row, whatever its extent; or where a bitmap begins in the region of bitmaps, anything before and
+-- behind it, its extent -1 or exactly its length
+
+pub data Placed (region rows : List ℕ) (e : Entry) : Type 0 where
+  single : (r : ℕ) → rows ≡ r ∷ [] → r < 2147483648 → e .offset ≡ minusOne - r → e .extent < 4294967296 → Placed region rows e
+  bitmap : (before bytes behind : List ℕ) → region ≡ before ++ (bytes ++ behind) → Bitmap rows bytes → e .offset ≡ length before
+      → (e .extent ≡ minusOne) ⊎ (e .extent ≡ length bytes) → Placed region rows e
+
+-- each entry has exactly the rows of its cell
+abbrev pub AllPlaced : List ℕ → List Cell → List Entry → Type 0
+AllPlaced region cells [] = Unit {0}
+AllPlaced region cells (e ∷ es) = Placed region (rowsWith (e .cell) 0 cells) e × AllPlaced region cells es
+
+-- an entry for each of the column's cells (has-null 0: no null rows)
+abbrev pub Covers : List Entry → List Cell → Type 0
+Covers es [] = Unit {0}
+Covers es (c ∷ cells) = (someHas c es ≡ true) × Covers es cells
+
+-- ---- the bodies of a column of type t, within 01's limits
+
+-- at most one entry for null; each entry has exactly the rows of its cell; an entry for each of the column's cells
+abbrev pub Kept : List Cell → List ℕ → List Entry → List Entry → Type 0
+Kept cells region nulls es = NullOnly nulls × AllPlaced region cells (nulls ++ es) × Covers (nulls ++ es) cells
+
+pub data Body (t : ℕ) (cells : List Cell) : List ℕ → Type 0 where
+  version1 : (nulls es : List Entry) (region : List ℕ) → Column t cells → Kept cells region nulls es → NoExtents (nulls ++ es) → Distinct t es
+      → length cells ≤ 2147483647 → length es ≤ 4096 → length (body1 (length cells) nulls es region) ≤ 2147483647
+      → Body t cells (body1 (length cells) nulls es region)
+  version2 : (nulls : List Entry) (bs : List (List Entry)) (region : List ℕ) → Column t cells → Kept cells region nulls (joined bs) → NoneEmpty bs → Rises t null (joined bs)
+      → length cells ≤ 2147483647 → length (joined bs) ≤ 65536 → length bs ≤ 65536 → length (body2 (length cells) nulls bs region) ≤ 2147483647
+      → Body t cells (body2 (length cells) nulls bs region)

@@ -1,0 +1,110 @@
+-- What Audit and Ask answer for any bytes (01, "Bitmap body" and "Questions"): their stages in 01's order, each begun only where the one before passed.
+use Prim.Native.Nat.{ℕ}
+use mathlib.Core.Bool.{Bool, true, false, not, _&&_, cond}
+use mathlib.Core.List.{List, [], _∷_}
+use lib.Dec.{eqb, ltb, leb}
+use lib.IntN.{ℤ, pos, negsuc}
+use lib.ListN.{length, drop}
+use Rattle.numbers.specs.Meaning.{signed32}
+use Rattle.refusal.specs.Meaning.{limit}
+use Rattle.refusal.specs.declared.Refusal.the-variants.{Range, Twice, Missing, Room, Literal, Limit}
+use Rattle.row_field.specs.Meaning.{size, bit, mark, count, cleared}
+use Rattle.roaring.specs.declared.Extent.{Extent}
+use Rattle.roaring.specs.declared.Extent.the-variants.{AsLong, Exactly}
+use Rattle.roaring.specs.declared.Marked.{Marked}
+use Rattle.roaring.specs.declared.Marked.the-variants.{Refused, Done}
+use Rattle.roaring.specs.Reading.{Read, read, marking, fieldAfter}
+use Rattle.stored_value.specs.Reading.{Out, refuse, ok, check, andThen, literals}
+use Rattle.dictionary.specs.Layout.{Entry, minusOne}
+use Rattle.dictionary.specs.Reading.{Dictionary, dictionary}
+use Rattle.bitmap_index.specs.Meaning.{chosen, takes}
+
+-- ---- the bitmaps
+
+unfoldable pub extentOf : ℕ → Extent
+extentOf extent = cond (eqb extent minusOne) AsLong (Exactly extent)
+
+-- what marking answers, as the audit takes it: a row that was set already is TWICE
+unfoldable pub once : Marked → List ℕ → Out (List ℕ)
+once (Refused r) field = refuse r
+once (Done long true) field = refuse Twice
+once (Done long false) field = ok field
+
+-- a bitmap's rows placed in a field of n rows
+unfoldable pub placeBitmap : Extent → ℕ → Read → List ℕ → Out (List ℕ)
+placeBitmap extent n bitmap field = once (marking extent n field bitmap) (fieldAfter extent n field bitmap)
+
+-- an entry's rows: the single row of a negative offset, or the bitmap at that place of the region
+unfoldable pub placeAt : ℤ → ℕ → ℕ → List ℕ → List ℕ → Out (List ℕ)
+placeAt (negsuc r) extent n region field = check (ltb r n) Range (check (not (bit field r)) Twice (ok (mark field r)))
+placeAt (pos o) extent n region field = placeBitmap (extentOf extent) n (read (drop o region)) field
+
+unfoldable pub place : ℕ → List ℕ → List ℕ → Entry → Out (List ℕ)
+place n region field e = placeAt (signed32 (e .offset)) (e .extent) n region field
+
+-- the rows of all entries, in their order
+unfoldable pub placeAll : ℕ → List ℕ → List Entry → List ℕ → Out (List ℕ)
+placeAll n region [] field = ok field
+placeAll n region (e ∷ es) field = andThen (place n region field e) (placeAll n region es)
+
+-- ---- Audit: the limit, the type, the dictionary, ROOM; then every bitmap in a zero field, then MISSING
+
+unfoldable pub roomFor : List ℕ → Dictionary → Out Dictionary
+roomFor field d = check (leb (size (d .rows)) (length field)) Room (ok d)
+
+-- all that comes before a byte of the field is written
+unfoldable pub prepared : ℕ → List ℕ → List ℕ → Out Dictionary
+prepared t body field =
+    check (leb (length body) limit) Limit (check (ltb t 12) Literal (andThen (dictionary t body) (roomFor field)))
+
+unfoldable pub audited : List ℕ → Dictionary → Out ℕ
+audited field d =
+    andThen (placeAll (d .rows) (d .region) (d .entries) (cleared (d .rows) field)) (λ full.
+    check (eqb (count full (d .rows)) (d .rows)) Missing (ok (d .rows)))
+
+unfoldable pub audit : ℕ → List ℕ → List ℕ → Out ℕ
+audit t body field = andThen (prepared t body field) (audited field)
+
+-- the buffer then: as it was up to ROOM, and with the field's bytes zero from there on
+unfoldable pub zeroedFrom : Out Dictionary → List ℕ → List ℕ
+zeroedFrom (refuse r) field = field
+zeroedFrom (ok d) field = cleared (d .rows) field
+
+unfoldable pub auditBuffer : ℕ → List ℕ → List ℕ → List ℕ
+auditBuffer t body field = zeroedFrom (prepared t body field) field
+
+-- ---- Ask: the literals, the audit, then the rows of each chosen entry in a zero field, and how many they are
+
+unfoldable pub chosenOf : ℕ → List (List ℕ) → List Entry → List Entry
+chosenOf q ls [] = []
+chosenOf q ls (e ∷ es) = cond (chosen q ls (e .cell)) (e ∷ chosenOf q ls es) (chosenOf q ls es)
+
+-- what an accepted question leaves in the buffer, and how many rows it chose
+pub record Answer : Type 0 where
+  pub buffer : List ℕ
+  pub matched : ℕ
+
+unfoldable pub answered : ℕ → List (List ℕ) → List ℕ → Dictionary → Out Answer
+answered q ls field d =
+    andThen (placeAll (d .rows) (d .region) (chosenOf q ls (d .entries)) (cleared (d .rows) field)) (λ chosen.
+    ok (record { buffer = chosen; matched = count chosen (d .rows) }))
+
+-- the limits, the type and the question, then the literals and their number
+unfoldable pub asked : ℕ → ℕ → List ℕ → List ℕ → Out (List (List ℕ))
+asked t q literal body =
+    check (leb (length body) limit && leb (length literal) limit) Limit (check (ltb t 12 && ltb q 6) Literal
+    (andThen (literals t 1024 [] literal) (λ ls. check (takes q (length ls)) Literal (ok ls))))
+
+unfoldable pub askPrepared : ℕ → ℕ → List ℕ → List ℕ → List ℕ → Out Dictionary
+askPrepared t q literal body field = andThen (asked t q literal body) (λ ls. prepared t body field)
+
+unfoldable pub ask : ℕ → ℕ → List ℕ → List ℕ → List ℕ → Out Answer
+ask t q literal body field =
+    andThen (asked t q literal body) (λ ls. andThen (prepared t body field) (λ d. andThen (audited field d) (λ rows. answered q ls field d)))
+
+unfoldable pub bufferOf : Out Answer → List ℕ → List ℕ
+bufferOf (refuse r) otherwise = otherwise
+bufferOf (ok a) otherwise = a .buffer
+
+unfoldable pub askBuffer : ℕ → ℕ → List ℕ → List ℕ → List ℕ → List ℕ
+askBuffer t q literal body field = bufferOf (ask t q literal body field) (zeroedFrom (askPrepared t q literal body field) field)

@@ -1,0 +1,418 @@
+// The bitmap body of one column (document 01, "Bitmap body" and "Questions"): Audit and Ask.
+ghost use mathlib.Core.Path.{_≡_};
+ghost use mathlib.Core.List.{List, [], _∷_, _++_};
+ghost use Prim.Native.Nat.{ℕ, _<_, _≤_};
+ghost use lib.IntN.{pos, negsuc};
+ghost use lib.ListN.{length, drop};
+ghost use Rattle.numbers.specs.Meaning.{signed32};
+ghost use Rattle.row_field.specs.Meaning.{cleared};
+ghost use Rattle.stored_value.specs.Meaning.{null, value};
+ghost use Rattle.dictionary.specs.Layout.{Entry, Patterns};
+ghost use Rattle.dictionary.specs.Code.{nullsOf, firstLeft};
+ghost use Rattle.bitmap_index.specs.Meaning as meaning;
+ghost use Rattle.bitmap_index.specs.Reading.{extentOf, placeAt, audited, auditBuffer, chosenOf, asked, askBuffer};
+ghost use Rattle.bitmap_index.specs.Reading as reading;
+ghost use Rattle.bitmap_index.specs.Code as code;
+ghost use Rattle.bitmap_index.specs.Code.{auditedBy, answeredBy, Placing, placeOf, picked, ReadAs, Laid, Sound, entryAt, dictionaryOf, filled, answerOf, Readied, Asks, Answers, answeredAfter};
+use dictionary::Checked;
+use dictionary::EntryAt;
+use dictionary::Head;
+use refusal::Refusal;
+use roaring::Extent;
+use roaring::Marked;
+use row_field::Row;
+use stored_value::Counted;
+
+// The longest input buffer, and how many types and questions there are (document 01, "Limits", "The table of widths", "Questions").
+const MOST_BYTES: usize = 2_147_483_647;
+
+const TYPES: u32 = 12;
+
+const QUESTIONS: u32 = 6;
+
+// An extent of -1.
+const AS_LONG: u64 = 4_294_967_295;
+
+// What Audit answers: a refusal, or the row count.
+pub enum Audited {
+    Refused(Refusal),
+    Rows(u64),
+}
+
+// What Ask answers: a refusal; or that no row is chosen, or how many are.
+pub enum Answered {
+    Refused(Refusal),
+    Skip,
+    Keep(u64),
+}
+
+// What a step comes to that has nothing to hand on.
+enum Outcome {
+    Refused(Refusal),
+    Done,
+}
+
+// Places a single row in a field for `rows` rows: RANGE, TWICE.
+fn place_row(field: &mut [u8], row: Row, rows: u64) -> Outcome
+    ensures { λ r. ⌜ Placing rows r (placeAt (negsuc (row .0)) 0 rows [] (now (field .entry))) (now (field .entry)) (now (field .exit)) ⌝ }
+{
+    let number = row.0;
+    if rows <= number {
+        return Outcome::Refused(Refusal::Range);
+    }
+    if row_field::mark(field, row) {
+        return Outcome::Refused(Refusal::Twice);
+    }
+    Outcome::Done
+}
+
+// How long a bitmap must be: -1 says as long as it is.
+fn extent_of(extent: u64) -> Extent
+    ensures { λ r. ⌜ r ≡ extentOf extent ⌝ }
+{
+    if extent == AS_LONG {
+        return Extent::AsLong;
+    }
+    Extent::Exactly(extent as usize)
+}
+
+// Places the rows of the bitmap at `offset` of the region of bitmaps: BITMAP, RANGE, TWICE.
+fn place_bitmap(field: &mut [u8], region: &[u8], offset: usize, extent: u64, rows: u64) -> Outcome
+    ensures { λ r. ⌜ Placing rows r (placeAt (pos offset) extent rows (now (region .entry)) (now (field .entry))) (now (field .entry)) (now (field .exit)) ⌝ }
+{
+    if region.len() < offset {
+        return Outcome::Refused(Refusal::Bitmap);
+    }
+    let marked = roaring::mark(field, &region[offset..], extent_of(extent), rows);
+    match marked {
+        Marked::Refused(r) => Outcome::Refused(r),
+        Marked::Done { length: _, twice } => {
+            if twice {
+                return Outcome::Refused(Refusal::Twice);
+            }
+            Outcome::Done
+        }
+    }
+}
+
+// Places an entry's rows. A negative offset stands for the single row -1 - offset, and its extent isn't looked at.
+fn place(field: &mut [u8], region: &[u8], offset: u32, extent: u64, rows: u64) -> Outcome
+    ensures { λ r. ⌜ Placing rows r (placeAt (signed32 offset) extent rows (now (region .entry)) (now (field .entry))) (now (field .entry)) (now (field .exit)) ⌝ }
+{
+    let offset = numbers::to_signed(offset);
+    if offset < 0 {
+        return place_row(field, Row((-1 - offset) as u64), rows);
+    }
+    place_bitmap(field, region, offset as usize, extent, rows)
+}
+
+// Whether the question chooses the value v: EQUAL 0, NOT EQUAL 1, IN 2, NOT IN 3, IS NULL 4, IS NOT NULL 5.
+fn chosen(question: u32, v: &[u8], literals: &[u8], t: u32) -> bool
+    ensures { λ r. ⌜ ((ls : List (List ℕ)) → ReadAs t (now (literals .entry)) ls → r ≡ meaning.chosen question ls (value (now (v .entry)))) ⌝ }
+{
+    match question {
+        0 | 2 => stored_value::listed(v, literals, t),
+        1 | 3 => !stored_value::listed(v, literals, t),
+        _ => question == 5,
+    }
+}
+
+// Whether the question chooses null: NOT EQUAL and NOT IN do, as does IS NULL.
+fn chosen_null(question: u32) -> bool
+    ensures { λ r. ⌜ ((ls : List (List ℕ)) → r ≡ meaning.chosen question ls null) ⌝ }
+{
+    match question {
+        1 | 3 => true,
+        4 => true,
+        _ => false,
+    }
+}
+
+// Whether an entry of the value v is placed.
+fn picks(all: bool, question: u32, v: &[u8], literals: &[u8], t: u32) -> bool
+    ensures { λ r. ⌜ ((ls : List (List ℕ)) → ReadAs t (now (literals .entry)) ls → r ≡ code.picks all question ls (value (now (v .entry)))) ⌝ }
+{
+    if all {
+        return true;
+    }
+    chosen(question, v, literals, t)
+}
+
+// Whether null's entry is placed.
+fn picks_null(all: bool, question: u32) -> bool
+    ensures { λ r. ⌜ ((ls : List (List ℕ)) → r ≡ code.picks all question ls null) ⌝ }
+{
+    if all {
+        return true;
+    }
+    chosen_null(question)
+}
+
+// The entries left in the open block before the first entry: in version 2 a block's number is due.
+fn first_left(head: Head) -> u64
+    ensures { λ r. ⌜ r ≡ firstLeft head ⌝ }
+{
+    if head.two {
+        return 0;
+    }
+    head.count
+}
+
+// Places the rows of one entry, if they are to be placed.
+fn place_entry(
+    field: &mut [u8],
+    body: &[u8],
+    head: Head,
+    entry: EntryAt,
+    t: u32,
+    all: bool,
+    question: u32,
+    literals: &[u8],
+) -> Outcome
+    requires { ⌜ (head .region ≤ length (now body)) × (entry .start ≤ entry .end) × (entry .end ≤ length (now body)) × (entry .offset < 4294967296) ⌝ }
+    ensures { λ r. ⌜ ((ls : List (List ℕ)) → ReadAs t (now (literals .entry)) ls → Placing (head .rows) r (placeOf head (now (body .entry)) (picked all question ls (entryAt (now (body .entry)) entry ∷ [])) (now (field .entry))) (now (field .entry)) (now (field .exit))) ⌝ }
+{
+    let start = entry.start;
+    let end = entry.end;
+    if !picks(all, question, &body[start..end], literals, t) {
+        return Outcome::Done;
+    }
+    let region = head.region;
+    place(
+        field,
+        &body[region..],
+        entry.offset as u32,
+        entry.extent,
+        head.rows,
+    )
+}
+
+// Places null's rows, if it has an entry and they are to be placed.
+fn place_null(field: &mut [u8], body: &[u8], head: Head, all: bool, question: u32) -> Outcome
+    requires { ⌜ (head .region ≤ length (now body)) × Patterns (nullsOf head) ⌝ }
+    ensures { λ r. ⌜ ((ls : List (List ℕ)) → Placing (head .rows) r (placeOf head (now (body .entry)) (picked all question ls (nullsOf head)) (now (field .entry))) (now (field .entry)) (now (field .exit))) ⌝ }
+{
+    if !head.has_null {
+        return Outcome::Done;
+    }
+    if !picks_null(all, question) {
+        return Outcome::Done;
+    }
+    let region = head.region;
+    place(
+        field,
+        &body[region..],
+        head.null_offset as u32,
+        head.null_extent,
+        head.rows,
+    )
+}
+
+// Places the rows of the values' entries, in their order.
+fn place_entries(
+    field: &mut [u8],
+    body: &[u8],
+    head: Head,
+    t: u32,
+    all: bool,
+    question: u32,
+    literals: &[u8],
+) -> Outcome
+    requires { ⌜ Sound t (now body) head ⌝ }
+    ensures { λ r. ⌜ ((es : List Entry) (ls : List (List ℕ)) → Laid t (now (body .entry)) head es → ReadAs t (now (literals .entry)) ls → Placing (head .rows) r (placeOf head (now (body .entry)) (picked all question ls es) (now (field .entry))) (now (field .entry)) (now (field .exit))) ⌝ }
+{
+    let mut at = head.entries;
+    let mut left = first_left(head);
+    let mut i: u64 = 0;
+    while i < head.count {
+        let entry = dictionary::next(body, t, head.two, at, left);
+        let placed = place_entry(field, body, head, entry, t, all, question, literals);
+        if let Outcome::Refused(r) = placed {
+            return Outcome::Refused(r);
+        }
+        at = entry.at;
+        left = entry.left;
+        i += 1;
+    }
+    Outcome::Done
+}
+
+// Places the rows of all entries, or of those that the question chooses: null's first, then the values' in their order.
+fn place_all(
+    field: &mut [u8],
+    body: &[u8],
+    head: Head,
+    t: u32,
+    all: bool,
+    question: u32,
+    literals: &[u8],
+) -> Outcome
+    requires { ⌜ Sound t (now body) head ⌝ }
+    ensures { λ r. ⌜ ((es : List Entry) (ls : List (List ℕ)) → Laid t (now (body .entry)) head es → ReadAs t (now (literals .entry)) ls → Placing (head .rows) r (placeOf head (now (body .entry)) (picked all question ls (nullsOf head ++ es)) (now (field .entry))) (now (field .entry)) (now (field .exit))) ⌝ }
+{
+    let placed = place_null(field, body, head, all, question);
+    match placed {
+        Outcome::Refused(r) => Outcome::Refused(r),
+        Outcome::Done => place_entries(field, body, head, t, all, question, literals),
+    }
+}
+
+// Places the rows of every entry in a field that is clear, and tests that no row is missing.
+fn fill(field: &mut [u8], body: &[u8], head: Head, t: u32) -> Audited
+    requires { ⌜ Sound t (now body) head ⌝ }
+    ensures { λ r. ⌜ ((es : List Entry) → Laid t (now (body .entry)) head es → (r ≡ auditedBy (filled (head .rows) (placeOf head (now (body .entry)) (nullsOf head ++ es) (now (field .entry))))) × (cleared (head .rows) (now (field .exit)) ≡ cleared (head .rows) (now (field .entry)))) ⌝ }
+{
+    let placed = place_all(field, body, head, t, true, 0, &body[0..0]);
+    if let Outcome::Refused(r) = placed {
+        return Audited::Refused(r);
+    }
+    if row_field::count(field, head.rows) != head.rows {
+        return Audited::Refused(Refusal::Missing);
+    }
+    Audited::Rows(head.rows)
+}
+
+// Audits the bitmaps of a dictionary in a field that has room, and leaves the field zero.
+fn audit_field(field: &mut [u8], body: &[u8], head: Head, t: u32) -> Audited
+    requires { ⌜ Sound t (now body) head ⌝ }
+    ensures { λ r. ⌜ ((es : List Entry) → Laid t (now (body .entry)) head es → (r ≡ auditedBy (audited (now (field .entry)) (dictionaryOf (now (body .entry)) head es))) × (now (field .exit) ≡ cleared (head .rows) (now (field .entry)))) ⌝ }
+{
+    let rows = head.rows;
+    row_field::clear(field, rows);
+    let answer = fill(field, body, head, t);
+    row_field::clear(field, rows);
+    answer
+}
+
+// The limit, the type, the dictionary, ROOM: all that comes before a byte of the field is written.
+fn prepare(body: &[u8], t: u32, field: &[u8]) -> Checked
+    ensures { λ r. ⌜ Readied t (now (body .entry)) (now (field .entry)) r ⌝ }
+{
+    if MOST_BYTES < body.len() {
+        return Checked::Refused(Refusal::Limit);
+    }
+    if TYPES <= t {
+        return Checked::Refused(Refusal::Literal);
+    }
+    let checked = dictionary::read(body, t);
+    match checked {
+        Checked::Refused(r) => Checked::Refused(r),
+        Checked::Found(head) => {
+            if !row_field::has_room(field, head.rows) {
+                return Checked::Refused(Refusal::Room);
+            }
+            Checked::Found(head)
+        }
+    }
+}
+
+// Audit (document 01): every rule of the body as a column of type t, in a field with room for its rows. The field is left zero.
+pub fn audit(body: &[u8], t: u32, field: &mut [u8]) -> Audited
+    ensures { λ r. ⌜ (r ≡ auditedBy (reading.audit t (now (body .entry)) (now (field .entry)))) × (now (field .exit) ≡ auditBuffer t (now (body .entry)) (now (field .entry))) ⌝ }
+{
+    let prepared = prepare(body, t, field);
+    match prepared {
+        Checked::Refused(r) => Audited::Refused(r),
+        Checked::Found(head) => audit_field(field, body, head, t),
+    }
+}
+
+// Whether a question takes so many literals.
+fn takes(question: u32, count: u64) -> bool
+    ensures { λ r. ⌜ r ≡ meaning.takes question count ⌝ }
+{
+    if question < 2 {
+        return count == 1;
+    }
+    if question < 4 {
+        return true;
+    }
+    count == 0
+}
+
+// The limits, the type and the question, then the literals and their number.
+fn test_question(body: &[u8], t: u32, question: u32, literals: &[u8]) -> Outcome
+    ensures { λ r. ⌜ Asks r t (now (literals .entry)) (asked t question (now (literals .entry)) (now (body .entry))) ⌝ }
+{
+    if MOST_BYTES < body.len() {
+        return Outcome::Refused(Refusal::Limit);
+    }
+    if MOST_BYTES < literals.len() {
+        return Outcome::Refused(Refusal::Limit);
+    }
+    if TYPES <= t {
+        return Outcome::Refused(Refusal::Literal);
+    }
+    if QUESTIONS <= question {
+        return Outcome::Refused(Refusal::Literal);
+    }
+    let counted = stored_value::literals(literals, t);
+    match counted {
+        Counted::Refused(r) => Outcome::Refused(r),
+        Counted::Count(n) => {
+            if !takes(question, n) {
+                return Outcome::Refused(Refusal::Literal);
+            }
+            Outcome::Done
+        }
+    }
+}
+
+// Places the rows of each chosen entry in a field that is clear, and counts them. After an audit none is refused.
+fn answer(
+    field: &mut [u8],
+    body: &[u8],
+    head: Head,
+    t: u32,
+    question: u32,
+    literals: &[u8],
+) -> Answered
+    requires { ⌜ Sound t (now body) head ⌝ }
+    ensures { λ r. ⌜ ((es : List Entry) (ls : List (List ℕ)) → Laid t (now (body .entry)) head es → ReadAs t (now (literals .entry)) ls → Answers r (answerOf (head .rows) (placeOf head (now (body .entry)) (chosenOf question ls (nullsOf head ++ es)) (now (field .entry)))) (cleared (head .rows) (now (field .entry))) (now (field .exit))) ⌝ }
+{
+    let placed = place_all(field, body, head, t, false, question, literals);
+    if let Outcome::Refused(r) = placed {
+        row_field::clear(field, head.rows);
+        return Answered::Refused(r);
+    }
+    let matched = row_field::count(field, head.rows);
+    if matched == 0 {
+        return Answered::Skip;
+    }
+    Answered::Keep(matched)
+}
+
+// Audits the bitmaps of a dictionary in a field that has room, then answers the question.
+fn ask_field(
+    field: &mut [u8],
+    body: &[u8],
+    head: Head,
+    t: u32,
+    question: u32,
+    literals: &[u8],
+) -> Answered
+    requires { ⌜ Sound t (now body) head ⌝ }
+    ensures { λ r. ⌜ ((es : List Entry) (ls : List (List ℕ)) → Laid t (now (body .entry)) head es → ReadAs t (now (literals .entry)) ls → Answers r (answeredAfter question ls (now (field .entry)) (dictionaryOf (now (body .entry)) head es)) (cleared (head .rows) (now (field .entry))) (now (field .exit))) ⌝ }
+{
+    let audit = audit_field(field, body, head, t);
+    match audit {
+        Audited::Refused(r) => Answered::Refused(r),
+        Audited::Rows(_) => answer(field, body, head, t, question, literals),
+    }
+}
+
+// Ask (document 01): tests the literals, audits the whole body, then says skip where no row is chosen, and else keep and how many are. The rows are then
+// set in the field, and no others.
+pub fn ask(body: &[u8], t: u32, question: u32, literals: &[u8], field: &mut [u8]) -> Answered
+    ensures { λ r. ⌜ (r ≡ answeredBy (reading.ask t question (now (literals .entry)) (now (body .entry)) (now (field .entry)))) × (now (field .exit) ≡ askBuffer t question (now (literals .entry)) (now (body .entry)) (now (field .entry))) ⌝ }
+{
+    let tested = test_question(body, t, question, literals);
+    if let Outcome::Refused(r) = tested {
+        return Answered::Refused(r);
+    }
+    let prepared = prepare(body, t, field);
+    match prepared {
+        Checked::Refused(r) => Answered::Refused(r),
+        Checked::Found(head) => ask_field(field, body, head, t, question, literals),
+    }
+}

@@ -1,0 +1,3 @@
+pub mod Mark
+pub mod Open
+pub mod Walk

@@ -1,0 +1,74 @@
+-- A bin at its place of the file: its magic, its checksum, and what lies behind the magic; and the stages before it. Assumes nothing.
+use Prim.Native.Nat.{ℕ, zero, suc, _+_, _-_, _<_, _≤_}
+use mathlib.Core.Path.{_≡_, refl, sym, _∙_}
+use mathlib.Core.Logic.{_≢_}
+use mathlib.Core.List.{List, [], _∷_}
+use native.Mathlib.Omega.{arith}
+use lib.ListN.{length, take, drop, getD}
+use lib.Seq.{getD-take, drop-drop, take-nil}
+use borrow.Author.Tests.{le-leb, lt-leb, eq-eqb, ne-eqb}
+use Rattle.numbers.specs.Meaning.{beAt, big}
+use Rattle.numbers.specs.Laws.{numberAt-drop}
+use Rattle.refusal.specs.declared.Refusal.{Refusal}
+use Rattle.refusal.specs.declared.Refusal.the-variants.{Short, Magic, Version, Checksum}
+use Rattle.crc32.specs.Meaning.{checksum}
+use Rattle.deletion_file.specs.Reading.{refuse, ok, check, andThen, bins, asked, opened, bitmapOf}
+use Rattle.deletion_file.specs.Code.{part, binFrom, binAt}
+use Rattle.deletion_file.specs.declared.Place.{Place}
+use Rattle.deletion_file.specs.declared.Place.the-variants.{Refused, At}
+
+be-take : (w n : ℕ) (s : List ℕ) (at : ℕ) → at + w ≤ n → beAt w (take n s) at ≡ beAt w s at
+be-take zero n s at h = refl
+be-take (suc w) n s at h =
+    let l : at + w < n = omega arith in
+    rw (be-take w n s at (omega arith), getD-take n s (at + w) 0 l)
+
+drop-take : {A : Type 0} (m n : ℕ) (l : List A) → drop m (take n l) ≡ take (n - m) (drop m l)
+drop-take zero n l = rw (let e : n - 0 ≡ n = omega arith in e)
+drop-take (suc m) zero l = rw (let e : 0 - suc m ≡ 0 = omega arith in e)
+drop-take (suc m) (suc n) [] = sym (take-nil (suc n - suc m))
+drop-take (suc m) (suc n) (x ∷ l) = rw (let e : suc n - suc m ≡ n - m = omega arith in e) (drop-take m n l)
+
+module _ (s : List ℕ) (start end : ℕ) (h : start + 4 ≤ end) where
+  magic-at : beAt 4 (part start end s) 0 ≡ beAt 4 s start
+  magic-at = be-take 4 (end - start) (drop start s) 0 (omega arith) ∙ numberAt-drop big 4 s start
+
+  behind-magic : drop 4 (part start end s) ≡ part (start + 4) end s
+  behind-magic =
+      let e : end - start - 4 ≡ end - (start + 4) = omega arith in
+      drop-take 4 (end - start) (drop start s) ∙ rw (drop-drop 4 start s, e)
+
+  pub opened-magic : {m : ℕ} → m ≡ beAt 4 s start → m ≢ 1581511376 → opened (binFrom start end s) ≡ refuse Magic
+  unfolding opened check
+  opened-magic e n = rw (magic-at, ← e, ne-eqb _ _ n)
+
+  pub opened-checksum : {m sum stored : ℕ} → m ≡ beAt 4 s start → m ≡ 1581511376 → sum ≡ checksum (part start end s) → stored ≡ beAt 4 s end → sum ≢ stored
+      → opened (binFrom start end s) ≡ refuse Checksum
+  unfolding opened check
+  opened-checksum e m f g n = rw (magic-at, ← e, eq-eqb _ _ m, ← f, ← g, ne-eqb _ _ n)
+
+  pub opened-well : {m sum stored : ℕ} → m ≡ beAt 4 s start → m ≡ 1581511376 → sum ≡ checksum (part start end s) → stored ≡ beAt 4 s end → sum ≡ stored
+      → opened (binFrom start end s) ≡ ok (part (start + 4) end s)
+  unfolding opened check
+  opened-well e m f g n = rw (magic-at, ← e, eq-eqb _ _ m, ← f, ← g, eq-eqb _ _ n, behind-magic)
+
+-- ---- the stages before the bin
+
+module _ (b : ℕ) (file : List ℕ) where
+  pub bitmap-empty : length file ≡ 0 → bitmapOf b file ≡ refuse Short
+  unfolding bitmapOf check
+  bitmap-empty h = rw (lt-leb 1 (length file) (omega arith))
+
+  pub bitmap-version : {v : ℕ} → 1 ≤ length file → v ≡ getD file 0 0 → v ≢ 1 → bitmapOf b file ≡ refuse Version
+  unfolding bitmapOf check
+  bitmap-version h e n = rw (le-leb 1 (length file) h, ← e, ne-eqb _ _ n)
+
+  module _ {v : ℕ} (h : 1 ≤ length file) (e : v ≡ getD file 0 0) (one : v ≡ 1) {place : Place}
+      (w : binAt place file ≡ andThen (bins (length file) (drop 1 file)) (asked b)) where
+    pub bitmap-refused : {r : Refusal} → place ≡ Refused r → bitmapOf b file ≡ refuse r
+    unfolding bitmapOf check andThen binAt
+    bitmap-refused p = rw (le-leb 1 (length file) h, ← e, eq-eqb _ _ one, ← w, p)
+
+    pub bitmap-opened : {start end : ℕ} → place ≡ At start end → bitmapOf b file ≡ opened (binFrom start end file)
+    unfolding bitmapOf check andThen binAt
+    bitmap-opened p = rw (le-leb 1 (length file) h, ← e, eq-eqb _ _ one, ← w, p)

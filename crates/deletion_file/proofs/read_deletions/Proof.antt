@@ -1,0 +1,44 @@
+-- The reading's stages one by one: LIMIT and ROOM leave the field untouched, and what follows starts from the cleared field.
+use borrow.Author.Needs.{needs}
+use borrow.Author.Tests.{not-true, not-false}
+use Rattle.deletion_file.proofs.Mark.{long-file, many-rows, no-room, with-room}
+use Rattle.deletion_file.proofs.read_deletions.Statement.{statement}
+use Rattle.deletion_file.proofs.read_deletions.Tie as tie
+
+returns : tie.Need-returns
+returns c = long-file _ _ _ _ (c .if1 .taken)
+
+returns-2 : tie.Need-returns-2
+returns-2 c = many-rows _ _ _ _ (c .before .if1 .left) (c .if2 .taken)
+
+clear-if-room-requires : tie.Need-clear-if-room-requires
+clear-if-room-requires c κs = search needs
+
+same-length : tie.Need-same-length
+same-length c = search needs
+
+returns-3 : tie.Need-returns-3
+returns-3 c = no-room _ _ _ _ (c .before .before .before .before .before .before .if1 .left) (c .before .before .before .before .before .if2 .left) (c .before .before .before .clear-if-room .ensures) (not-true _ (c .if3 .taken))
+
+mark-bin-requires : tie.Need-mark-bin-requires
+mark-bin-requires c κs = search needs
+
+same-length-2 : tie.Need-same-length-2
+same-length-2 c = search needs
+
+returns-4 : tie.Need-returns-4
+returns-4 c =
+    with-room _ _ _ _ (c .before .before .before .before .before .before .before .before .before .before .if1 .left) (c .before .before .before .before .before .before .before .before .before .if2 .left) (c .before .before .before .before .before .before .before .clear-if-room .ensures) (not-false _ (c .before .before .before .before .if3 .left)) (c .before .before .mark-bin .ensures)
+
+pub read-deletions-spec : {M : Type 1} → statement M
+read-deletions-spec =
+    tie.close
+    (tie.spec
+    returns
+    returns-2
+    clear-if-room-requires
+    same-length
+    returns-3
+    mark-bin-requires
+    same-length-2
+    returns-4)

@@ -1,0 +1,151 @@
+-- The reading of a dictionary's first fields and of null's entry, by the code's steps. Assumes nothing.
+use Prim.Native.Nat.{ℕ, zero, suc, _+_, _-_, _≤_, _<_}
+use mathlib.Core.Path.{_≡_, refl, sym, _∙_}
+use mathlib.Core.Logic.{_⊎_, ⊎-elim}
+use mathlib.Core.Bool.{Bool, true, false, _||_, cond}
+use mathlib.Core.List.{List, []}
+use native.Mathlib.Nat.{zero-add, add-zero}
+use native.Mathlib.Omega.{arith}
+use lib.Dec.{eqb, ltb, leb}
+use lib.ListN.{length, getD, drop}
+use borrow.Author.Tests.{le-leb, lt-leb, lt-ltb, le-ltb, ne-eqb}
+use Rattle.numbers.specs.Meaning.{big, beAt, number}
+use Rattle.refusal.specs.declared.Refusal.{Refusal}
+use Rattle.refusal.specs.declared.Refusal.the-variants.{Short, Dict, Limit, Version}
+use Rattle.stored_value.specs.Reading.{Out, refuse, check}
+use Rattle.dictionary.specs.declared.Count.{Count}
+use Rattle.dictionary.specs.declared.Count.the-variants.{Is}
+use Rattle.dictionary.specs.declared.Fixed.the-variants.{Fields}
+use Rattle.dictionary.specs.Layout.{Entry, minusOne}
+use Rattle.dictionary.specs.Reading.{Dictionary, counted, nullOf, entriesOne, blocked, dictionary}
+use Rattle.dictionary.specs.Answers.{CountAt, nulls, entriesOf, FixedOf}
+use Rattle.dictionary.specs.Steps.{word-at, word-short}
+
+-- ---- a count
+
+module _ (most : ℕ) (s : List ℕ) (p : ℕ) where
+  pub count-short : length s - p < 4 → (f : ℕ → List ℕ → Out Dictionary) → counted most (drop p s) f ≡ refuse Short
+  unfolding counted
+  count-short h f = word-short 4 s p _ h
+
+  module _ (h : p + 4 ≤ length s) {n : ℕ} (e : n ≡ beAt 4 s p) where
+    tested : (f : ℕ → List ℕ → Out Dictionary) → counted most (drop p s) f ≡ check (ltb n 2147483648) Dict (check (leb n most) Limit (f n (drop (p + 4) s)))
+    unfolding counted
+    tested f = rw e (word-at 4 s p _ h)
+
+    pub count-negative : 2147483648 ≤ n → (f : ℕ → List ℕ → Out Dictionary) → counted most (drop p s) f ≡ refuse Dict
+    unfolding check
+    count-negative l f = tested f ∙ rw le-ltb
+
+    pub count-over : n < 2147483648 → most < n → (f : ℕ → List ℕ → Out Dictionary) → counted most (drop p s) f ≡ refuse Limit
+    unfolding check
+    count-over l m f = tested f ∙ rw (lt-ltb, lt-leb)
+
+    pub count-is : n < 2147483648 → n ≤ most → (f : ℕ → List ℕ → Out Dictionary) → counted most (drop p s) f ≡ f n (drop (p + 4) s)
+    unfolding check
+    count-is l m f = tested f ∙ rw (lt-ltb, le-leb)
+
+-- ---- null's entry
+
+module _ (s : List ℕ) (p : ℕ) (two : Bool) {has : Bool} where
+  pub null-none : has ≡ false → (o x : ℕ) (f : List Entry → List ℕ → Out Dictionary) → nullOf two has (drop p s) f ≡ f (nulls has o x) (drop p s)
+  unfolding nullOf
+  null-none n o x f = rw n
+
+  module _ (y : has ≡ true) where
+    pub null-short : length s - p < 4 → (f : List Entry → List ℕ → Out Dictionary) → nullOf two has (drop p s) f ≡ refuse Short
+    unfolding nullOf
+    null-short h f = rw y (go two)
+      where
+        go : (two : Bool) → nullOf two true (drop p s) f ≡ refuse Short
+        go false = word-short 4 s p _ h
+        go true = word-short 4 s p _ h
+
+    module _ (h : p + 4 ≤ length s) {n : ℕ} (e : n ≡ beAt 4 s p) where
+      pub null-one : two ≡ false → (f : List Entry → List ℕ → Out Dictionary) → nullOf two has (drop p s) f ≡ f (nulls has n minusOne) (drop (p + 4) s)
+      unfolding nullOf
+      null-one w f = rw (y, w, e) (word-at 4 s p _ h)
+
+      module _ (w : two ≡ true) where
+        pub null-cut : length s - (p + 4) < 4 → (f : List Entry → List ℕ → Out Dictionary) → nullOf two has (drop p s) f ≡ refuse Short
+        unfolding nullOf
+        null-cut l f = rw (y, w) (word-at 4 s p _ h ∙ word-short 4 s (p + 4) _ l)
+
+        pub null-two : p + 4 + 4 ≤ length s → {m : ℕ} → m ≡ beAt 4 s (p + 4) → (f : List Entry → List ℕ → Out Dictionary)
+            → nullOf two has (drop p s) f ≡ f (nulls has n m) (drop (p + 4 + 4) s)
+        unfolding nullOf
+        null-two l d f = rw (y, w, e, d) (word-at 4 s p _ h ∙ word-at 4 s (p + 4) _ l)
+
+-- ---- the first ten bytes
+
+byte-at : (s : List ℕ) (p : ℕ) → beAt 1 s p ≡ getD s p 0
+byte-at s p = simp (zero-add, add-zero)
+
+-- what follows a version v
+abbrev opened : ℕ → ℕ → List ℕ → Out Dictionary
+opened t v s =
+    counted 2147483647 s (λ rows s. counted (cond (eqb v 2) 65536 4096) s (λ n s.
+    number big 1 (refuse Short) s (λ h s. check (leb h 1) Dict (nullOf (eqb v 2) (eqb h 1) s (λ ns s. entriesOf (eqb v 2) t rows n ns s)))))
+
+known : (t v : ℕ) (s : List ℕ) → 1 ≤ v → v ≤ 2 → check (eqb v 1 || eqb v 2) Version
+    (counted 2147483647 s (λ rows s. counted (cond (eqb v 1) 4096 65536) s (λ n s.
+    number big 1 (refuse Short) s (λ hasNull s. check (leb hasNull 1) Dict
+    (nullOf (eqb v 2) (eqb hasNull 1) s (λ nulls s.
+    cond (eqb v 1) (entriesOne t rows n nulls [] s) (blocked t rows n nulls s))))))) ≡ opened t v s
+unfolding check
+known t zero s l m = absurd (omega arith)
+known t (suc zero) s l m = refl
+known t (suc (suc zero)) s l m = refl
+known t (suc (suc (suc v))) s l m = absurd (omega arith)
+
+most-le : (b : Bool) → cond b 65536 4096 ≤ 65536
+most-le true = omega arith
+most-le false = omega arith
+
+module _ (s : List ℕ) where
+  pub fixed-empty : length s < 1 → (t : ℕ) → dictionary t s ≡ refuse Short
+  unfolding dictionary
+  fixed-empty h t = word-short 1 s 0 _ (omega arith)
+
+  module _ (l : 1 ≤ length s) {v : ℕ} (e : v ≡ getD s 0 0) where
+    versioned : (t : ℕ) → dictionary t s ≡ check (eqb v 1 || eqb v 2) Version
+        (counted 2147483647 (drop 1 s) (λ rows s. counted (cond (eqb v 1) 4096 65536) s (λ n s.
+        number big 1 (refuse Short) s (λ hasNull s. check (leb hasNull 1) Dict
+        (nullOf (eqb v 2) (eqb hasNull 1) s (λ nulls s.
+        cond (eqb v 1) (entriesOne t rows n nulls [] s) (blocked t rows n nulls s)))))))
+    unfolding dictionary
+    versioned t = let b : beAt 1 s 0 ≡ v = byte-at s 0 ∙ sym e in word-at 1 s 0 _ l ∙ simp b
+
+    pub fixed-version : (v < 1) ⊎ (2 < v) → (t : ℕ) → dictionary t s ≡ refuse Version
+    unfolding check
+    fixed-version h t = versioned t ∙ simp (ne-eqb v 1 (λ q. ⊎-elim (λ w. omega arith) (λ w. omega arith) h), ne-eqb v 2 (λ q. ⊎-elim (λ w. omega arith) (λ w. omega arith) h))
+
+    module _ (lo : 1 ≤ v) (hi : v ≤ 2) where
+      pub fixed-opened : (t : ℕ) → dictionary t s ≡ opened t v (drop 1 s)
+      fixed-opened t = versioned t ∙ known t v (drop 1 s) lo hi
+
+      pub fixed-rows : {r : Refusal} → CountAt 2147483647 s 1 (Count.Refused r) → (t : ℕ) → dictionary t s ≡ refuse r
+      fixed-rows q t = fixed-opened t ∙ q _
+
+      module _ {rows m : ℕ} (R : CountAt 2147483647 s 1 (Is rows)) (M : m ≡ cond (eqb v 2) 65536 4096) where
+        pub fixed-values : {r : Refusal} → CountAt m s 5 (Count.Refused r) → (t : ℕ) → dictionary t s ≡ refuse r
+        fixed-values q t = fixed-opened t ∙ R .0 _ ∙ rw M at q _
+
+        module _ {n : ℕ} (N : CountAt m s 5 (Is n)) where
+          numbered : (t : ℕ) → dictionary t s ≡ number big 1 (refuse Short) (drop 9 s) (λ h s. check (leb h 1) Dict (nullOf (eqb v 2) (eqb h 1) s (λ ns s. entriesOf (eqb v 2) t rows n ns s)))
+          numbered t = fixed-opened t ∙ R .0 _ ∙ (rw M at N) .0 _
+
+          pub fixed-short : length s < 10 → (t : ℕ) → dictionary t s ≡ refuse Short
+          fixed-short h t = numbered t ∙ word-short 1 s 9 _ (omega arith)
+
+          module _ (r : 10 ≤ length s) {h : ℕ} (g : h ≡ getD s 9 0) where
+            flagged : (t : ℕ) → dictionary t s ≡ check (leb h 1) Dict (nullOf (eqb v 2) (eqb h 1) (drop 10 s) (λ ns s. entriesOf (eqb v 2) t rows n ns s))
+            flagged t = let b : beAt 1 s 9 ≡ h = byte-at s 9 ∙ sym g in numbered t ∙ word-at 1 s 9 _ r ∙ simp b
+
+            pub fixed-wrong : 1 < h → (t : ℕ) → dictionary t s ≡ refuse Dict
+            unfolding check
+            fixed-wrong w t = flagged t ∙ simp (lt-leb h 1 w)
+
+            pub fixed-fields : h ≤ 1 → FixedOf s (Fields (eqb v 2) (eqb h 1) rows n)
+            unfolding check
+            fixed-fields w = (λ t. flagged t ∙ simp (le-leb h 1 w), r, omega (arith, N, most-le (eqb v 2)))

@@ -1,0 +1,5 @@
+-- What only the proofs cite.
+pub mod Fields
+pub mod VersionTwo
+pub mod Cursor
+pub mod Whole

@@ -1,0 +1,424 @@
+-- The reading of version 2 by the code's steps: the directory, a block's entries, the blocks. Assumes nothing.
+use Prim.Native.Nat.{ℕ, zero, suc, _+_, _-_, _≤_, _<_}
+use mathlib.Core.Path.{_≡_, refl, _∙_}
+use mathlib.Core.Bool.{Bool, true, false, _&&_, cond}
+use mathlib.Core.List.{List, [], _∷_, _++_, append-assoc, append-nil}
+use native.Mathlib.Omega.{arith}
+use lib.Dec.{eqb, ltb, leb}
+use lib.ListN.{length, take, drop, length-append, length-drop}
+use lib.Seq.{drop-drop, length-take-le}
+use borrow.Author.Tests.{leb-true, leb-false, le-leb, lt-leb, lt-ltb, le-ltb, eq-eqb, ne-eqb}
+use Rattle.numbers.specs.Meaning.{big, beAt, number}
+use Rattle.numbers.specs.Laws.{numberAt-drop}
+use Rattle.refusal.specs.declared.Refusal.{Refusal}
+use Rattle.refusal.specs.declared.Refusal.the-variants.{Short, Dict}
+use Rattle.stored_value.specs.Meaning.{Cell, null, value, same, less}
+use Rattle.stored_value.specs.Reading.{Out, refuse, ok, check, valueSize}
+use Rattle.dictionary.specs.declared.Span.{Span}
+use Rattle.dictionary.specs.declared.Passed.{Passed}
+use Rattle.dictionary.specs.declared.Count.{Count}
+use Rattle.dictionary.specs.declared.Count.the-variants.{Is}
+use Rattle.dictionary.specs.declared.Directory.{Directory}
+use Rattle.dictionary.specs.declared.Block.{Block}
+use Rattle.dictionary.specs.declared.Blocks.{Blocks}
+use Rattle.dictionary.specs.declared.Walked.{Walked}
+use Rattle.dictionary.specs.declared.Value.{Value}
+use Rattle.dictionary.specs.Layout.{Entry}
+use Rattle.dictionary.specs.Reading.{Dictionary, Listing, listings, past, heads, entriesTwo, behind, blocksOf, blocked}
+use Rattle.dictionary.specs.Code.{entryOf, Stand}
+use Rattle.dictionary.specs.Answers.{ValueAt, CountAt, Listed, DirectoryAt, cellAt, PassedAt, BlockAt, BlocksAt, WalkedAt}
+use Rattle.dictionary.specs.Steps.{offset-behind, drop-past, value-ok, value-refused, word-at, word-short, stand-cons, stand-opening}
+
+-- ---- the directory: i of the n listings from `start` on are read, and `rest` is left
+
+abbrev listing : ℕ → List ℕ → Listing
+listing k s = record { first = take k s; at = beAt 4 s k }
+
+pub record Listings (t n : ℕ) (start : List ℕ) (i : ℕ) (rest : List ℕ) : Type 0 where
+  pub ds : List Listing
+  pub so : (f : List Listing → List ℕ → Out Dictionary) → listings t n [] start f ≡ listings t (n - i) ds rest f
+  pub count : length ds ≡ i
+  pub stand : (more : List Listing) → Listed t rest more → Listed t start (ds ++ more)
+
+pub listings-first : (t n : ℕ) (s : List ℕ) → Listings t n s 0 s
+listings-first t n s = let z : n - 0 ≡ n = omega arith in record { ds = []; so = λ f. rw z; count = refl; stand = λ more h. h }
+
+listings-turn : (t m : ℕ) (ds : List Listing) (s : List ℕ) (f : List Listing → List ℕ → Out Dictionary) (k : ℕ) → 0 < m → valueSize Short Dict t s ≡ ok k
+    → listings t m ds s f ≡ number big 4 (refuse Short) (drop k s) (λ at s'. listings t (m - 1) (ds ++ (record { first = take k s; at = at } ∷ [])) s' f)
+unfolding listings
+listings-turn t zero ds s f k z e = absurd (omega arith)
+listings-turn t (suc m) ds s f k z e = let c : suc m - 1 ≡ m = omega arith in simp c (value-ok t s _ k e)
+
+listings-broken : (t m : ℕ) (ds : List Listing) (s : List ℕ) (f : List Listing → List ℕ → Out Dictionary) (r : Refusal) → 0 < m → valueSize Short Dict t s ≡ refuse r
+    → listings t m ds s f ≡ refuse r
+unfolding listings
+listings-broken t zero ds s f r z e = absurd (omega arith)
+listings-broken t (suc m) ds s f r z e = value-refused t s _ r e
+
+module _ {t n : ℕ} {start : List ℕ} {i : ℕ} {rest : List ℕ} (st : Listings t n start i rest) where
+  pub listings-done : n ≤ i → (f : List Listing → List ℕ → Out Dictionary) → listings t n [] start f ≡ f (st .ds) rest
+  unfolding listings
+  listings-done e f = let z : n - i ≡ 0 = omega arith in st .so f ∙ simp z
+
+  pub listings-stand : Listed t start (st .ds)
+  unfolding Listed
+  listings-stand = rw append-nil at (st .stand [] tt)
+
+  module _ (lt : i < n) where
+    pub listings-refused : {r : Refusal} → valueSize Short Dict t rest ≡ refuse r → (f : List Listing → List ℕ → Out Dictionary) → listings t n [] start f ≡ refuse r
+    listings-refused {r} e f = st .so f ∙ listings-broken t (n - i) (st .ds) rest f r (omega arith) e
+
+    module _ {k : ℕ} (e : valueSize Short Dict t rest ≡ ok k) where
+      listings-unrolled : (f : List Listing → List ℕ → Out Dictionary) → listings t n [] start f
+          ≡ number big 4 (refuse Short) (drop k rest) (λ at s'. listings t (n - i - 1) (st .ds ++ (record { first = take k rest; at = at } ∷ [])) s' f)
+      listings-unrolled f = st .so f ∙ listings-turn t (n - i) (st .ds) rest f k (omega arith) e
+
+      pub listings-short : length rest - k < 4 → (f : List Listing → List ℕ → Out Dictionary) → listings t n [] start f ≡ refuse Short
+      listings-short h f = listings-unrolled f ∙ word-short 4 rest k _ h
+
+      pub listings-next : k + 4 ≤ length rest → Listings t n start (i + 1) (drop (k + 4) rest)
+      unfolding Listed
+      listings-next h =
+          let c : n - i - 1 ≡ n - (i + 1) = omega arith in
+          record {
+            ds = st .ds ++ (listing k rest ∷ []);
+            so = λ f. listings-unrolled f ∙ word-at 4 rest k _ h ∙ rw c;
+            count = simp length-append (omega (arith, st .count));
+            stand = λ more g. rw append-assoc (st .stand (listing k rest ∷ more) (k, e, h, refl, g));
+          }
+
+-- ---- the value before, and the directory's
+
+module _ (s : List ℕ) (c : Span) (w : List ℕ) where
+  cell-none : c .end ≤ c .start → cellAt s c ≡ null
+  cell-none h = rw (le-ltb (c .start) (c .end) h)
+
+  cell-some : c .start < c .end → cellAt s c ≡ value (take (c .end - c .start) (drop (c .start) s))
+  cell-some h = rw (lt-ltb (c .start) (c .end) h)
+
+  pub past-none : (t : ℕ) → c .end ≤ c .start → true ≡ past t (cellAt s c) w
+  unfolding past
+  past-none t h = rw (cell-none h)
+
+  pub past-some : (t : ℕ) → c .start < c .end → less t (take (c .end - c .start) (drop (c .start) s)) w ≡ past t (cellAt s c) w
+  unfolding past
+  past-some t h = rw (cell-some h)
+
+  pub heads-none : c .end ≤ c .start → true ≡ heads (cellAt s c) w
+  unfolding heads
+  heads-none h = rw (cell-none h)
+
+  pub heads-some : c .start < c .end → same (take (c .end - c .start) (drop (c .start) s)) w ≡ heads (cellAt s c) w
+  unfolding heads
+  heads-some h = rw (cell-some h)
+
+-- a part's length
+pub part-length : (s : List ℕ) (b e : ℕ) → b ≤ e → e ≤ length s → length (take (e - b) (drop b s)) ≡ e - b
+part-length s b e h l = length-take-le (e - b) (drop b s) (simp length-drop (omega arith))
+
+-- ---- a block's entries: i of the n from `start` on are read; behind them the value before is b, and h what the next must be
+
+pub record Passing (t n : ℕ) (before head : Cell) (start : List ℕ) (i : ℕ) (b h : Cell) (rest : List ℕ) : Type 0 where
+  pub new : List Entry
+  pub so : (es : List Entry) (f : Cell → List Entry → List ℕ → Out Dictionary) → entriesTwo t n before head es start f ≡ entriesTwo t (n - i) b h (es ++ new) rest f
+  pub count : length new ≡ i
+  pub stand : (more : List Entry) → Stand t true (n - i) rest more → Stand t true n start (new ++ more)
+
+pub passing-first : (t n : ℕ) (before head : Cell) (s : List ℕ) → Passing t n before head s 0 before head s
+passing-first t n before head s =
+    let z : n - 0 ≡ n = omega arith in
+    record { new = []; so = λ es f. rw (z, append-nil); count = refl; stand = λ more g. rw z at g }
+
+abbrev numbers : (t m k : ℕ) (es : List Entry) (s : List ℕ) (f : Cell → List Entry → List ℕ → Out Dictionary) → Out Dictionary
+numbers t m k es s f =
+    number big 4 (refuse Short) (drop k s) (λ offset s'. number big 4 (refuse Short) s' (λ extent s'.
+    entriesTwo t m (value (take k s)) null (es ++ (record { cell = value (take k s); offset = offset; extent = extent } ∷ [])) s' f))
+
+passing-turn : (t m : ℕ) (b h : Cell) (es : List Entry) (s : List ℕ) (f : Cell → List Entry → List ℕ → Out Dictionary) (k : ℕ) → 0 < m → valueSize Short Dict t s ≡ ok k
+    → entriesTwo t m b h es s f ≡ check (past t b (take k s) && heads h (take k s)) Dict (numbers t (m - 1) k es s f)
+unfolding entriesTwo
+passing-turn t zero b h es s f k z e = absurd (omega arith)
+passing-turn t (suc m) b h es s f k z e = let c : suc m - 1 ≡ m = omega arith in simp c (value-ok t s _ k e)
+
+passing-broken : (t m : ℕ) (b h : Cell) (es : List Entry) (s : List ℕ) (f : Cell → List Entry → List ℕ → Out Dictionary) (r : Refusal) → 0 < m → valueSize Short Dict t s ≡ refuse r
+    → entriesTwo t m b h es s f ≡ refuse r
+unfolding entriesTwo
+passing-broken t zero b h es s f r z e = absurd (omega arith)
+passing-broken t (suc m) b h es s f r z e = value-refused t s _ r e
+
+module _ {t n : ℕ} {before head : Cell} {start : List ℕ} {i : ℕ} {b h : Cell} {rest : List ℕ} (st : Passing t n before head start i b h rest) where
+  pub passing-done : n ≤ i → (es : List Entry) (f : Cell → List Entry → List ℕ → Out Dictionary) → entriesTwo t n before head es start f ≡ f b (es ++ st .new) rest
+  unfolding entriesTwo
+  passing-done l es f = let z : n - i ≡ 0 = omega arith in st .so es f ∙ simp z
+
+  pub passing-stand : n ≤ i → (more : List Entry) → Stand t true 0 rest more → Stand t true n start (st .new ++ more)
+  passing-stand l more g = let z : n - i ≡ 0 = omega arith in st .stand more (rw z g)
+
+  module _ (lt : i < n) where
+    pub passing-refused : {r : Refusal} → valueSize Short Dict t rest ≡ refuse r
+        → (es : List Entry) (f : Cell → List Entry → List ℕ → Out Dictionary) → entriesTwo t n before head es start f ≡ refuse r
+    passing-refused {r} e es f = st .so es f ∙ passing-broken t (n - i) b h (es ++ st .new) rest f r (omega arith) e
+
+    module _ {k : ℕ} (e : valueSize Short Dict t rest ≡ ok k) where
+      passing-unrolled : (es : List Entry) (f : Cell → List Entry → List ℕ → Out Dictionary) → entriesTwo t n before head es start f
+          ≡ check (past t b (take k rest) && heads h (take k rest)) Dict (numbers t (n - i - 1) k (es ++ st .new) rest f)
+      passing-unrolled es f = st .so es f ∙ passing-turn t (n - i) b h (es ++ st .new) rest f k (omega arith) e
+
+      pub passing-low : {x : Bool} → x ≡ past t b (take k rest) → x ≡ false
+          → (es : List Entry) (f : Cell → List Entry → List ℕ → Out Dictionary) → entriesTwo t n before head es start f ≡ refuse Dict
+      unfolding check
+      passing-low g c es f = passing-unrolled es f ∙ simp (← g, c)
+
+      pub passing-other : {x y : Bool} → x ≡ past t b (take k rest) → x ≡ true → y ≡ heads h (take k rest) → y ≡ false
+          → (es : List Entry) (f : Cell → List Entry → List ℕ → Out Dictionary) → entriesTwo t n before head es start f ≡ refuse Dict
+      unfolding check
+      passing-other g c d m es f = passing-unrolled es f ∙ simp (← g, c, ← d, m)
+
+      module _ {x y : Bool} (g : x ≡ past t b (take k rest)) (higher : x ≡ true) (d : y ≡ heads h (take k rest)) (listed : y ≡ true) where
+        passing-admitted : (es : List Entry) (f : Cell → List Entry → List ℕ → Out Dictionary) → entriesTwo t n before head es start f ≡ numbers t (n - i - 1) k (es ++ st .new) rest f
+        unfolding check
+        passing-admitted es f = passing-unrolled es f ∙ simp (← g, higher, ← d, listed)
+
+        pub passing-short : length rest - k < 8 → (es : List Entry) (f : Cell → List Entry → List ℕ → Out Dictionary) → entriesTwo t n before head es start f ≡ refuse Short
+        passing-short l es f = passing-admitted es f ∙ numbers-short (leb (k + 4) (length rest)) refl
+          where
+            numbers-short : (w : Bool) → leb (k + 4) (length rest) ≡ w → numbers t (n - i - 1) k (es ++ st .new) rest f ≡ refuse Short
+            numbers-short true w = word-at 4 rest k _ (leb-true (k + 4) (length rest) w) ∙ word-short 4 rest (k + 4) _ (omega arith)
+            numbers-short false w = let v : length rest < k + 4 = leb-false (k + 4) (length rest) w in word-short 4 rest k _ (omega arith)
+
+        pub passing-next : k + 8 ≤ length rest → Passing t n before head start (i + 1) (value (take k rest)) null (drop (k + 8) rest)
+        passing-next l =
+            let c : n - i - 1 ≡ n - (i + 1) = omega arith in
+            let q : k + 4 + 4 ≡ k + 8 = omega arith in
+            record {
+              new = st .new ++ (entryOf true k rest ∷ []);
+              so = λ es f. passing-admitted es f ∙ word-at 4 rest k _ (omega arith) ∙ word-at 4 rest (k + 4) _ (omega arith) ∙ simp (c, q, append-assoc);
+              count = simp length-append (omega (arith, st .count));
+              stand = λ more m. rw append-assoc (st .stand (entryOf true k rest ∷ more) (stand-cons t true (n - i) rest k more (omega arith) e l (rw c m)));
+            }
+
+-- the same at the code's positions: the value stands from p to e
+pub passing-on : {t n : ℕ} {before head : Cell} {start : List ℕ} {i : ℕ} {b h : Cell} (s : List ℕ) (p e : ℕ) → Passing t n before head start i b h (drop p s) → i < n
+    → ValueAt t s p (Value.To e) → {x y : Bool} → x ≡ past t b (take (e - p) (drop p s)) → x ≡ true → y ≡ heads h (take (e - p) (drop p s)) → y ≡ true → e + 8 ≤ length s
+    → Passing t n before head start (i + 1) (cellAt s (record { start = p; end = e })) null (drop (e + 8) s)
+passing-on s p e st lt v g c d m r =
+    let l : e - p + 8 ≤ length (drop p s) = simp length-drop (omega arith) in
+    rw (drop-past s p e 8 (omega arith), ← cell-some s (record { start = p; end = e }) [] (v .1)) at (passing-next st lt (v .0) g c d m l)
+
+-- ---- a block: its listing stands at q, with a value that ends at e, and the block at p
+
+listed-head : (t : ℕ) (s : List ℕ) (k : ℕ) (d : Listing) (ds : List Listing) → valueSize Short Dict t s ≡ ok k → Listed t s (d ∷ ds)
+    → (d ≡ listing k s) × (k + 4 ≤ length s) × Listed t (drop (k + 4) s) ds
+unfolding Listed
+listed-head t s k d ds e l = let q : l .0 ≡ k = cc (l .1) in (rw q at (l .3), rw q at (l .2), rw q at (l .4))
+
+pub listed-lost : (t : ℕ) (s : List ℕ) (q : ℕ) (r : Refusal) (d : Listing) (ds : List Listing) → ValueAt t s q (Value.Refused r) → Listed t (drop q s) (d ∷ ds) → ⊥
+unfolding Listed
+listed-lost t s q r d ds e l = let z : _≡_ {A = ℕ} 0 1 = cc (l .1) in omega arith
+
+behind-at : (s : List ℕ) (base p : ℕ) → base ≤ p → p ≤ length s → behind (drop base s) (drop p s) ≡ p - base
+unfolding behind
+behind-at s base p h l = simp length-drop (omega arith)
+
+module _ (t : ℕ) (s : List ℕ) (base q p e : ℕ) (from : base ≤ p) (to : p ≤ length s) (v : ValueAt t s q (Value.To e))
+    (before : Cell) (d : Listing) (ds : List Listing) (l : Listed t (drop q s) (d ∷ ds)) where
+  pub block-listed : (e + 4 ≤ length s) × Listed t (drop (e + 4) s) ds
+  block-listed =
+      let h = listed-head t (drop q s) (e - q) d ds (v .0) l in
+      let r = rw length-drop at (h .1) in
+      (omega arith, rw (drop-past s q e 4 (omega arith)) at (h .2))
+
+  module _ (es : List Entry) (f : List Entry → List ℕ → Out Dictionary) where
+    block-turn : blocksOf t (d ∷ ds) (drop base s) before es (drop p s) f ≡ check (eqb (beAt 4 s e) (p - base)) Dict
+        (number big 4 (refuse Short) (drop p s) (λ n s'. check (leb 1 n && ltb n 2147483648) Dict
+        (entriesTwo t n before (cellAt s (record { start = q; end = e })) es s' (λ before es s'. blocksOf t ds (drop base s) before es s' f))))
+    unfolding blocksOf
+    block-turn =
+        let h = listed-head t (drop q s) (e - q) d ds (v .0) l in
+        let o = offset-behind s q e (omega arith) in
+        let c = cell-some s (record { start = q; end = e }) [] (v .1) in
+        simp (h .0, o, behind-at s base p from to, c)
+
+    pub block-misplaced : {a : ℕ} → a ≡ beAt 4 s e → (a ≡ p - base → ⊥) → blocksOf t (d ∷ ds) (drop base s) before es (drop p s) f ≡ refuse Dict
+    unfolding check
+    block-misplaced g h = block-turn ∙ simp (← g, ne-eqb _ (p - base) h)
+
+    module _ {a : ℕ} (g : a ≡ beAt 4 s e) (h : a ≡ p - base) where
+      block-placed : blocksOf t (d ∷ ds) (drop base s) before es (drop p s) f ≡ number big 4 (refuse Short) (drop p s) (λ n s'. check (leb 1 n && ltb n 2147483648) Dict
+          (entriesTwo t n before (cellAt s (record { start = q; end = e })) es s' (λ before es s'. blocksOf t ds (drop base s) before es s' f)))
+      unfolding check
+      block-placed = block-turn ∙ simp (← g, eq-eqb a (p - base) h)
+
+      pub block-short : length s - p < 4 → blocksOf t (d ∷ ds) (drop base s) before es (drop p s) f ≡ refuse Short
+      block-short c = block-placed ∙ word-short 4 s p _ c
+
+      module _ (r : p + 4 ≤ length s) {n : ℕ} (m : n ≡ beAt 4 s p) where
+        block-numbered : blocksOf t (d ∷ ds) (drop base s) before es (drop p s) f ≡ check (leb 1 n && ltb n 2147483648) Dict
+            (entriesTwo t n before (cellAt s (record { start = q; end = e })) es (drop (p + 4) s) (λ before es s'. blocksOf t ds (drop base s) before es s' f))
+        block-numbered = block-placed ∙ rw m (word-at 4 s p _ r)
+
+        pub block-none : n < 1 → blocksOf t (d ∷ ds) (drop base s) before es (drop p s) f ≡ refuse Dict
+        unfolding check
+        block-none c = block-numbered ∙ simp (lt-leb 1 n c)
+
+        pub block-negative : 1 ≤ n → 2147483648 ≤ n → blocksOf t (d ∷ ds) (drop base s) before es (drop p s) f ≡ refuse Dict
+        unfolding check
+        block-negative c u = block-numbered ∙ simp (le-leb 1 n c, le-ltb n 2147483648 u)
+
+        module _ (c : 1 ≤ n) (u : n < 2147483648) where
+          block-sound : blocksOf t (d ∷ ds) (drop base s) before es (drop p s) f
+              ≡ entriesTwo t n before (cellAt s (record { start = q; end = e })) es (drop (p + 4) s) (λ before es s'. blocksOf t ds (drop base s) before es s' f)
+          unfolding check
+          block-sound = block-numbered ∙ simp (le-leb 1 n c, lt-ltb n 2147483648 u)
+
+          pub block-refused : {r : Refusal} → PassedAt t n before (cellAt s (record { start = q; end = e })) s (p + 4) (Passed.Refused r)
+              → blocksOf t (d ∷ ds) (drop base s) before es (drop p s) f ≡ refuse r
+          block-refused x = block-sound ∙ x es _
+
+          pub block-passed : {next : ℕ} {last : Span} → (x : PassedAt t n before (cellAt s (record { start = q; end = e })) s (p + 4) (Passed.To next last))
+              → blocksOf t (d ∷ ds) (drop base s) before es (drop p s) f ≡ blocksOf t ds (drop base s) (cellAt s last) (es ++ x .0 .0) (drop next s) f
+          block-passed x = block-sound ∙ x .0 .1 es _
+
+-- entries that stand behind a block's number stand where it is due
+pub block-stand : (t : ℕ) (s : List ℕ) (p : ℕ) {n : ℕ} (es : List Entry) → p + 4 ≤ length s → n ≡ beAt 4 s p → 1 ≤ n → 1 ≤ length es
+    → Stand t true n (drop (p + 4) s) es → Stand t true 0 (drop p s) es
+block-stand t s p es h m c l st =
+    let b : beAt 4 (drop p s) 0 ≡ beAt 4 s p = numberAt-drop big 4 s p in
+    stand-opening t true (drop p s) es (simp length-drop (omega arith)) l (rw b (omega arith)) (rw (b, ← m, drop-drop 4 p s) st)
+
+-- ---- the blocks: i of those that the directory lists are read, with `sum` entries; the listings left stand at `dir`, and `rest` is left
+
+pub record Blocking (t : ℕ) (ds : List Listing) (base : List ℕ) (i : ℕ) (dir : List ℕ) (before : Cell) (sum : ℕ) (rest : List ℕ) : Type 0 where
+  pub left : List Listing
+  pub listed : Listed t dir left
+  pub count : length left ≡ length ds - i
+  pub es : List Entry
+  pub so : (f : List Entry → List ℕ → Out Dictionary) → blocksOf t ds base null [] base f ≡ blocksOf t left base before es rest f
+  pub total : length es ≡ sum
+  pub stand : (more : List Entry) → Stand t true 0 rest more → Stand t true 0 base (es ++ more)
+
+pub blocking-first : (t : ℕ) (ds : List Listing) (base dir : List ℕ) → Listed t dir ds → Blocking t ds base 0 dir null 0 base
+blocking-first t ds base dir l = record { left = ds; listed = l; count = omega arith; es = []; so = λ f. refl; total = refl; stand = λ more g. g }
+
+module _ {t : ℕ} {ds : List Listing} {base : List ℕ} {i : ℕ} {dir : List ℕ} {before : Cell} {sum : ℕ} {rest : List ℕ}
+    (st : Blocking t ds base i dir before sum rest) where
+  pub blocking-done : length ds ≤ i → (f : List Entry → List ℕ → Out Dictionary) → blocksOf t ds base null [] base f ≡ f (st .es) rest
+  unfolding blocksOf
+  blocking-done h f = st .so f ∙ by (st .left) (omega (arith, st .count))
+    where
+      by : (left : List Listing) → length left ≡ 0 → blocksOf t left base before (st .es) rest f ≡ f (st .es) rest
+      by [] z = refl
+      by (d ∷ left) z = absurd (omega arith)
+
+  pub blocking-stand : Stand t true 0 base (st .es)
+  unfolding Stand
+  blocking-stand = rw append-nil at (st .stand [] tt)
+
+module _ {t : ℕ} {ds : List Listing} {before : Cell} {i sum : ℕ} (s : List ℕ) (base q p : ℕ) (st : Blocking t ds (drop base s) i (drop q s) before sum (drop p s)) (lt : i < length ds) where
+  pub blocking-refused : {r : Refusal} → BlockAt t before s base q p (Block.Refused r)
+      → (f : List Entry → List ℕ → Out Dictionary) → blocksOf t ds (drop base s) null [] (drop base s) f ≡ refuse r
+  blocking-refused {r} x f = st .so f ∙ by (st .left) (st .listed) (omega (arith, st .count))
+    where
+      by : (left : List Listing) → Listed t (drop q s) left → 0 < length left → blocksOf t left (drop base s) before (st .es) (drop p s) f ≡ refuse r
+      by [] l z = absurd (omega arith)
+      by (d ∷ left) l z = x d left l (st .es) f
+
+  pub blocking-next : (listing next number : ℕ) (last : Span) → BlockAt t before s base q p (Block.Ends listing next last number)
+      → Blocking t ds (drop base s) (i + 1) (drop listing s) (cellAt s last) (sum + number) (drop next s)
+  blocking-next listing next number last x = by (st .left) (st .listed) (st .count) (st .so)
+    where
+      by : (left : List Listing) → Listed t (drop q s) left → length left ≡ length ds - i
+          → ((f : List Entry → List ℕ → Out Dictionary) → blocksOf t ds (drop base s) null [] (drop base s) f ≡ blocksOf t left (drop base s) before (st .es) (drop p s) f)
+          → Blocking t ds (drop base s) (i + 1) (drop listing s) (cellAt s last) (sum + number) (drop next s)
+      by [] l c so = absurd (omega arith)
+      by (d ∷ left) l c so =
+          let y = x .0 d left l in
+          let new : List Entry = y .1 .0 in
+          record {
+            left = left;
+            listed = y .0;
+            count = omega arith;
+            es = st .es ++ new;
+            so = λ f. so f ∙ y .1 .1 (st .es) f;
+            total = simp length-append (omega (arith, st .total, y .1 .2));
+            stand = λ more g. rw append-assoc (st .stand (new ++ more) (y .1 .3 more g));
+          }
+
+-- ---- version 2 from the block number on, n being the value number
+
+pub fit-none : (n b : ℕ) → n ≡ 0 → eqb b 0 ≡ cond (eqb n 0) (eqb b 0) (leb 1 b)
+fit-none n b h = rw (eq-eqb n 0 h)
+
+pub fit-some : (n b : ℕ) → (n ≡ 0 → ⊥) → leb 1 b ≡ cond (eqb n 0) (eqb b 0) (leb 1 b)
+fit-some n b h = rw (ne-eqb n 0 h)
+
+abbrev behindBlocks : (t rows n : ℕ) (ns : List Entry) (offset : ℕ) (base : List ℕ) (es : List Entry) (region : List ℕ) → Out Dictionary
+behindBlocks t rows n ns offset base es region =
+    check (eqb offset (behind base region)) Dict (check (eqb (length es) n) Dict (ok (record { rows = rows; entries = ns ++ es; region = region })))
+
+module _ (t n : ℕ) (s : List ℕ) (at : ℕ) where
+  pub two-count : {r : Refusal} → CountAt 65536 s at (Count.Refused r) → WalkedAt true t n s at (Walked.Refused r)
+  unfolding blocked
+  two-count x rows ns = x _
+
+  module _ {b : ℕ} (x : CountAt 65536 s at (Is b)) where
+    two-counted : (rows : ℕ) (ns : List Entry) → blocked t rows n ns (drop at s) ≡ check (cond (eqb n 0) (eqb b 0) (leb 1 b)) Dict
+        (listings t b [] (drop (at + 4) s) (λ ds s'. number big 4 (refuse Short) s' (λ offset base. blocksOf t ds base null [] base (behindBlocks t rows n ns offset base))))
+    unfolding blocked
+    two-counted rows ns = x .0 _
+
+    pub two-unfit : {y : Bool} → y ≡ cond (eqb n 0) (eqb b 0) (leb 1 b) → y ≡ false → WalkedAt true t n s at (Walked.Refused Dict)
+    unfolding check
+    two-unfit g h rows ns = two-counted rows ns ∙ simp (← g, h)
+
+    module _ {y : Bool} (g : y ≡ cond (eqb n 0) (eqb b 0) (leb 1 b)) (fit : y ≡ true) where
+      two-fit : (rows : ℕ) (ns : List Entry) → blocked t rows n ns (drop at s)
+          ≡ listings t b [] (drop (at + 4) s) (λ ds s'. number big 4 (refuse Short) s' (λ offset base. blocksOf t ds base null [] base (behindBlocks t rows n ns offset base)))
+      unfolding check
+      two-fit rows ns = two-counted rows ns ∙ simp (← g, fit)
+
+      pub two-directory : {r : Refusal} → DirectoryAt t b s (at + 4) (Directory.Refused r) → WalkedAt true t n s at (Walked.Refused r)
+      two-directory d rows ns = two-fit rows ns ∙ d _
+
+      module _ {e : ℕ} (d : DirectoryAt t b s (at + 4) (Directory.Ends e)) where
+        pub two-short : length s - e < 4 → WalkedAt true t n s at (Walked.Refused Short)
+        two-short h rows ns = two-fit rows ns ∙ d .1 _ ∙ word-short 4 s e _ h
+
+        module _ (r : e + 4 ≤ length s) {offset : ℕ} (o : offset ≡ beAt 4 s e) where
+          two-opened : (rows : ℕ) (ns : List Entry) → blocked t rows n ns (drop at s)
+              ≡ blocksOf t (d .0) (drop (e + 4) s) null [] (drop (e + 4) s) (behindBlocks t rows n ns offset (drop (e + 4) s))
+          two-opened rows ns = two-fit rows ns ∙ d .1 _ ∙ rw o (word-at 4 s e _ r)
+
+          pub two-broken : {r : Refusal} → BlocksAt t b s (at + 4) (e + 4) (Blocks.Refused r) → WalkedAt true t n s at (Walked.Refused r)
+          two-broken z rows ns = two-opened rows ns ∙ z (d .0) (d .2) (d .3) _
+
+          module _ {next sum : ℕ} (z : BlocksAt t b s (at + 4) (e + 4) (Blocks.End next sum)) where
+            es : List Entry
+            es = z .0 (d .0) (d .2) (d .3) .0
+
+            two-read : (rows : ℕ) (ns : List Entry) → blocked t rows n ns (drop at s) ≡ check (eqb offset (next - (e + 4))) Dict (check (eqb sum n) Dict
+                (ok (record { rows = rows; entries = ns ++ es; region = drop next s })))
+            unfolding es
+            two-read rows ns =
+                two-opened rows ns ∙ z .0 (d .0) (d .2) (d .3) .1 _
+                ∙ rw (behind-at s (e + 4) next (z .1) (z .2), z .0 (d .0) (d .2) (d .3) .2)
+
+            pub two-offset : (offset ≡ next - (e + 4) → ⊥) → WalkedAt true t n s at (Walked.Refused Dict)
+            unfolding check
+            two-offset h rows ns = two-read rows ns ∙ simp (ne-eqb offset (next - (e + 4)) h)
+
+            module _ (h : offset ≡ next - (e + 4)) where
+              pub two-sum : (sum ≡ n → ⊥) → WalkedAt true t n s at (Walked.Refused Dict)
+              unfolding check
+              two-sum q rows ns = two-read rows ns ∙ simp (eq-eqb offset (next - (e + 4)) h, ne-eqb sum n q)
+
+              pub two-ends : sum ≡ n → WalkedAt true t n s at (Walked.Ends (e + 4) next)
+              unfolding check es
+              two-ends q = (
+                es,
+                λ rows ns. two-read rows ns ∙ simp (eq-eqb offset (next - (e + 4)) h, eq-eqb sum n q),
+                z .0 (d .0) (d .2) (d .3) .2 ∙ q,
+                z .0 (d .0) (d .2) (d .3) .3,
+                r,
+                z .2,
+              )

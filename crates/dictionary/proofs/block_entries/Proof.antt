@@ -1,0 +1,98 @@
+-- `block_entries` meets its contract. The loop's invariant: what is left of the reading, behind the entries so far, gives the whole (`Passing`). Assumes nothing.
+use Prim.Native.Nat.{_-_, _≤_}
+use native.Mathlib.Omega.{arith}
+use lib.ListN.{length, drop, length-drop}
+use borrow.Author.Tests.{not-true, not-false}
+use borrow.Author.Needs.{needs}
+use Rattle.dictionary.specs.Answers.{cellAt, Within}
+use Rattle.dictionary.proofs.VersionTwo.{Passing, passing-first, passing-done, passing-stand, passing-refused, passing-low, passing-other, passing-short, passing-on}
+use Rattle.dictionary.proofs.block_entries.Statement.{statement}
+use Rattle.dictionary.proofs.block_entries.Tie as tie
+
+abbrev Inv-loop : tie.InvT-loop
+Inv-loop body t n at i₀ p₀ last₀ first₀ i p last first = (at ≤ p) × (p ≤ length body) × Within t body last × (first .end ≤ length body) × (i ≤ n)
+    × Passing t n (cellAt body last₀) (cellAt body first₀) (drop at body) i (cellAt body last) (cellAt body first) (drop p body)
+
+abbrev μ-loop : tie.MeasureT-loop
+μ-loop body t n at i₀ p₀ last₀ first₀ i p last first = n - i
+
+loop-holds : tie.Need-loop-holds Inv-loop μ-loop
+loop-holds c = let a = c .before .args in (omega arith, c .before .pre .0, c .before .pre .1, c .before .pre .2, omega arith, passing-first (a .t) (a .n) (cellAt (a .body .now) (a .before)) (cellAt (a .body .now) (a .head)) (drop (a .at) (a .body .now)))
+
+value-end-requires : tie.Need-value-end-requires Inv-loop μ-loop
+value-end-requires c κs = search needs
+
+enum-known-r : tie.Need-enum-known-r Inv-loop μ-loop
+enum-known-r c = search needs
+
+returns : tie.Need-returns Inv-loop μ-loop
+returns c = passing-refused (c .before .before .before .before .before .loop .inv .5) (c .before .before .before .before .loop-test .taken) (rw (c .before .r .given .1) at (c .before .before .before .value-end .ensures))
+
+enum-known-e : tie.Need-enum-known-e Inv-loop μ-loop
+enum-known-e c = search needs
+
+is-past-requires : tie.Need-is-past-requires Inv-loop μ-loop
+is-past-requires c κs = let w = rw (c .before .e .given .1) at (c .before .before .before .value-end .ensures) in (c .before .before .before .before .before .loop .inv .2, w .3, w .2)
+
+returns-2 : tie.Need-returns-2 Inv-loop μ-loop
+returns-2 c = let w = rw (c .before .before .before .e .given .1) at (c .before .before .before .before .before .value-end .ensures) in passing-low (c .before .before .before .before .before .before .before .loop .inv .5) (c .before .before .before .before .before .before .loop-test .taken) (w .0) (c .before .is-past .ensures) (not-true _ (c .if1 .taken))
+
+is-head-requires : tie.Need-is-head-requires Inv-loop μ-loop
+is-head-requires c κs = let w = rw (c .before .before .before .e .given .1) at (c .before .before .before .before .before .value-end .ensures) in (c .before .before .before .before .before .before .before .loop .inv .3, omega arith, w .2)
+
+returns-3 : tie.Need-returns-3 Inv-loop μ-loop
+returns-3 c = let w = rw (c .before .before .before .before .before .e .given .1) at (c .before .before .before .before .before .before .before .value-end .ensures) in passing-other (c .before .before .before .before .before .before .before .before .before .loop .inv .5) (c .before .before .before .before .before .before .before .before .loop-test .taken) (w .0) (c .before .before .before .is-past .ensures) (not-false _ (c .before .before .if1 .left)) (c .before .is-head .ensures) (not-true _ (c .if2 .taken))
+
+sub-if3 : tie.Need-sub-if3 Inv-loop μ-loop
+sub-if3 c = let w = rw (c .before .before .before .before .before .e .given .1) at (c .before .before .before .before .before .before .before .value-end .ensures) in omega arith
+
+returns-4 : tie.Need-returns-4 Inv-loop μ-loop
+returns-4 c = let w = rw (c .before .before .before .before .before .before .e .given .1) at (c .before .before .before .before .before .before .before .before .value-end .ensures) in passing-short (c .before .before .before .before .before .before .before .before .before .before .loop .inv .5) (c .before .before .before .before .before .before .before .before .before .loop-test .taken) (w .0) (c .before .before .before .before .is-past .ensures) (not-false _ (c .before .before .before .if1 .left)) (c .before .before .is-head .ensures) (not-false _ (c .before .if2 .left)) (simp length-drop (omega arith))
+
+add-p : tie.Need-add-p Inv-loop μ-loop
+add-p c = omega arith
+
+add-i : tie.Need-add-i Inv-loop μ-loop
+add-i c = omega arith
+
+loop-less : tie.Need-loop-less Inv-loop μ-loop
+loop-less c = omega arith
+
+loop-again : tie.Need-loop-again Inv-loop μ-loop
+loop-again c =
+    let w = rw (c .before .before .before .before .before .before .e .given .1) at (c .before .before .before .before .before .before .before .before .value-end .ensures) in (
+      omega arith,
+      omega arith,
+      (w .2, λ q. w .3),
+      omega arith,
+      omega arith,
+      passing-on (c .before .before .before .before .before .before .before .before .before .before .before .before .args .body .now) (c .before .before .before .before .before .before .before .before .before .before .loop .p) (c .before .before .before .before .before .before .e .given .0 .0) (c .before .before .before .before .before .before .before .before .before .before .loop .inv .5) (c .before .before .before .before .before .before .before .before .before .loop-test .taken) w (c .before .before .before .before .is-past .ensures) (not-false _ (c .before .before .before .if1 .left)) (c .before .before .is-head .ensures) (not-false _ (c .before .if2 .left)) (omega arith),
+    )
+
+returns-5 : tie.Need-returns-5 Inv-loop μ-loop
+returns-5 c =
+    let st = c .before .loop .inv .5 in
+    ((st .new, passing-done st (c .loop-test .left), omega (arith, st .count), passing-stand st (c .loop-test .left)), c .before .loop .inv .0, c .before .loop .inv .1, c .before .loop .inv .2)
+
+pub block-entries-spec : {M : Type 1} → statement M
+block-entries-spec =
+    tie.close
+    (tie.spec
+    Inv-loop
+    μ-loop
+    loop-holds
+    value-end-requires
+    enum-known-r
+    returns
+    enum-known-e
+    is-past-requires
+    returns-2
+    is-head-requires
+    returns-3
+    sub-if3
+    returns-4
+    add-p
+    add-i
+    loop-less
+    loop-again
+    returns-5)

@@ -1,0 +1,55 @@
+-- `next` meets its contract: where a block's number is due it is read first, and `entry_at` makes the entry. Assumes nothing.
+use native.Mathlib.Omega.{arith}
+use borrow.Author.Needs.{needs}
+use Rattle.dictionary.proofs.Cursor.{step-opened}
+use Rattle.dictionary.proofs.next.Statement.{statement}
+use Rattle.dictionary.proofs.next.Tie as tie
+
+no-entry-requires : tie.Need-no-entry-requires
+no-entry-requires c κs = search needs
+
+returns : tie.Need-returns
+returns c = λ e es st. let a = c .before .before .before .before .args in let h = step-opened (a .t) (a .two) (a .body .now) (a .at) e es (rw (c .before .before .if1 .taken) at st) in absurd (omega arith)
+
+sub-if3 : tie.Need-sub-if3
+sub-if3 c = search needs
+
+no-entry-requires-2 : tie.Need-no-entry-requires-2
+no-entry-requires-2 c κs = search needs
+
+returns-2 : tie.Need-returns-2
+returns-2 c = λ e es st. let a = c .before .before .before .before .before .args in let h = step-opened (a .t) (a .two) (a .body .now) (a .at) e es (rw (c .before .before .before .if1 .taken) at st) in absurd (omega arith)
+
+be32-requires : tie.Need-be32-requires
+be32-requires c κs = search needs
+
+add-entry-at : tie.Need-add-entry-at
+add-entry-at c = search needs
+
+entry-at-requires : tie.Need-entry-at-requires
+entry-at-requires c κs = search needs
+
+returns-3 : tie.Need-returns-3
+returns-3 c = λ e es st. let a = c .before .before .before .before .before .before .args in let h = step-opened (a .t) (a .two) (a .body .now) (a .at) e es (rw (c .before .before .before .before .if1 .taken) at st) in c .entry-at .ensures e es (rw (c .before .be32 .ensures .0) (h .1)) (rw (c .before .be32 .ensures .0) (h .2))
+
+entry-at-requires-2 : tie.Need-entry-at-requires-2
+entry-at-requires-2 c κs = search needs
+
+returns-4 : tie.Need-returns-4
+returns-4 c = λ e es st. c .entry-at2 .ensures e es (omega arith) st
+
+pub next-spec : {M : Type 1} → statement M
+next-spec =
+    tie.close
+    (tie.spec
+    no-entry-requires
+    returns
+    sub-if3
+    no-entry-requires-2
+    returns-2
+    be32-requires
+    add-entry-at
+    entry-at-requires
+    returns-3
+    entry-at-requires-2
+    returns-4)

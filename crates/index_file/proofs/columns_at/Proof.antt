@@ -1,0 +1,154 @@
+-- The invariant: what is left gives the whole. A name, a number and that many entries are one turn of the reading.
+use Prim.Native.Nat.{_≤_, _-_}
+use native.Mathlib.Omega.{arith}
+use borrow.Author.Needs.{needs}
+use lib.ListN.{length}
+use Rattle.index_file.specs.declared.Count.{Count}
+use Rattle.index_file.specs.declared.Name.{Name}
+use Rattle.index_file.specs.Steps.{named, counted}
+use Rattle.index_file.proofs.Positions.{Columns, columns-first, columns-done, columns-name, columns-count, columns-entries, columns-next}
+use Rattle.index_file.proofs.columns_at.Statement.{statement}
+use Rattle.index_file.proofs.columns_at.Tie as tie
+
+abbrev Inv-loop : tie.InvT-loop
+Inv-loop s at n column kind place₀ seen₀ p₀ i₀ place seen p i = (p ≤ length s) × Columns column kind s n at place seen p i
+
+abbrev μ-loop : tie.MeasureT-loop
+μ-loop s at n column kind place₀ seen₀ p₀ i₀ place seen p i = n - i
+
+-- the name ends within the bytes, and the number behind it too
+ends : (c : tie.After-known-told Inv-loop μ-loop) → named (Name.Ends (c .before .f .given .0 .0)) (c .before .before .before .before .before .loop .p) (c .before .before .before .before .before .before .before .before .before .args .s .now)
+ends c = rw (c .before .f .given .1) at (c .before .before .before .name-at .ensures)
+
+room : (c : tie.After-known-told2 Inv-loop μ-loop) → counted (Count.Is (c .before .g .given .0 .0)) (c .before .before .before .before .before .f .given .0 .0) (c .before .before .before .before .before .before .before .before .before .before .before .before .before .args .s .now)
+room c = rw (c .before .g .given .1) at (c .before .before .before .count-at .ensures)
+
+loop-holds : tie.Need-loop-holds Inv-loop μ-loop
+loop-holds c = let a = c .before .before .before .args in (omega arith, columns-first (a .column .now) (a .kind .now) (a .s .now) (a .n) (a .at))
+
+name-at-requires : tie.Need-name-at-requires Inv-loop μ-loop
+name-at-requires c κs = search needs
+
+enum-known-f : tie.Need-enum-known-f Inv-loop μ-loop
+enum-known-f c = search needs
+
+enum-told : tie.Need-enum-told Inv-loop μ-loop
+enum-told c = search needs
+
+returns : tie.Need-returns Inv-loop μ-loop
+returns c =
+    let n = c .before .before in
+    let l = n .before .before .loop in
+    columns-name (l .inv .1) (n .before .loop-test .taken) (n .name-at .ensures) (c .enum-told .given .1)
+
+count-at-requires : tie.Need-count-at-requires Inv-loop μ-loop
+count-at-requires c κs = omega (arith, ends c .1)
+
+enum-known-g : tie.Need-enum-known-g Inv-loop μ-loop
+enum-known-g c = search needs
+
+enum-told-2 : tie.Need-enum-told-2 Inv-loop μ-loop
+enum-told-2 c = search needs
+
+returns-2 : tie.Need-returns-2 Inv-loop μ-loop
+returns-2 c =
+    let m = c .before .before in
+    let f = m .before .before in
+    let n = f .before .before in
+    let l = n .before .before .loop in
+    columns-count (l .inv .1) (n .before .loop-test .taken) (n .name-at .ensures) (f .f .given .1) (m .count-at .ensures) (c .enum-told2 .given .1)
+
+add-from : tie.Need-add-from Inv-loop μ-loop
+add-from c = search needs
+
+sub-same-name : tie.Need-sub-same-name Inv-loop μ-loop
+sub-same-name c = omega (arith, ends (c .before .before .before .before) .0)
+
+part-same-name-start : tie.Need-part-same-name-start Inv-loop μ-loop
+part-same-name-start c = omega (arith, ends (c .before .before .before .before) .0)
+
+part-same-name-end : tie.Need-part-same-name-end Inv-loop μ-loop
+part-same-name-end c = omega (arith, ends (c .before .before .before .before) .1)
+
+same-name-requires : tie.Need-same-name-requires Inv-loop μ-loop
+same-name-requires c κs = search needs
+
+add-entries-at : tie.Need-add-entries-at Inv-loop μ-loop
+add-entries-at c = omega (arith, room (c .before .before) .0)
+
+entries-at-requires : tie.Need-entries-at-requires Inv-loop μ-loop
+entries-at-requires c κs = omega (arith, room (c .before .before) .0)
+
+enum-known-w : tie.Need-enum-known-w Inv-loop μ-loop
+enum-known-w c = search needs
+
+enum-told-3 : tie.Need-enum-told-3 Inv-loop μ-loop
+enum-told-3 c = search needs
+
+returns-3 : tie.Need-returns-3 Inv-loop μ-loop
+returns-3 c =
+    let w = c .before .before in
+    let g = w .before .before .before .before in
+    let m = g .before .before in
+    let f = m .before .before in
+    let n = f .before .before in
+    let l = n .before .before .loop in
+    columns-entries (l .inv .1) (n .before .loop-test .taken) (n .name-at .ensures) (f .f .given .1) (m .count-at .ensures) (g .g .given .1)
+    (w .entries-at .ensures) (c .enum-told3 .given .1)
+
+after-column-requires : tie.Need-after-column-requires Inv-loop μ-loop
+after-column-requires c κs = search needs
+
+add-i : tie.Need-add-i Inv-loop μ-loop
+add-i c = search needs
+
+loop-less : tie.Need-loop-less Inv-loop μ-loop
+loop-less c = search needs
+
+loop-again : tie.Need-loop-again Inv-loop μ-loop
+loop-again c =
+    let v = c .before .before in
+    let w = v .before .before in
+    let g = w .before .before .before .before in
+    let m = g .before .before in
+    let f = m .before .before in
+    let n = f .before .before in
+    let l = n .before .before .loop in (
+      (rw (v .w .given .1) at (w .entries-at .ensures)) .0,
+      columns-next (l .inv .1) (n .before .loop-test .taken) (n .name-at .ensures) (f .f .given .1) (m .count-at .ensures) (g .g .given .1)
+          (w .entries-at .ensures) (v .w .given .1) (w .before .same-name .ensures) (c .after-column .ensures),
+    )
+
+returns-4 : tie.Need-returns-4 Inv-loop μ-loop
+returns-4 c = let l = c .before .loop in (l .inv .0, columns-done (l .inv .1) (c .loop-test .left))
+
+pub columns-at-spec : {M : Type 1} → statement M
+columns-at-spec =
+    tie.close
+    (tie.spec
+    Inv-loop
+    μ-loop
+    loop-holds
+    name-at-requires
+    enum-known-f
+    enum-told
+    returns
+    count-at-requires
+    enum-known-g
+    enum-told-2
+    returns-2
+    add-from
+    sub-same-name
+    part-same-name-start
+    part-same-name-end
+    same-name-requires
+    add-entries-at
+    entries-at-requires
+    enum-known-w
+    enum-told-3
+    returns-3
+    after-column-requires
+    add-i
+    loop-less
+    loop-again
+    returns-4)

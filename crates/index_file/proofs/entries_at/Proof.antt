@@ -1,0 +1,126 @@
+-- The invariant: what is left gives the whole. A name, a start and a length are one turn of the reading.
+use Prim.Native.Nat.{_≤_, _-_}
+use native.Mathlib.Omega.{arith}
+use borrow.Author.Needs.{needs}
+use lib.ListN.{length}
+use Rattle.index_file.specs.declared.Name.{Name}
+use Rattle.index_file.specs.Steps.{named}
+use Rattle.index_file.proofs.Positions.{Entries, entries-first, entries-done, entries-name, entries-short, entries-next}
+use Rattle.index_file.proofs.entries_at.Statement.{statement}
+use Rattle.index_file.proofs.entries_at.Tie as tie
+
+abbrev Inv-loop : tie.InvT-loop
+Inv-loop s at n kind place₀ p₀ i₀ place p i = (p ≤ length s) × Entries kind s n at place p i
+
+abbrev μ-loop : tie.MeasureT-loop
+μ-loop s at n kind place₀ p₀ i₀ place p i = n - i
+
+-- the name ends within the bytes
+ends : (c : tie.After-known-told Inv-loop μ-loop) → named (Name.Ends (c .before .f .given .0 .0)) (c .before .before .before .before .before .loop .p) (c .before .before .before .before .before .before .before .before .args .s .now)
+ends c = rw (c .before .f .given .1) at (c .before .before .before .name-at .ensures)
+
+loop-holds : tie.Need-loop-holds Inv-loop μ-loop
+loop-holds c = let a = c .before .before .args in (omega arith, entries-first (a .kind .now) (a .s .now) (a .n) (a .at))
+
+name-at-requires : tie.Need-name-at-requires Inv-loop μ-loop
+name-at-requires c κs = search needs
+
+enum-known-f : tie.Need-enum-known-f Inv-loop μ-loop
+enum-known-f c = search needs
+
+enum-told : tie.Need-enum-told Inv-loop μ-loop
+enum-told c = search needs
+
+returns : tie.Need-returns Inv-loop μ-loop
+returns c =
+    let n = c .before .before in
+    let l = n .before .before .loop in
+    entries-name (l .inv .1) (n .before .loop-test .taken) (n .name-at .ensures) (c .enum-told .given .1)
+
+sub-if1 : tie.Need-sub-if1 Inv-loop μ-loop
+sub-if1 c = omega (arith, ends c .1)
+
+returns-2 : tie.Need-returns-2 Inv-loop μ-loop
+returns-2 c =
+    let f = c .before .before in
+    let n = f .before .before in
+    let l = n .before .before .loop in
+    entries-short (l .inv .1) (n .before .loop-test .taken) (n .name-at .ensures) (f .f .given .1) (c .if1 .taken)
+
+be32-requires : tie.Need-be32-requires Inv-loop μ-loop
+be32-requires c κs = search needs
+
+add-t15 : tie.Need-add-t15 Inv-loop μ-loop
+add-t15 c = search needs
+
+be32-requires-2 : tie.Need-be32-requires-2 Inv-loop μ-loop
+be32-requires-2 c κs = search needs
+
+add-from : tie.Need-add-from Inv-loop μ-loop
+add-from c = search needs
+
+sub-same-name : tie.Need-sub-same-name Inv-loop μ-loop
+sub-same-name c = omega (arith, ends (c .before .before .before) .0)
+
+part-same-name-start : tie.Need-part-same-name-start Inv-loop μ-loop
+part-same-name-start c = omega (arith, ends (c .before .before .before) .0)
+
+part-same-name-end : tie.Need-part-same-name-end Inv-loop μ-loop
+part-same-name-end c = omega (arith, ends (c .before .before .before) .1)
+
+same-name-requires : tie.Need-same-name-requires Inv-loop μ-loop
+same-name-requires c κs = search needs
+
+after-entry-requires : tie.Need-after-entry-requires Inv-loop μ-loop
+after-entry-requires c κs = search needs
+
+add-p : tie.Need-add-p Inv-loop μ-loop
+add-p c = search needs
+
+add-i : tie.Need-add-i Inv-loop μ-loop
+add-i c = search needs
+
+loop-less : tie.Need-loop-less Inv-loop μ-loop
+loop-less c = search needs
+
+loop-again : tie.Need-loop-again Inv-loop μ-loop
+loop-again c =
+    let f = c .before .before .before .before .before .before .before in
+    let n = f .before .before in
+    let l = n .before .before .loop in
+    let b = c .before .before .before in (
+      omega (arith, ends (b .before .before .before) .1),
+      entries-next (l .inv .1) (n .before .loop-test .taken) (n .name-at .ensures) (f .f .given .1) (omega (arith, ends (b .before .before .before) .1))
+          (b .before .be32 .ensures .0) (b .be322 .ensures .0) (c .before .same-name .ensures) (c .after-entry .ensures),
+    )
+
+returns-3 : tie.Need-returns-3 Inv-loop μ-loop
+returns-3 c = let l = c .before .loop in (l .inv .0, entries-done (l .inv .1) (c .loop-test .left))
+
+pub entries-at-spec : {M : Type 1} → statement M
+entries-at-spec =
+    tie.close
+    (tie.spec
+    Inv-loop
+    μ-loop
+    loop-holds
+    name-at-requires
+    enum-known-f
+    enum-told
+    returns
+    sub-if1
+    returns-2
+    be32-requires
+    add-t15
+    be32-requires-2
+    add-from
+    sub-same-name
+    part-same-name-start
+    part-same-name-end
+    same-name-requires
+    after-entry-requires
+    add-p
+    add-i
+    loop-less
+    loop-again
+    returns-3)

@@ -1,0 +1,34 @@
+-- The limits in their order, then the file.
+use mathlib.Core.Path.{sym, _∙_}
+use native.Mathlib.Omega.{arith}
+use borrow.Author.Needs.{needs}
+use Rattle.index_file.specs.Laws.{find-long, find-column, find-kind, find-file}
+use Rattle.index_file.proofs.Positions.{numbered}
+use Rattle.index_file.proofs.find.Statement.{statement}
+use Rattle.index_file.proofs.find.Tie as tie
+
+returns : tie.Need-returns
+returns c =
+    let a = c .before .before .before .before .args in
+    numbered (sym (find-long (a .bytes .now) (a .column .now) (a .kind .now) (omega arith)))
+
+returns-2 : tie.Need-returns-2
+returns-2 c =
+    let a = c .before .before .before .before .before .args in
+    numbered (sym (find-column (a .bytes .now) (a .column .now) (a .kind .now) (omega arith) (omega arith)))
+
+returns-3 : tie.Need-returns-3
+returns-3 c =
+    let a = c .before .before .before .before .before .before .args in
+    numbered (sym (find-kind (a .bytes .now) (a .column .now) (a .kind .now) (omega arith) (omega arith) (omega arith)))
+
+read-file-requires : tie.Need-read-file-requires
+read-file-requires c κs = search needs
+
+returns-4 : tie.Need-returns-4
+returns-4 c =
+    let a = c .before .before .before .before .before .before .before .args in
+    numbered (c .read-file .ensures ∙ sym (find-file (a .bytes .now) (a .column .now) (a .kind .now) (omega arith) (omega arith) (omega arith)))
+
+pub find-spec : {M : Type 1} → statement M
+find-spec = tie.close (tie.spec returns returns-2 returns-3 read-file-requires returns-4)

@@ -1,0 +1,58 @@
+-- Each return is one case of what is answered of a place.
+use native.Mathlib.Omega.{arith}
+use Rattle.index_file.specs.Reading.{placed}
+use Rattle.index_file.proofs.Positions.{placed-negative, placed-below, placed-length, placed-past, placed-found}
+use borrow.Author.Needs.{needs}
+use Rattle.index_file.proofs.placed_at.Statement.{statement}
+use Rattle.index_file.proofs.placed_at.Tie as tie
+
+enum-told : tie.Need-enum-told
+enum-told c = search needs
+
+enum-told-2 : tie.Need-enum-told-2
+enum-told-2 c = search needs
+
+enum-known-place : tie.Need-enum-known-place
+enum-known-place c = search needs
+
+returns : tie.Need-returns
+returns c = let t = c .before in let a = t .before .before .before .args in placed-negative (a .front) (a .total) (t .before .place .given .1) (omega arith)
+
+returns-2 : tie.Need-returns-2
+returns-2 c = let t = c .before .before in let a = t .before .before .before .args in placed-below (a .front) (a .total) (t .before .place .given .1) (omega arith) (omega arith)
+
+returns-3 : tie.Need-returns-3
+returns-3 c = let t = c .before .before .before in let a = t .before .before .before .args in placed-length (a .front) (a .total) (t .before .place .given .1) (omega arith) (omega arith) (omega arith)
+
+add-if4 : tie.Need-add-if4
+add-if4 c = search needs
+
+returns-4 : tie.Need-returns-4
+returns-4 c = let t = c .before .before .before .before in let a = t .before .before .before .args in placed-past (a .front) (a .total) (t .before .place .given .1) (omega arith) (omega arith) (omega arith) (omega arith)
+
+returns-5 : tie.Need-returns-5
+unfolding placed
+returns-5 c = simp (c .enum-told .given .1)
+
+returns-6 : tie.Need-returns-6
+unfolding placed
+returns-6 c = simp (c .enum-told2 .given .1)
+
+returns-7 : tie.Need-returns-7
+returns-7 c = let t = c .before .before .before .before in let a = t .before .before .before .args in placed-found (a .front) (a .total) (t .before .place .given .1) (omega arith) (omega arith) (omega arith) (omega arith)
+
+pub placed-at-spec : {M : Type 1} → statement M
+placed-at-spec =
+    tie.close
+    (tie.spec
+    enum-told
+    enum-told-2
+    enum-known-place
+    returns
+    returns-2
+    returns-3
+    add-if4
+    returns-4
+    returns-5
+    returns-6
+    returns-7)

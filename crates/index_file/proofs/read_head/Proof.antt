@@ -1,0 +1,111 @@
+-- Each return is one case of the reading of the head: the column number, the columns, the redundant length, what is answered of the place.
+use native.Mathlib.Omega.{arith}
+use borrow.Author.Needs.{needs}
+use Rattle.index_file.proofs.Positions.{head-count, head-columns, head-redundant, head-end, head-placed}
+use Rattle.index_file.proofs.read_head.Statement.{statement}
+use Rattle.index_file.proofs.read_head.Tie as tie
+
+count-at-requires : tie.Need-count-at-requires
+count-at-requires c κs = search needs
+
+enum-known-f : tie.Need-enum-known-f
+enum-known-f c = search needs
+
+enum-told : tie.Need-enum-told
+enum-told c = search needs
+
+returns : tie.Need-returns
+returns c =
+    let m = c .before .before in
+    let a = m .before .before .before .before .args in
+    head-count (a .column .now) (a .kind .now) (a .s .now) (a .total) (m .count-at .ensures) (c .enum-told .given .1)
+
+columns-at-requires : tie.Need-columns-at-requires
+columns-at-requires c κs = omega (arith, (rw (c .before .f .given .1) at (c .before .before .before .count-at .ensures)) .0)
+
+enum-known-w : tie.Need-enum-known-w
+enum-known-w c = search needs
+
+enum-told-2 : tie.Need-enum-told-2
+enum-told-2 c = search needs
+
+returns-2 : tie.Need-returns-2
+returns-2 c =
+    let w = c .before .before in
+    let f = w .before .before in
+    let m = f .before .before in
+    let a = m .before .before .before .before .args in
+    head-columns (a .column .now) (a .kind .now) (a .s .now) (a .total) (m .count-at .ensures) (f .f .given .1) (w .columns-at .ensures) (c .enum-told2 .given .1)
+
+count-at-requires-2 : tie.Need-count-at-requires-2
+count-at-requires-2 c κs = (rw (c .before .w .given .1) at (c .before .before .before .columns-at .ensures)) .0
+
+enum-known-g : tie.Need-enum-known-g
+enum-known-g c = search needs
+
+enum-told-3 : tie.Need-enum-told-3
+enum-told-3 c = search needs
+
+returns-3 : tie.Need-returns-3
+returns-3 c =
+    let g = c .before .before in
+    let v = g .before .before in
+    let w = v .before .before in
+    let f = w .before .before in
+    let m = f .before .before in
+    let a = m .before .before .before .before .args in
+    head-redundant (a .column .now) (a .kind .now) (a .s .now) (a .total) (m .count-at .ensures) (f .f .given .1) (v .w .given .1) (w .columns-at .ensures) (g .count-at2 .ensures) (c .enum-told3 .given .1)
+
+add-if1 : tie.Need-add-if1
+add-if1 c = omega (arith, (rw (c .before .g .given .1) at (c .before .before .before .count-at2 .ensures)) .0)
+
+sub-if1 : tie.Need-sub-if1
+sub-if1 c = (rw (c .before .g .given .1) at (c .before .before .before .count-at2 .ensures)) .0
+
+returns-4 : tie.Need-returns-4
+returns-4 c =
+    let r = c .before .before in
+    let g = r .before .before in
+    let v = g .before .before in
+    let w = v .before .before in
+    let f = w .before .before in
+    let m = f .before .before in
+    let a = m .before .before .before .before .args in
+    head-end (a .column .now) (a .kind .now) (a .s .now) (a .total) (m .count-at .ensures) (f .f .given .1) (v .w .given .1) (w .columns-at .ensures) (r .g .given .1) (g .count-at2 .ensures) (omega arith)
+
+placed-at-requires : tie.Need-placed-at-requires
+placed-at-requires c κs = search needs
+
+returns-5 : tie.Need-returns-5
+returns-5 c =
+    let r = c .before .before .before in
+    let g = r .before .before in
+    let v = g .before .before in
+    let w = v .before .before in
+    let f = w .before .before in
+    let m = f .before .before in
+    let a = m .before .before .before .before .args in
+    head-placed (a .column .now) (a .kind .now) (a .s .now) (a .total) (m .count-at .ensures) (f .f .given .1) (v .w .given .1) (w .columns-at .ensures) (r .g .given .1) (g .count-at2 .ensures) (omega arith)
+    (c .placed-at .ensures)
+
+pub read-head-spec : {M : Type 1} → statement M
+read-head-spec =
+    tie.close
+    (tie.spec
+    count-at-requires
+    enum-known-f
+    enum-told
+    returns
+    columns-at-requires
+    enum-known-w
+    enum-told-2
+    returns-2
+    count-at-requires-2
+    enum-known-g
+    enum-told-3
+    returns-3
+    add-if1
+    sub-if1
+    returns-4
+    placed-at-requires
+    returns-5)

@@ -1,0 +1,52 @@
+-- `poddurance_locate` meets its contract: the answer of Locate on the buffer that is looked at, case by case.
+use mathlib.Core.Path.{refl, sym, _∙_}
+use Rattle.poddurance.specs.Reading.{foundStart, foundLength}
+use borrow.Author.Needs.{needs}
+use Rattle.poddurance.proofs.poddurance_locate.Statement.{statement}
+use Rattle.poddurance.proofs.poddurance_locate.Tie as tie
+
+find-requires : tie.Need-find-requires
+find-requires c κs = search needs
+
+enum-known-answer : tie.Need-enum-known-answer
+enum-known-answer c = search needs
+
+enum-told : tie.Need-enum-told
+enum-told c = search needs
+
+enum-known-answer-2 : tie.Need-enum-known-answer-2
+enum-known-answer-2 c = search needs
+
+number-requires : tie.Need-number-requires
+number-requires c κs = search needs
+
+returns : tie.Need-returns
+unfolding foundStart foundLength
+returns c =
+    let e = sym (c .before .before .before .find .ensures) ∙ c .before .answer .given .1 in
+    (rw e refl, rw e refl, rw e refl)
+
+returns-2 : tie.Need-returns-2
+unfolding foundStart foundLength
+returns-2 c =
+    let e = sym (c .before .before .find .ensures) ∙ c .enum-told .given .1 in
+    (rw e refl, rw e refl, rw e refl)
+
+returns-3 : tie.Need-returns-3
+unfolding foundStart foundLength
+returns-3 c =
+    let e = sym (c .before .before .before .before .find .ensures) ∙ c .before .before .answer2 .given .1 in
+    (rw e (c .number .ensures), rw e refl, rw e refl)
+
+pub poddurance-locate-spec : {M : Type 1} → statement M
+poddurance-locate-spec =
+    tie.close
+    (tie.spec
+    find-requires
+    enum-known-answer
+    enum-told
+    enum-known-answer-2
+    number-requires
+    returns
+    returns-2
+    returns-3)

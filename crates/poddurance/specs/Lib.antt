@@ -1,0 +1,2 @@
+-- What the exported functions answer: the number and the counts of each case.
+pub mod Reading

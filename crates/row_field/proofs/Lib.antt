@@ -1,0 +1,3 @@
+-- Laws that only the proofs of `row_field` need.
+pub mod ByteRows
+pub mod RunRows

@@ -1,0 +1,144 @@
+-- The rows of a run, byte by byte. Assumes nothing.
+use Prim.Native.Nat.{ℕ, zero, suc, _+_, _-_, _*_, _/_, _%_, _^_, _<_, _≤_, min}
+use mathlib.Core.Path.{_≡_, refl, sym, _∙_, subst}
+use mathlib.Core.Bool.{Bool, false, _||_, or-assoc}
+use mathlib.Core.List.{List, [], _++_}
+use native.Mathlib.Nat.{pow-suc, zero-add, add-zero, suc-add, mul-one, sub-zero}
+use native.Mathlib.Decide.{decLe}
+use native.Mathlib.Omega.{arith}
+use lib.ListN.{length}
+use lib.Pow.{pow-pos, high-ones}
+use lib.Bits.{shifted-half, shifted-even}
+use Rattle.row_field.specs.Meaning.{markAll, anySet, upTo}
+use Rattle.row_field.specs.Bytes.{anySeen, byteRows}
+use Rattle.row_field.specs.Marks.{Rising, upTo-rising, upTo-append, anySeen-rising, anySeen-append, markAll-append, anySet-out, markAll-out, seen-done}
+use Rattle.row_field.proofs.ByteRows.{byteRows-odd, byteRows-even, byteRows-rising}
+
+-- ---- the rows of bits in a row
+
+no-rows : (a k : ℕ) → byteRows 0 a k ≡ []
+unfolding byteRows
+no-rows a zero = refl
+no-rows a (suc k) = no-rows (a + 1) k
+
+all-rows : (a c k : ℕ) → byteRows (2 ^ c - 1) a (c + k) ≡ upTo a c
+unfolding upTo
+all-rows a zero k = rw zero-add (no-rows a k)
+all-rows a (suc c) k =
+    let p = pow-pos c in
+    let q = pow-suc 2 c in
+    let o : (2 ^ suc c - 1) % 2 ≡ 1 = omega arith in
+    let h : (2 ^ suc c - 1) / 2 ≡ 2 ^ c - 1 = omega arith in
+    rw (suc-add c k, byteRows-odd (2 ^ suc c - 1) a (c + k) o, h, all-rows (a + 1) c k)
+
+later-rows : (y a l k : ℕ) → byteRows (y * 2 ^ l) a (l + k) ≡ byteRows y (a + l) k
+later-rows y a zero k = rw (zero-add, add-zero, mul-one)
+later-rows y a (suc l) k =
+    let e : a + 1 + l ≡ a + suc l = omega arith in
+    rw (suc-add l k, byteRows-even (y * 2 ^ suc l) a (l + k) (shifted-even y l), shifted-half y l, later-rows y (a + 1) l k, e)
+
+between-rows : (a low high : ℕ) → low ≤ high → high < 8 → byteRows (2 ^ (high + 1) - 2 ^ low) a 8 ≡ upTo (a + low) (high + 1 - low)
+between-rows a low high h g =
+    let c = high + 1 - low in
+    let k = 7 - high in
+    let e : c + low ≡ high + 1 = omega arith in
+    let n : 8 ≡ low + (c + k) = omega arith in
+    let b : 2 ^ (high + 1) - 2 ^ low ≡ (2 ^ c - 1) * 2 ^ low = subst (λ (x : ℕ). 2 ^ x - 2 ^ low ≡ (2 ^ c - 1) * 2 ^ low) e (high-ones c low) in
+    rw (b, n, later-rows (2 ^ c - 1) a low (c + k), all-rows (a + low) c k)
+
+-- ---- the rows of whole bytes
+
+pub bytes-next : (to i : ℕ) → i < to → upTo (i * 8) ((to - i) * 8) ≡ byteRows 255 (i * 8) 8 ++ upTo ((i + 1) * 8) ((to - (i + 1)) * 8)
+bytes-next to i h =
+    let e : (to - i) * 8 ≡ 8 + (to - (i + 1)) * 8 = omega arith in
+    let d : i * 8 + 8 ≡ (i + 1) * 8 = omega arith in
+    rw (e, upTo-append (i * 8) 8 ((to - (i + 1)) * 8), d, all-rows (i * 8) 8 0)
+
+-- nothing is left that the field has
+bytes-left : (f : List ℕ) (to i : ℕ) → min (length f) to ≤ i → Dec (length f ≤ i) → Rising (length f * 8) (upTo (i * 8) ((to - i) * 8))
+unfolding upTo
+bytes-left f to i h (yes l) = upTo-rising (length f * 8) (i * 8) ((to - i) * 8) (omega arith)
+bytes-left f to i h (no l) =
+    let e : (to - i) * 8 ≡ 0 = omega arith in
+    rw e tt
+
+pub bytes-done : (f : List ℕ) (to i : ℕ) → min (length f) to ≤ i → Rising (length f * 8) (upTo (i * 8) ((to - i) * 8))
+bytes-done f to i h = bytes-left f to i h (decLe (length f) i)
+
+-- ---- a run: within one byte, or in a first byte, whole bytes and a last byte
+
+module _ (a z : ℕ) (h : a ≤ z) where
+  pub run-one : a / 8 ≡ z / 8 → upTo a (z + 1 - a) ≡ byteRows (2 ^ (z % 8 + 1) - 2 ^ (a % 8)) (a / 8 * 8) 8
+  run-one e =
+      let s : a / 8 * 8 + a % 8 ≡ a = omega arith in
+      let n : z % 8 + 1 - a % 8 ≡ z + 1 - a = omega arith in
+      sym (between-rows (a / 8 * 8) (a % 8) (z % 8) (omega arith) (omega arith) ∙ rw (s, n))
+
+  pub run-parts : a / 8 < z / 8
+      → upTo a (z + 1 - a) ≡ byteRows (2 ^ 8 - 2 ^ (a % 8)) (a / 8 * 8) 8 ++ (upTo ((a / 8 + 1) * 8) ((z / 8 - (a / 8 + 1)) * 8) ++ byteRows (2 ^ (z % 8 + 1) - 2 ^ 0) (z / 8 * 8) 8)
+  run-parts l =
+      let m = (z / 8 - (a / 8 + 1)) * 8 in
+      let s : a / 8 * 8 + a % 8 ≡ a = omega arith in
+      let b : byteRows (2 ^ 8 - 2 ^ (a % 8)) (a / 8 * 8) 8 ≡ upTo a (8 - a % 8) = rw s at (between-rows (a / 8 * 8) (a % 8) 7 (omega arith) (omega arith)) in
+      let e : byteRows (2 ^ (z % 8 + 1) - 2 ^ 0) (z / 8 * 8) 8 ≡ upTo (z / 8 * 8) (z % 8 + 1) = between-rows (z / 8 * 8) 0 (z % 8) (omega arith) (omega arith) ∙ rw (add-zero, sub-zero) in
+      let k : z + 1 - a ≡ (8 - a % 8) + (m + (z % 8 + 1)) = omega arith in
+      let p : a + (8 - a % 8) ≡ (a / 8 + 1) * 8 = omega arith in
+      let q : (a / 8 + 1) * 8 + m ≡ z / 8 * 8 = omega arith in
+      rw (b, e, k, upTo-append a (8 - a % 8) (m + (z % 8 + 1)), p, upTo-append ((a / 8 + 1) * 8) m (z % 8 + 1), q)
+
+-- ---- what the code computes of a run, said by the definitions
+
+abbrev run : ℕ → ℕ → List ℕ
+run a z = upTo a (z + 1 - a)
+
+module _ (f : List ℕ) (a z : ℕ) where
+  run-rising : anySet f (run a z) ≡ anySeen f (run a z)
+  run-rising = sym (anySeen-rising f 0 (run a z) (upTo-rising 0 a (z + 1 - a) (omega arith)))
+
+  pub run-none : z < a → (false ≡ anySet f (run a z)) × (f ≡ markAll f (run a z))
+  unfolding upTo anySet markAll
+  run-none l =
+      let e : z + 1 - a ≡ 0 = omega arith in
+      (rw e, rw e)
+
+  pub run-out : length f ≤ a / 8 → (false ≡ anySet f (run a z)) × (f ≡ markAll f (run a z))
+  run-out l =
+      let r = upTo-rising (length f * 8) a (z + 1 - a) (omega arith) in
+      (sym (anySet-out f (length f * 8) (run a z) (omega arith) r), sym (markAll-out f (length f * 8) (run a z) (omega arith) r))
+
+  pub run-one-seen : a ≤ z → a / 8 ≡ z / 8 → anySet f (run a z) ≡ anySeen f (byteRows (2 ^ (z % 8 + 1) - 2 ^ (a % 8)) (a / 8 * 8) 8)
+  run-one-seen h e = run-rising ∙ rw (run-one a z h e)
+
+  pub run-one-marked : a ≤ z → a / 8 ≡ z / 8 → markAll f (run a z) ≡ markAll f (byteRows (2 ^ (z % 8 + 1) - 2 ^ (a % 8)) (a / 8 * 8) 8)
+  run-one-marked h e = rw (run-one a z h e)
+
+abbrev head : ℕ → List ℕ
+head a = byteRows (2 ^ 8 - 2 ^ (a % 8)) (a / 8 * 8) 8
+
+abbrev middle : ℕ → ℕ → List ℕ
+middle a z = upTo ((a / 8 + 1) * 8) ((z / 8 - (a / 8 + 1)) * 8)
+
+abbrev tail : ℕ → List ℕ
+tail z = byteRows (2 ^ (z % 8 + 1) - 2 ^ 0) (z / 8 * 8) 8
+
+module _ (f : List ℕ) (a z : ℕ) (h : a ≤ z) (l : a / 8 < z / 8) where
+  pub run-seen : anySet f (run a z)
+      ≡ (anySeen f (head a) || anySeen (markAll f (head a)) (middle a z)) || anySeen (markAll (markAll f (head a)) (middle a z)) (tail z)
+  run-seen =
+      run-rising f a z
+      ∙ rw (run-parts a z h l, anySeen-append f (head a) (middle a z ++ tail z), anySeen-append (markAll f (head a)) (middle a z) (tail z))
+      (sym (or-assoc (anySeen f (head a)) (anySeen (markAll f (head a)) (middle a z)) (anySeen (markAll (markAll f (head a)) (middle a z)) (tail z))))
+
+  pub run-marked : markAll f (run a z) ≡ markAll (markAll (markAll f (head a)) (middle a z)) (tail z)
+  run-marked = rw (run-parts a z h l, markAll-append f (head a) (middle a z ++ tail z), markAll-append (markAll f (head a)) (middle a z) (tail z))
+
+-- a last byte past the end
+module _ (g : List ℕ) (z : ℕ) (l : length g ≤ z / 8) where
+  tail-rising : Rising (length g * 8) (tail z)
+  tail-rising = byteRows-rising (2 ^ (z % 8 + 1) - 2 ^ 0) (length g * 8) (z / 8 * 8) 8 (omega arith)
+
+  pub tail-seen : (b : Bool) → b || anySeen g (tail z) ≡ b
+  tail-seen b = seen-done g (length g * 8) (tail z) b (omega arith) tail-rising
+
+  pub tail-marked : markAll g (tail z) ≡ g
+  tail-marked = markAll-out g (length g * 8) (tail z) (omega arith) tail-rising

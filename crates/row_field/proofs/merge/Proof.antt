@@ -1,0 +1,90 @@
+-- `merge` meets its contract. The loop's invariant: the rows of the bytes that are left, marked and asked about from here, give the whole (`rows-next`, `rows-done`). Assumes nothing.
+use Prim.Native.Nat.{_+_, _-_, _*_, _≤_}
+use mathlib.Core.Path.{_≡_, refl}
+use mathlib.Core.Bool.{_||_}
+use native.Mathlib.Nat.{sub-zero}
+use native.Mathlib.Omega.{arith}
+use borrow.Author.Needs.{needs}
+use lib.ListN.{length, getD}
+use Rattle.row_field.specs.Meaning.{markAll, anySet, rowsFrom, rowsOf}
+use Rattle.row_field.specs.Bytes.{anySeen, byteRows}
+use Rattle.row_field.specs.Marks.{anySeen-rising, rowsFrom-rising, seen-next, marked-next, seen-done, markAll-out}
+use Rattle.row_field.proofs.ByteRows.{rows-next, rows-done}
+use Rattle.row_field.proofs.merge.Statement.{statement}
+use Rattle.row_field.proofs.merge.Tie as tie
+
+abbrev Inv-loop : tie.InvT-loop
+Inv-loop field₀ rows end seen₀ i₀ field seen i =
+    (i ≤ end) × (length field ≡ length field₀)
+    × (seen || anySeen field (rowsFrom rows (i * 8) ((length rows - i) * 8)) ≡ anySet field₀ (rowsOf rows))
+    × (markAll field (rowsFrom rows (i * 8) ((length rows - i) * 8)) ≡ markAll field₀ (rowsOf rows))
+
+abbrev μ-loop : tie.MeasureT-loop
+μ-loop field₀ rows end seen₀ i₀ field seen i = end - i
+
+smaller-requires : tie.Need-smaller-requires Inv-loop μ-loop
+smaller-requires c κs = search needs
+
+loop-holds : tie.Need-loop-holds Inv-loop μ-loop
+loop-holds c =
+    let a = c .before .before .before .args in (
+      omega arith,
+      refl,
+      rw sub-zero (anySeen-rising (a .field .now) 0 (rowsOf (a .rows .now)) (rowsFrom-rising (a .rows .now) 0 0 (length (a .rows .now) * 8) (omega arith))),
+      rw sub-zero,
+    )
+
+shared-slice-read-mark-byte : tie.Need-shared-slice-read-mark-byte Inv-loop μ-loop
+shared-slice-read-mark-byte c = omega arith
+
+mark-byte-requires : tie.Need-mark-byte-requires Inv-loop μ-loop
+mark-byte-requires c κs = search needs
+
+add-i : tie.Need-add-i Inv-loop μ-loop
+add-i c = omega arith
+
+loop-less : tie.Need-loop-less Inv-loop μ-loop
+loop-less c = omega arith
+
+loop-again : tie.Need-loop-again Inv-loop μ-loop
+loop-again c =
+    let t = c .before .before .before .before .before in
+    let l = t .before .loop in
+    let rows = t .before .before .before .before .before .args .rows .now in
+    let part = byteRows (getD rows (l .i) 0) (l .i * 8) 8 in
+    let rest = rowsFrom rows ((l .i + 1) * 8) ((length rows - (l .i + 1)) * 8) in
+    let e = rows-next rows (length rows) (l .i) (omega arith) in (
+      omega arith,
+      omega arith,
+      cc (seen-next (l .field) (rowsFrom rows (l .i * 8) ((length rows - l .i) * 8)) part rest (l .seen) e),
+      cc (marked-next (l .field) (rowsFrom rows (l .i * 8) ((length rows - l .i) * 8)) part rest e),
+    )
+
+same-length : tie.Need-same-length Inv-loop μ-loop
+same-length c = omega arith
+
+returns : tie.Need-returns Inv-loop μ-loop
+returns c =
+    let l = c .before .loop in
+    let rows = c .before .before .before .before .before .args .rows .now in
+    let rest = rowsFrom rows (l .i * 8) ((length rows - l .i) * 8) in
+    let d = rows-done (l .field) rows (l .i) (omega arith) in (
+      cc (seen-done (l .field) (length (l .field) * 8) rest (l .seen) (omega arith) d),
+      cc (markAll-out (l .field) (length (l .field) * 8) rest (omega arith) d),
+    )
+
+pub merge-spec : {M : Type 1} → statement M
+merge-spec =
+    tie.close
+    (tie.spec
+    Inv-loop
+    μ-loop
+    smaller-requires
+    loop-holds
+    shared-slice-read-mark-byte
+    mark-byte-requires
+    add-i
+    loop-less
+    loop-again
+    same-length
+    returns)

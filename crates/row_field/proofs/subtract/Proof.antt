@@ -1,0 +1,84 @@
+-- `row_field::subtract` meets its contract: each answer from the tests that led to it, the last from what `subtract_rows` and `count` ensure.
+-- Assumes nothing.
+use mathlib.Core.Path.{_≡_, refl, sym, _∙_}
+use mathlib.Core.Bool.{true, false}
+use lib.Dec.{leb}
+use lib.ListN.{length}
+use borrow.Author.Tests.{le-leb, lt-leb, leb-true, not-true, not-false}
+use Rattle.refusal.specs.Meaning.{limit}
+use Rattle.row_field.specs.Meaning.{size}
+use Rattle.row_field.specs.Reading.{need, subtraction, fieldAfter}
+use borrow.Author.Needs.{needs}
+use Rattle.row_field.proofs.subtract.Statement.{statement}
+use Rattle.row_field.proofs.subtract.Tie as tie
+
+returns : tie.Need-returns
+unfolding subtraction fieldAfter need
+returns c = (rw (lt-leb _ limit (c .if1 .taken)), refl)
+
+has-room-requires : tie.Need-has-room-requires
+has-room-requires c κs = search needs
+
+same-length : tie.Need-same-length
+same-length c = search needs
+
+returns-2 : tie.Need-returns-2
+unfolding subtraction fieldAfter need
+returns-2 c =
+    let l = le-leb _ limit (c .before .before .before .if1 .left) in
+    let a = c .before .before .before .before .before .before .args in
+    let f : leb (size (a .rows)) (length (a .first .now)) ≡ false = sym (c .before .has-room .ensures) ∙ not-true _ (c .if2 .taken) in
+    (rw (l, f), refl)
+
+has-room-requires-2 : tie.Need-has-room-requires-2
+has-room-requires-2 c κs = search needs
+
+same-length-2 : tie.Need-same-length-2
+same-length-2 c = search needs
+
+returns-3 : tie.Need-returns-3
+unfolding subtraction fieldAfter need
+returns-3 c =
+    let l = le-leb _ limit (c .before .before .before .before .before .if1 .left) in
+    let a = c .before .before .before .before .before .before .before .before .args in
+    let f : leb (size (a .rows)) (length (a .first .now)) ≡ true = sym (c .before .before .before .has-room .ensures) ∙ not-false _ (c .before .before .if2 .left) in
+    let g : leb (size (a .rows)) (length (a .second .now)) ≡ false = sym (c .before .has-room2 .ensures) ∙ not-true _ (c .if3 .taken) in
+    (rw (l, f, g), refl)
+
+subtract-rows-requires : tie.Need-subtract-rows-requires
+subtract-rows-requires c κs =
+    let f = leb-true _ _ (sym (c .before .before .before .before .has-room .ensures) ∙ not-false _ (c .before .before .before .if2 .left)) in
+    let g = leb-true _ _ (sym (c .before .before .has-room2 .ensures) ∙ not-false _ (c .before .if3 .left)) in
+    (f, g)
+
+count-requires : tie.Need-count-requires
+count-requires c κs = search needs
+
+same-length-3 : tie.Need-same-length-3
+same-length-3 c = search needs
+
+returns-4 : tie.Need-returns-4
+unfolding subtraction fieldAfter need
+returns-4 c =
+    let l = le-leb _ limit (c .before .before .before .before .before .before .before .before .before .before .before .if1 .left) in
+    let a = c .before .before .before .before .before .before .before .before .before .before .before .before .before .before .args in
+    let f : leb (size (a .rows)) (length (a .first .now)) ≡ true = sym (c .before .before .before .before .before .before .before .before .before .has-room .ensures) ∙ not-false _ (c .before .before .before .before .before .before .before .before .if2 .left) in
+    let g : leb (size (a .rows)) (length (a .second .now)) ≡ true = sym (c .before .before .before .before .before .before .before .has-room2 .ensures) ∙ not-false _ (c .before .before .before .before .before .before .if3 .left) in
+    let t = c .before .before .before .before .subtract-rows .ensures in
+    (rw (l, f, g, ← t .field, ← t .rows, c .count .ensures), t .field)
+
+pub subtract-spec : {M : Type 1} → statement M
+subtract-spec =
+    tie.close
+    (tie.spec
+    returns
+    has-room-requires
+    same-length
+    returns-2
+    has-room-requires-2
+    same-length-2
+    returns-3
+    subtract-rows-requires
+    count-requires
+    same-length-3
+    returns-4)

@@ -1,0 +1,120 @@
+-- Laws of `bit` and `mark`: binary digits of a byte, and a field with one more row. Assumes nothing.
+use Prim.Native.Nat.{ℕ, zero, suc, _+_, _-_, _*_, _/_, _%_, _^_, _<_, _≤_, max}
+use mathlib.Core.Path.{_≡_, refl, sym, ap, _∙_, subst}
+use mathlib.Core.Logic.{_≢_}
+use mathlib.Core.Bool.{Bool, true, false, not}
+use mathlib.Core.List.{List, [], _∷_}
+use native.Mathlib.Nat.{pow-suc, div-eq-of-lt, mul-mod-left, div-self, zero-mul, one-mul, mod-eq-of-lt, zero-div}
+use native.Mathlib.Decide.{decLt, ℕ-discrete}
+use native.Mathlib.Omega.{arith}
+use lib.Dec.{eqb}
+use lib.ListN.{length, getD, set, length-set, List·getD-eq-default}
+use lib.Seq.{getD-set-same, getD-set-other, set-out}
+use lib.Pow.{pow-pos, pow-lt, pow-add, shl-shr}
+use lib.Bits.{bitOr, bitAnd, or-shr, or-step, or-lt, and-high}
+use borrow.Author.Tests.{ne-eqb}
+use Rattle.numbers.specs.Laws.{Bytes}
+use Rattle.row_field.specs.Meaning.{bit, mark}
+
+-- the binary digit of b of weight 2 ^ k
+abbrev pub digit : ℕ → ℕ → ℕ
+digit b k = b / 2 ^ k % 2
+
+-- ---- binary digits
+
+or-digit : (a b k : ℕ) → digit (bitOr a b) k ≡ max (digit a k) (digit b k)
+or-digit a b k =
+    rw (or-shr, or-step (a / 2 ^ k) (b / 2 ^ k)) (omega arith)
+
+pub pow-digit-same : (k : ℕ) → digit (2 ^ k) k ≡ 1
+pow-digit-same k = rw (div-self (pow-pos k))
+
+pow-digit-more : (k j : ℕ) → digit (2 ^ (suc j + k)) k ≡ 0
+pow-digit-more k j = rw (pow-add, shl-shr, pow-suc, mul-mod-left)
+
+pow-digit-other-go : (k j : ℕ) → k ≢ j → Dec (k < j) → digit (2 ^ k) j ≡ 0
+pow-digit-other-go k j n (yes h) = rw (div-eq-of-lt (pow-lt h))
+pow-digit-other-go k j n (no h) =
+    let e : suc (k - suc j) + j ≡ k = omega arith in
+    subst (λ (x : ℕ). digit (2 ^ x) j ≡ 0) e (pow-digit-more j (k - suc j))
+
+pub pow-digit-other : (k j : ℕ) → k ≢ j → digit (2 ^ k) j ≡ 0
+pow-digit-other k j n = pow-digit-other-go k j n (decLt k j)
+
+with-digit-same : (b k : ℕ) → digit (bitOr b (2 ^ k)) k ≡ 1
+with-digit-same b k = rw (or-digit, pow-digit-same) (omega arith)
+
+with-digit-other : (b k j : ℕ) → k ≢ j → digit (bitOr b (2 ^ k)) j ≡ digit b j
+with-digit-other b k j n = rw (or-digit, pow-digit-other k j n) (omega arith)
+
+and-digit : (b k : ℕ) → bitAnd b (2 ^ k) ≡ digit b k * 2 ^ k
+and-digit b k =
+    let e : 2 ^ (1 + k) - 2 ^ k ≡ 2 ^ k = rw pow-add (omega arith) in
+    subst (λ (x : ℕ). bitAnd b x ≡ digit b k * 2 ^ k) e (and-high b 1 k)
+
+-- the code's test of a bit
+and-test-go : (b k : ℕ) → Dec (digit b k ≡ 1) → not (eqb (bitAnd b (2 ^ k)) 0) ≡ eqb (digit b k) 1
+and-test-go b k (yes e) = rw (and-digit, e, ne-eqb (1 * 2 ^ k) 0 (omega (arith, pow-pos k)))
+and-test-go b k (no n) =
+    let z : digit b k ≡ 0 = omega arith in
+    rw (and-digit, z, zero-mul)
+
+pub and-test : (b k : ℕ) → not (eqb (bitAnd b (2 ^ k)) 0) ≡ eqb (digit b k) 1
+and-test b k = and-test-go b k (ℕ-discrete (digit b k) 1)
+
+-- the code's weight of a bit, `1u8 << (r % 8)`
+pub weight : (r : ℕ) → 1 * 2 ^ (r % 8) % 256 ≡ 2 ^ (r % 8)
+weight r =
+    let m : r % 8 < 8 = omega arith in
+    rw one-mul (mod-eq-of-lt (pow-lt m))
+
+-- what the code computes of a row, said by the definitions
+pub mark-answer : (s : List ℕ) (r : ℕ) → not (eqb (bitAnd (getD s (r / 8) 0) (1 * 2 ^ (r % 8) % 256)) 0) ≡ bit s r
+unfolding bit
+mark-answer s r = rw (weight r) (and-test (getD s (r / 8) 0) (r % 8))
+
+pub mark-store : (s : List ℕ) (r : ℕ) → set s (r / 8) (bitOr (getD s (r / 8) 0) (1 * 2 ^ (r % 8) % 256)) ≡ mark s r
+unfolding mark
+mark-store s r = rw (weight r)
+
+-- ---- a field with one more row
+
+pub length-mark : (s : List ℕ) (r : ℕ) → length (mark s r) ≡ length s
+unfolding mark
+length-mark s r = simp length-set
+
+pub bit-mark-same : (s : List ℕ) (r : ℕ) → r / 8 < length s → bit (mark s r) r ≡ true
+unfolding bit mark
+bit-mark-same s r h =
+    rw (getD-set-same s (r / 8) _ 0 h, with-digit-same (getD s (r / 8) 0) (r % 8))
+
+other-go : (s : List ℕ) (r q : ℕ) → q ≢ r → Dec (q / 8 ≡ r / 8) → Dec (r / 8 < length s) → bit (mark s r) q ≡ bit s q
+unfolding bit mark
+other-go s r q n (no d) h = rw (getD-set-other s (r / 8) (q / 8) _ 0 d)
+other-go s r q n (yes e) (no h) = rw (set-out s (r / 8) _ (omega arith))
+other-go s r q n (yes e) (yes h) =
+    let m : r % 8 ≢ q % 8 = omega arith in
+    rw (e, getD-set-same s (r / 8) _ 0 h, with-digit-other (getD s (r / 8) 0) (r % 8) (q % 8) m)
+
+pub bit-mark-other : (s : List ℕ) (r q : ℕ) → q ≢ r → bit (mark s r) q ≡ bit s q
+bit-mark-other s r q n = other-go s r q n (ℕ-discrete (q / 8) (r / 8)) (decLt (r / 8) (length s))
+
+bytes-go : (s : List ℕ) (r i : ℕ) → Bytes s → Dec (i ≡ r / 8) → Dec (r / 8 < length s) → getD (mark s r) i 0 < 256
+unfolding mark
+bytes-go s r i b (no d) h = rw (getD-set-other s (r / 8) i _ 0 d) (b i)
+bytes-go s r i b (yes e) (no h) = rw (set-out s (r / 8) _ (omega arith)) (b i)
+bytes-go s r i b (yes e) (yes h) =
+    let m : r % 8 < 8 = omega arith in
+    rw (e, getD-set-same s (r / 8) _ 0 h) (or-lt 8 _ _ (b (r / 8)) (pow-lt m))
+
+pub bytes-mark : (s : List ℕ) (r : ℕ) → Bytes s → Bytes (mark s r)
+bytes-mark s r b i = bytes-go s r i b (ℕ-discrete i (r / 8)) (decLt (r / 8) (length s))
+
+-- a row past the end is not set, and stays so
+pub bit-out : (s : List ℕ) (r : ℕ) → length s ≤ r / 8 → bit s r ≡ false
+unfolding bit
+bit-out s r h = rw (List·getD-eq-default s 0 h, zero-div (2 ^ (r % 8)))
+
+pub mark-out : (s : List ℕ) (r : ℕ) → length s ≤ r / 8 → mark s r ≡ s
+unfolding mark
+mark-out s r h = set-out s (r / 8) _ h

@@ -1,0 +1,215 @@
+-- What the code's answers and the turns of its loops see of the definitions. Assumes nothing.
+use Prim.Native.Nat.{ℕ, suc, _+_, _-_, _*_, _^_, _<_, _≤_}
+use mathlib.Core.Path.{_≡_, refl, ap, _∙_}
+use mathlib.Core.Bool.{Bool, true, false, _&&_, _||_, cond}
+use mathlib.Core.List.{List, [], _∷_, _++_}
+use native.Mathlib.Nat.{add-zero}
+use native.Mathlib.Numerals.{add-one}
+use native.Mathlib.Omega.{arith}
+use native.Mathlib.Decide.{decLt, ℕ-discrete}
+use lib.Dec.{eqb, ltb, leb}
+use lib.ListN.{length, getD, take, drop, length-drop, drop-of-length-le}
+use lib.Seq.{drop-cons, drop-drop, getD-drop}
+use borrow.Author.Tests.{eq-eqb, ne-eqb, le-leb, lt-leb, lt-ltb, le-ltb}
+use Rattle.numbers.specs.Meaning.{beAt, big}
+use Rattle.numbers.specs.Laws.{Bytes, bytes-drop, number-at, number-short}
+use Rattle.refusal.specs.declared.Refusal.{Refusal}
+use Rattle.refusal.specs.declared.Refusal.the-variants.{Literal, Limit}
+use Rattle.stored_value.specs.declared.Sized.{Sized}
+use Rattle.stored_value.specs.Meaning.{width, isString, booleanOk, same, rank, bytesLess, less}
+use Rattle.stored_value.specs.Reading.{Out, refuse, ok, check, valueSize, literals}
+use Rattle.stored_value.specs.Code.{sizedBy}
+use Rattle.stored_value.specs.Laws.{same→eq, stringSize, size-number, size-string, value-read, literals-end, literals-full, literals-refused, literals-next}
+
+-- ---- `same`
+
+module _ (a b : List ℕ) where
+  same-step : (i : ℕ) → i < length a → i < length b
+      → same (drop i a) (drop i b) ≡ eqb (getD a i 0) (getD b i 0) && same (drop (i + 1) a) (drop (i + 1) b)
+  unfolding same
+  same-step i h g = rw (add-one, drop-cons a i 0 h, drop-cons b i 0 g)
+
+  pub same-next : (i : ℕ) → i < length a → i < length b → getD a i 0 ≡ getD b i 0 → same (drop i a) (drop i b) ≡ same (drop (i + 1) a) (drop (i + 1) b)
+  same-next i h g e = same-step i h g ∙ rw (eq-eqb (getD a i 0) (getD b i 0) e)
+
+  pub same-ends : (i : ℕ) → i < length a → i < length b → (getD a i 0 ≡ getD b i 0 → ⊥) → same (drop i a) (drop i b) ≡ false
+  same-ends i h g n = same-step i h g ∙ rw (ne-eqb (getD a i 0) (getD b i 0) n)
+
+  pub same-done : (i : ℕ) → length a ≤ i → length b ≤ i → same (drop i a) (drop i b) ≡ true
+  unfolding same
+  same-done i h g = rw (drop-of-length-le a h, drop-of-length-le b g)
+
+  pub same-other : (length a ≡ length b → ⊥) → same a b ≡ false
+  same-other n = by (same a b) refl
+    where
+      by : (x : Bool) → same a b ≡ x → x ≡ false
+      by true e = absurd (n (ap length (same→eq a b e)))
+      by false e = refl
+
+-- ---- `bytes_less`
+
+module _ (a b : List ℕ) (i : ℕ) where
+  pub less-past : i < length a → length b ≤ i → bytesLess (drop i a) (drop i b) ≡ false
+  unfolding bytesLess
+  less-past h g = rw (drop-cons a i 0 h, drop-of-length-le b g)
+
+  pub less-end : length a ≤ i → bytesLess (drop i a) (drop i b) ≡ ltb i (length b)
+  unfolding bytesLess
+  less-end h = by (decLt i (length b))
+    where
+      by : Dec (i < length b) → bytesLess (drop i a) (drop i b) ≡ ltb i (length b)
+      by (yes g) = rw (drop-of-length-le a h, drop-cons b i 0 g, lt-ltb i (length b) g)
+      by (no n) = let g : length b ≤ i = omega arith in rw (drop-of-length-le a h, drop-of-length-le b g, le-ltb i (length b) g)
+
+  module _ (h : i < length a) (g : i < length b) where
+    less-step : bytesLess (drop i a) (drop i b)
+        ≡ ltb (getD a i 0) (getD b i 0) || (eqb (getD a i 0) (getD b i 0) && bytesLess (drop (i + 1) a) (drop (i + 1) b))
+    unfolding bytesLess
+    less-step = rw (add-one, drop-cons a i 0 h, drop-cons b i 0 g)
+
+    pub less-yes : getD a i 0 < getD b i 0 → bytesLess (drop i a) (drop i b) ≡ true
+    less-yes l = less-step ∙ rw (lt-ltb (getD a i 0) (getD b i 0) l)
+
+    pub less-no : getD b i 0 < getD a i 0 → bytesLess (drop i a) (drop i b) ≡ false
+    less-no l = less-step ∙ rw (le-ltb (getD a i 0) (getD b i 0) (omega arith), ne-eqb (getD a i 0) (getD b i 0) (omega arith))
+
+    pub less-next : getD a i 0 ≡ getD b i 0 → bytesLess (drop i a) (drop i b) ≡ bytesLess (drop (i + 1) a) (drop (i + 1) b)
+    less-next e = less-step ∙ rw (le-ltb (getD a i 0) (getD b i 0) (omega arith), eq-eqb (getD a i 0) (getD b i 0) e)
+
+-- ---- `rank`: the code's number and half of the numbers of w bytes
+
+pub rank-by : (w : ℕ) (s : List ℕ) (x half r : ℕ) → half ≡ 128 * 256 ^ (w - 1) → x ≡ beAt w s 0
+    → r ≡ cond (ltb x half) (x + half) (x - half) → r ≡ rank w s
+unfolding rank
+rank-by w s x half r e f g = rw (e, f) at g
+
+-- ---- `less`, by the width w that the code found
+
+module _ (t : ℕ) (a b : List ℕ) (w : ℕ) (e : w ≡ width t) where
+  pub less-string : w ≡ 0 → bytesLess (drop 4 a) (drop 4 b) ≡ less t a b
+  unfolding less isString
+  less-string z = rw (← e, z)
+
+  pub less-number : (w ≡ 0 → ⊥) → (x y : ℕ) → x ≡ rank w a → y ≡ rank w b → ltb x y ≡ less t a b
+  unfolding less isString
+  less-number n x y f g = rw (← e, ne-eqb w 0 n, ← f, ← g)
+
+-- ---- `size`: what each answer goes by, said of the value at p
+
+module _ (short broken : Refusal) (t : ℕ) (s : List ℕ) (p : ℕ) where
+  module _ (w : width t ≡ 0) where
+    is-string : isString t ≡ true
+    unfolding isString
+    is-string = eq-eqb (width t) 0 w
+
+    pub string-short : length s - p < 4 → valueSize short broken t (drop p s) ≡ refuse short
+    string-short h = size-string short broken t (drop p s) is-string ∙ number-short big 4 (refuse short) s p (stringSize short broken) h
+
+    module _ (h : p + 4 ≤ length s) where
+      by-length : valueSize short broken t (drop p s) ≡ stringSize short broken (beAt 4 s p) (drop (p + 4) s)
+      by-length = size-string short broken t (drop p s) is-string ∙ number-at big 4 (refuse short) s p (stringSize short broken) h
+
+      pub string-negative : 2147483648 ≤ beAt 4 s p → valueSize short broken t (drop p s) ≡ refuse broken
+      unfolding check
+      string-negative g = by-length ∙ rw (le-ltb (beAt 4 s p) 2147483648 g)
+
+      pub string-over : beAt 4 s p < 2147483648 → 65535 < beAt 4 s p → valueSize short broken t (drop p s) ≡ refuse Limit
+      unfolding check
+      string-over g o = by-length ∙ rw (lt-ltb (beAt 4 s p) 2147483648 g, lt-leb (beAt 4 s p) 65535 o)
+
+      module _ (o : beAt 4 s p ≤ 65535) where
+        by-bytes : valueSize short broken t (drop p s) ≡ check (leb (beAt 4 s p) (length s - (p + 4))) short (ok (4 + beAt 4 s p))
+        unfolding check
+        by-bytes =
+            let g : beAt 4 s p < 2147483648 = omega arith in
+            by-length ∙ rw (lt-ltb (beAt 4 s p) 2147483648 g, le-leb (beAt 4 s p) 65535 o, length-drop (p + 4) s)
+
+        pub string-cut : length s - (p + 4) < beAt 4 s p → valueSize short broken t (drop p s) ≡ refuse short
+        unfolding check
+        string-cut b = by-bytes ∙ rw (lt-leb (beAt 4 s p) (length s - (p + 4)) b)
+
+        pub string-whole : beAt 4 s p ≤ length s - (p + 4) → valueSize short broken t (drop p s) ≡ ok (4 + beAt 4 s p)
+        unfolding check
+        string-whole b = by-bytes ∙ rw (le-leb (beAt 4 s p) (length s - (p + 4)) b)
+
+  module _ (w : 0 < width t) where
+    is-number : isString t ≡ false
+    unfolding isString
+    is-number = ne-eqb (width t) 0 (λ e. omega arith)
+
+    pub number-cut : length s - p < width t → valueSize short broken t (drop p s) ≡ refuse short
+    unfolding check
+    number-cut h =
+        let l : length (drop p s) < width t = rw length-drop h in
+        size-number short broken t (drop p s) is-number ∙ rw (lt-leb (width t) (length (drop p s)) l)
+
+    module _ (h : width t ≤ length s - p) where
+      by-boolean : (b : Bool) → booleanOk t (drop p s) ≡ b → valueSize short broken t (drop p s) ≡ check b broken (ok (width t))
+      unfolding check
+      by-boolean b e =
+          let l : width t ≤ length (drop p s) = rw length-drop h in
+          size-number short broken t (drop p s) is-number ∙ rw (le-leb (width t) (length (drop p s)) l, e)
+
+      first : getD (drop p s) 0 0 ≡ getD s p 0
+      first = getD-drop p s 0 0 ∙ ap (λ (i : ℕ). getD s i 0) (add-zero p)
+
+      pub boolean-over : t ≡ 1 → 1 < getD s p 0 → valueSize short broken t (drop p s) ≡ refuse broken
+      unfolding booleanOk check
+      boolean-over e g = by-boolean false (rw (eq-eqb t 1 e, first, lt-leb (getD s p 0) 1 g))
+
+      pub boolean-whole : t ≡ 1 → getD s p 0 ≤ 1 → valueSize short broken t (drop p s) ≡ ok (width t)
+      unfolding booleanOk check
+      boolean-whole e g = by-boolean true (rw (eq-eqb t 1 e, first, le-leb (getD s p 0) 1 g))
+
+      pub number-whole : (t ≡ 1 → ⊥) → valueSize short broken t (drop p s) ≡ ok (width t)
+      unfolding booleanOk check
+      number-whole n = by-boolean true (rw (ne-eqb t 1 n))
+
+  pub past : length s < p → valueSize short broken t (drop p s) ≡ refuse short
+  past h = by (ℕ-discrete (width t) 0)
+    where
+      by : Dec (width t ≡ 0) → valueSize short broken t (drop p s) ≡ refuse short
+      by (yes w) = string-short w (omega arith)
+      by (no w) = number-cut (omega arith) (omega arith)
+
+-- what `size` answered is what was read
+pub size-refused : (o : Out ℕ) (x : Sized) (r : Refusal) → x ≡ sizedBy o → x ≡ Sized.Refused r → o ≡ refuse r
+unfolding sizedBy
+size-refused (refuse q) x r e f = cc
+size-refused (ok n) x r e f = cc
+
+pub size-bytes : (o : Out ℕ) (x : Sized) (n : ℕ) → x ≡ sizedBy o → x ≡ Sized.Bytes n → o ≡ ok n
+unfolding sizedBy
+size-bytes (refuse q) x n e f = cc
+size-bytes (ok m) x n e f = cc
+
+pub size-within : (short broken : Refusal) (t : ℕ) (s : List ℕ) (p n : ℕ) → Bytes s → p ≤ length s → valueSize short broken t (drop p s) ≡ ok n
+    → (1 ≤ n) × (p + n ≤ length s)
+size-within short broken t s p n h l e =
+    let r = value-read short broken t (drop p s) n (bytes-drop p s h) e in
+    let f = rw length-drop at (r .fits) in
+    (r .some, omega arith)
+
+-- ---- `literals`: a turn at the i-th of m, at p
+
+module _ (t m i : ℕ) (ls : List (List ℕ)) (s : List ℕ) (p : ℕ) where
+  pub literals-done : length s ≤ p → literals t (m - i) ls (drop p s) ≡ ok ls
+  literals-done h = rw (drop-of-length-le s h) (literals-end t (m - i) ls)
+
+  module _ (h : p < length s) where
+    left : 0 < length (drop p s)
+    left = rw length-drop (omega arith)
+
+    pub turn-full : i ≡ m → literals t (m - i) ls (drop p s) ≡ refuse Limit
+    turn-full e = let z : m - i ≡ 0 = omega arith in rw z (literals-full t ls (drop p s) left)
+
+    module _ (g : i < m) where
+      more : m - i ≡ suc (m - (i + 1))
+      more = omega arith
+
+      pub turn-refused : (r : Refusal) → valueSize Literal Literal t (drop p s) ≡ refuse r → literals t (m - i) ls (drop p s) ≡ refuse r
+      turn-refused r e = rw more (literals-refused t ls (drop p s) left (m - (i + 1)) r e)
+
+      pub turn-next : (n : ℕ) → valueSize Literal Literal t (drop p s) ≡ ok n
+          → literals t (m - i) ls (drop p s) ≡ literals t (m - (i + 1)) (ls ++ (take n (drop p s) ∷ [])) (drop (p + n) s)
+      turn-next n e = rw (more, ← drop-drop n p s) (literals-next t ls (drop p s) left (m - (i + 1)) n e)

@@ -1,0 +1,77 @@
+-- `bytes_less` meets its contract: what is left of both, compared, gives the whole. Assumes nothing.
+use Prim.Native.Nat.{_-_}
+use mathlib.Core.Path.{_≡_, refl, sym, _∙_}
+use native.Mathlib.Omega.{arith}
+use lib.ListN.{length, drop}
+use Rattle.stored_value.specs.Meaning.{bytesLess}
+use Rattle.stored_value.proofs.Steps.{less-past, less-end, less-yes, less-no, less-next}
+use Rattle.stored_value.proofs.bytes_less.Statement.{statement}
+use Rattle.stored_value.proofs.bytes_less.Tie as tie
+
+abbrev Inv-loop : tie.InvT-loop
+Inv-loop a b from i₀ i = bytesLess (drop i a) (drop i b) ≡ bytesLess (drop from a) (drop from b)
+
+abbrev μ-loop : tie.MeasureT-loop
+μ-loop a b from i₀ i = length a - i
+
+loop-holds : tie.Need-loop-holds Inv-loop μ-loop
+loop-holds c = refl
+
+returns : tie.Need-returns Inv-loop μ-loop
+returns c =
+    let l = c .before .before .loop in
+    let a = c .before .before .before .args in
+    sym (less-past (a .a .now) (a .b .now) (l .i) (omega arith) (omega arith)) ∙ l .inv
+
+shared-slice-read-x : tie.Need-shared-slice-read-x Inv-loop μ-loop
+shared-slice-read-x c = omega arith
+
+shared-slice-read-y : tie.Need-shared-slice-read-y Inv-loop μ-loop
+shared-slice-read-y c = omega arith
+
+returns-2 : tie.Need-returns-2 Inv-loop μ-loop
+returns-2 c =
+    let l = c .before .before .before .before .before .loop in
+    let a = c .before .before .before .before .before .before .args in
+    sym (less-yes (a .a .now) (a .b .now) (l .i) (omega arith) (omega arith) (omega arith)) ∙ l .inv
+
+returns-3 : tie.Need-returns-3 Inv-loop μ-loop
+returns-3 c =
+    let l = c .before .before .before .before .before .before .loop in
+    let a = c .before .before .before .before .before .before .before .args in
+    sym (less-no (a .a .now) (a .b .now) (l .i) (omega arith) (omega arith) (omega arith)) ∙ l .inv
+
+add-i : tie.Need-add-i Inv-loop μ-loop
+add-i c = omega arith
+
+loop-less : tie.Need-loop-less Inv-loop μ-loop
+loop-less c = omega arith
+
+loop-again : tie.Need-loop-again Inv-loop μ-loop
+loop-again c =
+    let l = c .before .before .before .before .before .before .loop in
+    let a = c .before .before .before .before .before .before .before .args in
+    sym (less-next (a .a .now) (a .b .now) (l .i) (omega arith) (omega arith) (omega arith)) ∙ l .inv
+
+returns-4 : tie.Need-returns-4 Inv-loop μ-loop
+returns-4 c =
+    let l = c .before .loop in
+    let a = c .before .before .args in
+    sym (less-end (a .a .now) (a .b .now) (l .i) (omega arith)) ∙ l .inv
+
+pub bytes-less-spec : {M : Type 1} → statement M
+bytes-less-spec =
+    tie.close
+    (tie.spec
+    Inv-loop
+    μ-loop
+    loop-holds
+    returns
+    shared-slice-read-x
+    shared-slice-read-y
+    returns-2
+    returns-3
+    add-i
+    loop-less
+    loop-again
+    returns-4)

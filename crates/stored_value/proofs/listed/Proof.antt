@@ -1,0 +1,127 @@
+-- `listed` meets its contract: of literals that are read, those passed have not the bytes of `v`, and those that are left give the whole. Assumes nothing.
+use Prim.Native.Nat.{ℕ, _+_, _-_, _≤_}
+use mathlib.Core.Path.{_≡_, sym, _∙_}
+use mathlib.Core.List.{List, []}
+use native.Mathlib.Omega.{arith}
+use lib.ListN.{length, drop}
+use borrow.Author.Needs.{needs}
+use Rattle.refusal.specs.declared.Refusal.the-variants.{Literal}
+use Rattle.stored_value.specs.Reading.{ok}
+use Rattle.stored_value.specs.Reading as reading
+use Rattle.stored_value.proofs.Steps.{size-refused, size-bytes, size-within}
+use Rattle.stored_value.proofs.Passed.{Left, left-start, left-done, left-refused, left-found, left-next}
+use Rattle.stored_value.proofs.listed.Statement.{statement}
+use Rattle.stored_value.proofs.listed.Tie as tie
+
+abbrev Inv-loop : tie.InvT-loop
+Inv-loop v literals t p₀ p =
+    (p ≤ length literals) × ((ls : List (List ℕ)) → reading.literals t 1024 [] literals ≡ ok ls → Left t v (drop p literals) ls)
+
+abbrev μ-loop : tie.MeasureT-loop
+μ-loop v literals t p₀ p = length literals - p
+
+loop-holds : tie.Need-loop-holds Inv-loop μ-loop
+loop-holds c =
+    let a = c .before .before .args in
+    (omega arith, λ ls e. left-start (a .t) (a .v .now) (a .literals .now) ls e)
+
+size-requires : tie.Need-size-requires Inv-loop μ-loop
+size-requires c κs = search needs
+
+enum-told : tie.Need-enum-told Inv-loop μ-loop
+enum-told c = search needs
+
+returns : tie.Need-returns Inv-loop μ-loop
+returns c ls e =
+    let l = c .before .before .before .before .loop in
+    let a = c .before .before .before .before .before .before .before .args in
+    let r = c .before .before .size in
+    let v = size-refused (reading.valueSize Literal Literal (a .t) (drop (l .p) (a .literals .now))) (r .result) (c .enum-told .given .0 .0) (r .ensures) (c .enum-told .given .1) in
+    absurd (left-refused (a .t) (a .v .now) (a .literals .now) ls (l .p) (omega arith) (l .inv .1 ls e) (c .enum-told .given .0 .0) v)
+
+enum-known-n : tie.Need-enum-known-n Inv-loop μ-loop
+enum-known-n c = search needs
+
+-- the literal that was found
+found : (c : tie.After-known-told Inv-loop μ-loop)
+    → let l = c .before .before .before .before .before .loop in
+    let a = c .before .before .before .before .before .before .before .before .args in
+    reading.valueSize Literal Literal (a .t) (drop (l .p) (a .literals .now)) ≡ ok (c .before .n .given .0 .0)
+found c =
+    let l = c .before .before .before .before .before .loop in
+    let a = c .before .before .before .before .before .before .before .before .args in
+    let r = c .before .before .before .size in
+    size-bytes (reading.valueSize Literal Literal (a .t) (drop (l .p) (a .literals .now))) (r .result) (c .before .n .given .0 .0) (r .ensures) (c .before .n .given .1)
+
+-- its size, and that it is there
+within : (c : tie.After-known-told Inv-loop μ-loop)
+    → let l = c .before .before .before .before .before .loop in
+    let a = c .before .before .before .before .before .before .before .before .args in
+    (1 ≤ c .before .n .given .0 .0) × (l .p + c .before .n .given .0 .0 ≤ length (a .literals .now))
+within c =
+    let l = c .before .before .before .before .before .loop in
+    let b = c .before .before .before .before .before .before in
+    let a = b .before .before .args in
+    size-within Literal Literal (a .t) (a .literals .now) (l .p) (c .before .n .given .0 .0) (λ i. b .shared-slice-known2 .given i .fits) (l .inv .0) (found c)
+
+add-e : tie.Need-add-e Inv-loop μ-loop
+add-e c = omega (arith, within c)
+
+sub-same : tie.Need-sub-same Inv-loop μ-loop
+sub-same c = omega arith
+
+part-same-start : tie.Need-part-same-start Inv-loop μ-loop
+part-same-start c = omega arith
+
+part-same-end : tie.Need-part-same-end Inv-loop μ-loop
+part-same-end c = omega (arith, within c)
+
+same-requires : tie.Need-same-requires Inv-loop μ-loop
+same-requires c κs = search needs
+
+returns-2 : tie.Need-returns-2 Inv-loop μ-loop
+returns-2 c ls e =
+    let k = c .before .before .before in
+    let l = k .before .before .before .before .before .loop in
+    let b = k .before .before .before .before .before .before in
+    let a = b .before .before .args in
+    sym (left-found (a .t) (a .v .now) (a .literals .now) ls (l .p) (omega arith) (l .inv .1 ls e) (k .before .n .given .0 .0) (found k) (λ i. b .shared-slice-known2 .given i .fits) (sym (c .before .same .ensures) ∙ c .if1 .taken))
+
+loop-less : tie.Need-loop-less Inv-loop μ-loop
+loop-less c = omega (arith, within (c .before .before .before))
+
+loop-again : tie.Need-loop-again Inv-loop μ-loop
+loop-again c =
+    let k = c .before .before .before in
+    let l = k .before .before .before .before .before .loop in
+    let a = k .before .before .before .before .before .before .before .before .args in (
+      within k .1,
+      λ ls e. left-next (a .t) (a .v .now) (a .literals .now) ls (l .p) (omega arith) (l .inv .1 ls e) (k .before .n .given .0 .0) (found k) (sym (c .before .same .ensures) ∙ c .if1 .left),
+    )
+
+returns-3 : tie.Need-returns-3 Inv-loop μ-loop
+returns-3 c ls e =
+    let l = c .before .loop in
+    let a = c .before .before .before .before .args in
+    sym (left-done (a .t) (a .v .now) (a .literals .now) ls (l .p) (omega arith) (l .inv .1 ls e))
+
+pub listed-spec : {M : Type 1} → statement M
+listed-spec =
+    tie.close
+    (tie.spec
+    Inv-loop
+    μ-loop
+    loop-holds
+    size-requires
+    enum-told
+    returns
+    enum-known-n
+    add-e
+    sub-same
+    part-same-start
+    part-same-end
+    same-requires
+    returns-2
+    loop-less
+    loop-again
+    returns-3)

@@ -1,0 +1,81 @@
+-- The twelve types of a column and their values in stored form (01, the table of widths), their order, what a row holds, and literals.
+use mathlib.Core.Path.{_≡_}
+use Prim.Native.Nat.{ℕ, _+_, _-_, _*_, _^_, _≤_}
+use mathlib.Core.Bool.{Bool, true, false, _&&_, _||_, cond}
+use mathlib.Core.List.{List, [], _∷_, _++_}
+use lib.Dec.{eqb, ltb, leb}
+use lib.ListN.{length, getD, drop}
+use Rattle.numbers.specs.Meaning.{be, beAt}
+use Rattle.numbers.specs.Laws.{Bytes}
+
+-- ---- types and values
+
+-- 01's table of widths, in its order from 0: TINYINT, BOOLEAN, SMALLINT, INT, DATE, TIME, BIGINT, TIMESTAMP, LOCAL ZONED TIMESTAMP, CHAR, VARCHAR, STRING.
+-- 0 stands for a string: a 4-byte length and the bytes
+abbrev pub widths : List ℕ
+widths = 1 ∷ 1 ∷ 2 ∷ 4 ∷ 4 ∷ 4 ∷ 8 ∷ 8 ∷ 8 ∷ 0 ∷ 0 ∷ 0 ∷ []
+
+-- said of the twelve types alone
+unfoldable pub width : ℕ → ℕ
+width t = getD widths t 0
+
+unfoldable pub isString : ℕ → Bool
+isString t = eqb (width t) 0
+
+-- BOOLEAN is type 1, and its byte 0 or 1
+unfoldable pub booleanOk : ℕ → List ℕ → Bool
+booleanOk t v = cond (eqb t 1) (leb (getD v 0 0) 1) true
+
+-- a value in the stored form of its type
+pub data Value (t : ℕ) : List ℕ → Type 0 where
+  number : (v : List ℕ) → isString t ≡ false → length v ≡ width t → Bytes v → booleanOk t v ≡ true → Value t v
+  string : (c : List ℕ) → isString t ≡ true → length c ≤ 65535 → Bytes c → Value t (be 4 (length c) ++ c)
+
+unfoldable pub same : List ℕ → List ℕ → Bool
+same [] [] = true
+same [] (y ∷ ys) = false
+same (x ∷ xs) [] = false
+same (x ∷ xs) (y ∷ ys) = eqb x y && same xs ys
+
+-- ---- the order of values (01, "Numbers compare signed. Strings compare by unsigned bytes, a prefix first")
+
+-- the place of a two's complement number of w bytes among all such numbers, from the least on
+unfoldable pub rank : ℕ → List ℕ → ℕ
+rank w v = cond (ltb (beAt w v 0) (128 * 256 ^ (w - 1))) (beAt w v 0 + 128 * 256 ^ (w - 1)) (beAt w v 0 - 128 * 256 ^ (w - 1))
+
+unfoldable pub bytesLess : List ℕ → List ℕ → Bool
+bytesLess [] [] = false
+bytesLess [] (y ∷ ys) = true
+bytesLess (x ∷ xs) [] = false
+bytesLess (x ∷ xs) (y ∷ ys) = ltb x y || (eqb x y && bytesLess xs ys)
+
+-- a string's bytes stand behind its length of four
+unfoldable pub less : ℕ → List ℕ → List ℕ → Bool
+less t v w = cond (isString t) (bytesLess (drop 4 v) (drop 4 w)) (ltb (rank (width t) v) (rank (width t) w))
+
+-- ---- what a row holds, and literals
+
+-- what a row holds: null, or one value in its stored form
+pub data Cell : Type 0 where
+  null : Cell
+  value : List ℕ → Cell
+
+unfoldable pub sameCell : Cell → Cell → Bool
+sameCell null null = true
+sameCell null (value w) = false
+sameCell (value v) null = false
+sameCell (value v) (value w) = same v w
+
+-- a value is listed if a literal has its bytes
+unfoldable pub listed : List ℕ → List (List ℕ) → Bool
+listed v [] = false
+listed v (l ∷ ls) = same v l || listed v ls
+
+-- literals of type t, each in its stored form, and the bytes of all, one after another
+abbrev pub Literals : ℕ → List (List ℕ) → Type 0
+Literals t [] = Unit {0}
+Literals t (l ∷ ls) = Value t l × Literals t ls
+
+abbrev pub literalBytes : List (List ℕ) → List ℕ
+literalBytes [] = []
+literalBytes (l ∷ ls) = l ++ literalBytes ls

@@ -1,0 +1,40 @@
+-- What is read of any bytes as values: the size of one, and literals to the end (01, "Bitmap body" and "Questions").
+use Prim.Native.Nat.{ℕ, zero, suc, _+_}
+use mathlib.Core.Bool.{Bool, true, false, cond}
+use mathlib.Core.List.{List, [], _∷_, _++_}
+use lib.Dec.{eqb, ltb, leb}
+use lib.ListN.{length, take, drop}
+use Rattle.numbers.specs.Meaning.{big, number}
+use Rattle.refusal.specs.declared.Refusal.{Refusal}
+use Rattle.refusal.specs.declared.Refusal.the-variants.{Literal, Limit}
+use Rattle.stored_value.specs.Meaning.{width, isString, booleanOk}
+
+-- a refusal, or what was read
+pub data Out (A : Type 0) : Type 0 where
+  refuse : Refusal → Out A
+  ok : A → Out A
+
+unfoldable pub check : {A : Type 0} → Bool → Refusal → Out A → Out A
+check true r x = x
+check false r x = refuse r
+
+unfoldable pub andThen : {A B : Type 0} → Out A → (A → Out B) → Out B
+andThen (refuse r) k = refuse r
+andThen (ok a) k = k a
+
+-- how many bytes the value of type t at the front of s takes in its stored form. A string's length is tested before its bytes. `short` and
+-- `broken` are SHORT and DICT in a dictionary, and LITERAL both among literals
+unfoldable pub valueSize : Refusal → Refusal → ℕ → List ℕ → Out ℕ
+valueSize short broken t s =
+    cond (isString t)
+    (number big 4 (refuse short) s (λ n rest. check (ltb n 2147483648) broken (check (leb n 65535) Limit (check (leb n (length rest)) short (ok (4 + n))))))
+    (check (leb (width t) (length s)) short (check (booleanOk t s) broken (ok (width t))))
+
+unfoldable pub valueOf : {A : Type 0} → Refusal → Refusal → ℕ → List ℕ → (List ℕ → List ℕ → Out A) → Out A
+valueOf short broken t s k = andThen (valueSize short broken t s) (λ n. k (take n s) (drop n s))
+
+-- ---- literals: one after another to the end; a byte behind the last that may be is LIMIT
+
+unfoldable pub literals : ℕ → ℕ → List (List ℕ) → List ℕ → Out (List (List ℕ))
+literals t zero ls s = cond (eqb (length s) 0) (ok ls) (refuse Limit)
+literals t (suc n) ls s = cond (eqb (length s) 0) (ok ls) (valueOf Literal Literal t s (λ l s. literals t n (ls ++ (l ∷ [])) s))

@@ -1,0 +1,199 @@
+// Values in the stored form of their type (document 01, the table of widths): their size, their order, and literals.
+ghost use mathlib.Core.Path.{_≡_};
+ghost use Prim.Native.Nat.{ℕ, _+_, _-_, _<_, _≤_};
+ghost use mathlib.Core.Bool.{cond};
+ghost use mathlib.Core.Logic.{_⊎_};
+ghost use mathlib.Core.List.{List, []};
+ghost use lib.Dec.{ltb};
+ghost use lib.ListN.{length, drop};
+ghost use Rattle.stored_value.specs.Meaning.{width, bytesLess};
+ghost use Rattle.stored_value.specs.Meaning as meaning;
+ghost use Rattle.stored_value.specs.Reading.{ok, valueSize};
+ghost use Rattle.stored_value.specs.Reading as reading;
+ghost use Rattle.stored_value.specs.Code.{sizedBy, countedBy};
+use numbers::Position;
+use refusal::Refusal;
+
+// 01's table of widths over its twelve types, in its order; 0 stands for a string: a 4-byte length and the bytes. Stored values and literals go by it.
+const WIDTHS: [u8; 12] = [1, 1, 2, 4, 4, 4, 8, 8, 8, 0, 0, 0];
+
+// How many bytes a value takes, or why it is none.
+pub enum Sized {
+    Refused(Refusal),
+    Bytes(usize),
+}
+
+// How many literals there are, or why they are none.
+pub enum Counted {
+    Refused(Refusal),
+    Count(u64),
+}
+
+// The width of a type's values: 0 of a string's, and of an unknown type.
+fn width_of(t: u32) -> usize
+    ensures { λ r. ⌜ (r ≡ width t) × (r ≤ 8) ⌝ }
+{
+    if t < 12 {
+        return WIDTHS[t as usize] as usize;
+    }
+    0
+}
+
+// The size of the value at `at`. A string's length is tested before its bytes.
+pub fn size(s: &[u8], at: Position, t: u32, short: Refusal, broken: Refusal) -> Sized
+    ensures { λ r. ⌜ r ≡ sizedBy (valueSize short broken t (drop (at .0) (now (s .entry)))) ⌝ }
+{
+    let p = at.0;
+    if s.len() < p {
+        return Sized::Refused(short);
+    }
+    let left = s.len() - p;
+    let w = width_of(t);
+    if w == 0 {
+        if left < 4 {
+            return Sized::Refused(short);
+        }
+        let n = numbers::be32(s, Position(p));
+        if 2147483648 <= n {
+            return Sized::Refused(broken);
+        }
+        if 65535 < n {
+            return Sized::Refused(Refusal::Limit);
+        }
+        if ((left - 4) as u64) < n {
+            return Sized::Refused(short);
+        }
+        return Sized::Bytes(4 + n as usize);
+    }
+    if left < w {
+        return Sized::Refused(short);
+    }
+    if t == 1 {
+        if 1 < s[p] {
+            return Sized::Refused(broken);
+        }
+    }
+    Sized::Bytes(w)
+}
+
+// Whether two values have the same bytes.
+pub fn same(a: &[u8], b: &[u8]) -> bool
+    ensures { λ r. ⌜ r ≡ meaning.same (now (a .entry)) (now (b .entry)) ⌝ }
+{
+    if a.len() != b.len() {
+        return false;
+    }
+    let mut i = 0;
+    while i < a.len() {
+        if a[i] != b[i] {
+            return false;
+        }
+        i += 1;
+    }
+    true
+}
+
+// The place of v among the numbers below twice `half`, where those from `half` on are the negative ones and come first.
+fn place(v: u64, half: u64) -> u64
+    requires { ⌜ (half ≤ 9223372036854775808) × (v < half + half) ⌝ }
+    ensures { λ r. ⌜ r ≡ cond (ltb v half) (v + half) (v - half) ⌝ }
+{
+    if v < half { v + half } else { v - half }
+}
+
+// The rank of the number that the first w bytes hold.
+fn rank(s: &[u8], w: usize) -> u64
+    requires { ⌜ (w ≤ length (now s)) × ((w ≡ 1) ⊎ ((w ≡ 2) ⊎ ((w ≡ 4) ⊎ (w ≡ 8)))) ⌝ }
+    ensures { λ r. ⌜ r ≡ meaning.rank w (now (s .entry)) ⌝ }
+{
+    if w == 1 {
+        return place(numbers::byte(s, Position(0)), 128);
+    }
+    if w == 2 {
+        return place(numbers::be16(s, Position(0)), 32768);
+    }
+    if w == 4 {
+        return place(numbers::be32(s, Position(0)), 2147483648);
+    }
+    place(numbers::be64(s, Position(0)), 9223372036854775808)
+}
+
+// Whether a comes before b from the byte `from` on: by unsigned bytes, a prefix first.
+fn bytes_less(a: &[u8], b: &[u8], from: usize) -> bool
+    ensures { λ r. ⌜ r ≡ bytesLess (drop from (now (a .entry))) (drop from (now (b .entry))) ⌝ }
+{
+    let mut i = from;
+    while i < a.len() {
+        if b.len() <= i {
+            return false;
+        }
+        let x = a[i];
+        let y = b[i];
+        if x < y {
+            return true;
+        }
+        if y < x {
+            return false;
+        }
+        i += 1;
+    }
+    i < b.len()
+}
+
+// Whether a comes before b among the values of type t: numbers signed, strings by unsigned bytes, a prefix first. It `requires` that a number's
+// bytes are there: whoever calls has found both values' sizes.
+pub fn less(t: u32, a: &[u8], b: &[u8]) -> bool
+    requires { ⌜ (width t ≤ length (now a)) × (width t ≤ length (now b)) ⌝ }
+    ensures { λ r. ⌜ r ≡ meaning.less t (now (a .entry)) (now (b .entry)) ⌝ }
+{
+    let w = width_of(t);
+    if w == 0 {
+        return bytes_less(a, b, 4);
+    }
+    rank(a, w) < rank(b, w)
+}
+
+// Literals of type t, one after another to the end of s.
+pub fn literals(s: &[u8], t: u32) -> Counted
+    ensures { λ r. ⌜ r ≡ countedBy (reading.literals t 1024 [] (now (s .entry))) ⌝ }
+{
+    let mut i: u64 = 0;
+    let mut p = 0;
+    while p < s.len() {
+        if i == 1024 {
+            return Counted::Refused(Refusal::Limit);
+        }
+        match size(s, Position(p), t, Refusal::Literal, Refusal::Literal) {
+            Sized::Refused(r) => {
+                return Counted::Refused(r);
+            }
+            Sized::Bytes(n) => {
+                p += n;
+            }
+        }
+        i += 1;
+    }
+    Counted::Count(i)
+}
+
+// Whether a literal has v's bytes, said of literals that `literals` counts. Where it refuses them there is nothing to ask.
+pub fn listed(v: &[u8], literals: &[u8], t: u32) -> bool
+    ensures { λ r. ⌜ ((ls : List (List ℕ)) → reading.literals t 1024 [] (now (literals .entry)) ≡ ok ls → r ≡ meaning.listed (now (v .entry)) ls) ⌝ }
+{
+    let mut p = 0;
+    while p < literals.len() {
+        match size(literals, Position(p), t, Refusal::Literal, Refusal::Literal) {
+            Sized::Refused(_) => {
+                return false;
+            }
+            Sized::Bytes(n) => {
+                let e = p + n;
+                if same(v, &literals[p..e]) {
+                    return true;
+                }
+                p = e;
+            }
+        }
+    }
+    false
+}

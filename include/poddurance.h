@@ -1,0 +1,72 @@
+/* Poddurance: reading Paimon's bitmap indexes and deletion files so that a lost row is a refusal.
+ *
+ * Link the archive that `rt staticlib poddurance` writes to target/staticlib/libpoddurance.a (x86-64 Linux).
+ * Every call ends, reads and writes only inside the buffers it is lent, allocates nothing and keeps no state.
+ * Buffers of one call must not overlap. A pointer may not be NULL, even where its length is 0.
+ *
+ * A row field for n rows is the first (n + 7) / 8 bytes of a buffer: row r is the bit of weight 1 << (r % 8) in byte r / 8, and the spare bits of its
+ * last byte are 0. Bytes of the buffer behind the field never change.
+ *
+ * Each function answers 0 when it accepts, 255 for ABSENT (Locate alone), and otherwise the number of its refusal:
+ *
+ *    1 SHORT     the bytes end inside a field that is due, outside bitmaps
+ *    2 MAGIC     the magic of an index file or a bin differs
+ *    3 VERSION   the version of an index file, a body or a deletion file is unknown
+ *    4 HEAD      the head of an index file breaks a rule
+ *    5 DICT      a dictionary breaks a rule
+ *    6 BITMAP    place, length or form of a bitmap is wrong
+ *    7 RANGE     a row at or above the row count
+ *    8 TWICE     a row already placed
+ *    9 MISSING   a row never placed
+ *   10 ROOM      a lent field has fewer than (n + 7) / 8 bytes
+ *   11 LITERAL   literals don't fit question and type
+ *   12 LIMIT     a limit is passed (an input buffer or a row count above 2147483647, and others)
+ *   13 CHECKSUM  the checksum of a bin differs
+ *   14 NOBIN     the bin number is not below the number of bins
+ *
+ * With any answer but 0 the counts, start and length are 0. LIMIT and ROOM leave the field as it was; any later refusal leaves its (n + 7) / 8 bytes zero.
+ */
+#ifndef PODDURANCE_H
+#define PODDURANCE_H
+
+#include <stddef.h>
+#include <stdint.h>
+
+#ifdef __cplusplus
+extern "C" {
+#endif
+
+/* Read deletions: the rows of bin number `bin` (from 0) of a deletion file, into a field for `rows` rows, and how many they are.
+ * Refusals, in this order: LIMIT, ROOM, SHORT, VERSION, SHORT, NOBIN, MAGIC, CHECKSUM, BITMAP, RANGE. */
+uint8_t poddurance_read_deletions(const uint8_t *file, size_t file_len, uint64_t bin, uint64_t rows,
+                                  uint8_t *field, size_t field_len, uint64_t *deleted);
+
+/* Subtract: clears in `first` each row below `rows` that is set in `second`. Answers how many rows below `rows` are left in `first`, and how many were
+ * removed. Refusals: LIMIT, then ROOM for either field; a refusal changes nothing. */
+uint8_t poddurance_subtract(uint8_t *first, size_t first_len, const uint8_t *second, size_t second_len,
+                            uint64_t rows, uint64_t *left, uint64_t *removed);
+
+/* Locate: finds the index of kind `kind` on column `column` in the embedded bytes if there are any, else in the index file. The other buffer isn't looked
+ * at. 0: found, at `start` and `length` in the buffer that was looked at. 255: the column or the kind is not listed. Names are UTF-8, without a NUL. */
+uint8_t poddurance_locate(const uint8_t *embedded, size_t embedded_len, const uint8_t *file, size_t file_len,
+                          const uint8_t *column, size_t column_len, const uint8_t *kind, size_t kind_len,
+                          uint64_t *start, uint64_t *length);
+
+/* Types, for Audit and Ask: TINYINT 0, BOOLEAN 1, SMALLINT 2, INT 3, DATE 4, TIME 5, BIGINT 6, TIMESTAMP 7, LOCAL ZONED TIMESTAMP 8, CHAR 9, VARCHAR 10,
+ * STRING 11. Questions: EQUAL 0, NOT EQUAL 1, IN 2, NOT IN 3, IS NULL 4, IS NOT NULL 5.
+ *
+ * Audit: whether the body gives every row exactly one place; the row count. Accepted or refused, the field's bytes are zero from ROOM on. */
+uint8_t poddurance_audit(const uint8_t *body, size_t body_len, uint32_t type,
+                         uint8_t *field, size_t field_len, uint64_t *rows);
+
+/* Ask: audits the body, then sets the rows that the question chooses in the field. Literals lie one after another in the type's stored form (big-endian
+ * numbers; strings with a 4-byte length). A *matched of 0 says skip. */
+uint8_t poddurance_ask(const uint8_t *body, size_t body_len, uint32_t type, uint32_t question,
+                       const uint8_t *literals, size_t literals_len,
+                       uint8_t *field, size_t field_len, uint64_t *matched);
+
+#ifdef __cplusplus
+}
+#endif
+
+#endif
