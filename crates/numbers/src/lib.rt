@@ -39,6 +39,22 @@ pub fn le32(s: &[u8], at: Position) -> u64
     wide(s[p + 0]) + 256 * wide(s[p + 1]) + 65536 * wide(s[p + 2]) + 16777216 * wide(s[p + 3])
 }
 
+pub fn le64(s: &[u8], at: Position) -> u64
+    requires { ⌜ at .0 + 8 ≤ length (now s) ⌝ }
+    ensures { λ r. ⌜ r ≡ leAt 8 (now (s .entry)) (at .0) ⌝ }
+{
+    let p = at.0;
+    let low = wide(s[p + 0])
+        + 256 * wide(s[p + 1])
+        + 65536 * wide(s[p + 2])
+        + 16777216 * wide(s[p + 3]);
+    let high = wide(s[p + 4])
+        + 256 * wide(s[p + 5])
+        + 65536 * wide(s[p + 6])
+        + 16777216 * wide(s[p + 7]);
+    low + 4294967296 * high
+}
+
 pub fn be16(s: &[u8], at: Position) -> u64
     requires { ⌜ at .0 + 2 ≤ length (now s) ⌝ }
     ensures { λ r. ⌜ (r ≡ beAt 2 (now (s .entry)) (at .0)) × (r < 65536) ⌝ }
