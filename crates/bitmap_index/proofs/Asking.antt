@@ -13,7 +13,8 @@ use Rattle.refusal.specs.declared.Refusal.the-variants.{Literal, Limit}
 use Rattle.row_field.specs.Meaning.{cleared, count, size}
 use Rattle.stored_value.specs.declared.Counted.{Counted}
 use Rattle.stored_value.specs.declared.Counted.the-variants.{Count}
-use Rattle.stored_value.specs.Reading.{Out, refuse, ok, check, andThen, literals}
+use Rattle.refusal.specs.Reading.{Out, refuse, ok, check, andThen}
+use Rattle.stored_value.specs.Reading.{literals}
 use Rattle.stored_value.specs.Code.{countedBy}
 use Rattle.dictionary.specs.declared.Checked.{Checked}
 use Rattle.dictionary.specs.declared.Checked.the-variants.{Found}
@@ -21,14 +22,14 @@ use Rattle.dictionary.specs.declared.Head.{Head}
 use Rattle.dictionary.specs.Layout.{Entry}
 use Rattle.dictionary.specs.Code.{nullsOf}
 use Rattle.bitmap_index.specs.Meaning.{takes, keeps}
-use Rattle.bitmap_index.specs.Reading.{placeAll, prepared, audited, answered, asked, ask, askPrepared, bufferOf, zeroedFrom, askBuffer, chosenOf}
+use Rattle.bitmap_index.specs.Reading.{placeAll, prepared, audited, answered, asked, ask, askPrepared, bufferOf, zeroedFrom, askBuffer, chosenOf, auditedBy, answeredBy}
 use Rattle.bitmap_index.specs.declared.Audited.{Audited}
 use Rattle.bitmap_index.specs.declared.Audited.the-variants.{Rows}
 use Rattle.bitmap_index.specs.declared.Answered.{Answered}
 use Rattle.bitmap_index.specs.declared.Answered.the-variants.{Skip, Keep}
 use Rattle.bitmap_index.specs.declared.Outcome.{Outcome}
 use Rattle.bitmap_index.specs.declared.Outcome.the-variants.{Done}
-use Rattle.bitmap_index.specs.Code.{Placing, picks, picked, auditedBy, answeredBy, answerOf, ReadAs, Laid, dictionaryOf, Readied, Asks, answeredAfter, Answers}
+use Rattle.bitmap_index.specs.Code.{Placing, picks, picked, answerOf, ReadAs, Laid, dictionaryOf, Readied, Asks, answeredAfter, Answers}
 use Rattle.bitmap_index.proofs.Auditing.{zeroed-again}
 
 -- ---- the question

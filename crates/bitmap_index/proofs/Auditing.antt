@@ -11,19 +11,20 @@ use Rattle.refusal.specs.Meaning.{limit}
 use Rattle.refusal.specs.declared.Refusal.{Refusal}
 use Rattle.refusal.specs.declared.Refusal.the-variants.{Missing, Room, Literal, Limit}
 use Rattle.row_field.specs.Meaning.{zeroed, cleared, size, count}
-use Rattle.stored_value.specs.Reading.{refuse, check, andThen, literals}
+use Rattle.refusal.specs.Reading.{refuse, check, andThen}
+use Rattle.stored_value.specs.Reading.{literals}
 use Rattle.dictionary.specs.declared.Checked.{Checked}
 use Rattle.dictionary.specs.declared.Checked.the-variants.{Found}
 use Rattle.dictionary.specs.declared.Head.{Head}
 use Rattle.dictionary.specs.Layout.{Entry}
 use Rattle.dictionary.specs.Reading.{dictionary}
 use Rattle.dictionary.specs.Code.{nullsOf, Tells}
-use Rattle.bitmap_index.specs.Reading.{placeAll, roomFor, prepared, audited, audit, zeroedFrom, auditBuffer}
+use Rattle.bitmap_index.specs.Reading.{placeAll, roomFor, prepared, audited, audit, zeroedFrom, auditBuffer, auditedBy}
 use Rattle.bitmap_index.specs.declared.Audited.{Audited}
 use Rattle.bitmap_index.specs.declared.Audited.the-variants.{Rows}
 use Rattle.bitmap_index.specs.declared.Outcome.{Outcome}
 use Rattle.bitmap_index.specs.declared.Outcome.the-variants.{Done}
-use Rattle.bitmap_index.specs.Code.{Placing, picks, picked, auditedBy, filled, ReadAs, Laid, Sound, dictionaryOf, Readied}
+use Rattle.bitmap_index.specs.Code.{Placing, picks, picked, filled, ReadAs, Laid, Sound, dictionaryOf, Readied}
 use Rattle.bitmap_index.proofs.Patterns.{dictionary-patterns}
 
 -- an audit picks every entry, whatever the question

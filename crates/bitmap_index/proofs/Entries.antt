@@ -6,10 +6,10 @@ use mathlib.Core.List.{List, [], _∷_, _++_}
 use Rattle.numbers.specs.Meaning.{signed32}
 use Rattle.refusal.specs.declared.Refusal.{Refusal}
 use Rattle.stored_value.specs.Meaning.{null}
-use Rattle.stored_value.specs.Reading.{Out, refuse, ok, andThen}
+use Rattle.refusal.specs.Reading.{Out, refuse, ok, andThen}
 use Rattle.dictionary.specs.declared.Head.{Head}
-use Rattle.dictionary.specs.Layout.{Entry, Patterns}
-use Rattle.dictionary.specs.Code.{nullsOf}
+use Rattle.dictionary.specs.Code.{Patterns, nullsOf}
+use Rattle.dictionary.specs.Layout.{Entry}
 use Rattle.bitmap_index.specs.Reading.{placeAt, place, placeAll}
 use Rattle.bitmap_index.specs.declared.Outcome.{Outcome}
 use Rattle.bitmap_index.specs.declared.Outcome.the-variants.{Done}

@@ -11,8 +11,10 @@ use Rattle.numbers.specs.Laws.{Bytes, bytes-drop, numberAt-lt}
 use Rattle.refusal.specs.declared.Refusal.{Refusal}
 use Rattle.refusal.specs.declared.Refusal.the-variants.{Short, Dict}
 use Rattle.stored_value.specs.Meaning.{Cell, null, value}
-use Rattle.stored_value.specs.Reading.{Out, refuse, ok, check, andThen, valueSize, valueOf}
-use Rattle.dictionary.specs.Layout.{Entry, Patterns, minusOne}
+use Rattle.refusal.specs.Reading.{Out, refuse, ok, check, andThen}
+use Rattle.stored_value.specs.Reading.{valueSize, valueOf}
+use Rattle.dictionary.specs.Code.{Patterns}
+use Rattle.dictionary.specs.Layout.{Entry, minusOne}
 use Rattle.dictionary.specs.Reading.{Dictionary, Listing, counted, entriesOne, listings, entriesTwo, blocksOf, blocked, nullOf, dictionary}
 
 patterns-join : (xs ys : List Entry) → Patterns xs → Patterns ys → Patterns (xs ++ ys)

@@ -21,7 +21,7 @@ use Rattle.roaring.specs.declared.Extent.the-variants.{AsLong, Exactly}
 use Rattle.roaring.specs.declared.Marked.{Marked}
 use Rattle.roaring.specs.declared.Marked.the-variants.{Refused, Done}
 use Rattle.roaring.specs.Reading.{Read, refused, got, choose, fits, anyFrom, read, marking, fieldAfter}
-use Rattle.stored_value.specs.Reading.{ok, check}
+use Rattle.refusal.specs.Reading.{ok, check}
 use Rattle.bitmap_index.specs.Reading.{extentOf, once, placeBitmap, placeAt}
 use Rattle.bitmap_index.specs.declared.Outcome.{Outcome}
 use Rattle.bitmap_index.specs.Code.{Placing}

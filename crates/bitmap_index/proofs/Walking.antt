@@ -7,11 +7,11 @@ use native.Mathlib.Omega.{arith}
 use lib.ListN.{length, drop}
 use Rattle.refusal.specs.declared.Refusal.{Refusal}
 use Rattle.row_field.specs.Meaning.{cleared}
-use Rattle.stored_value.specs.Reading.{Out, ok, andThen}
+use Rattle.refusal.specs.Reading.{Out, ok, andThen}
 use Rattle.dictionary.specs.declared.Head.{Head}
 use Rattle.dictionary.specs.declared.EntryAt.{EntryAt}
-use Rattle.dictionary.specs.Layout.{Entry, Patterns}
-use Rattle.dictionary.specs.Code.{Stand, Steps, nullsOf, firstLeft}
+use Rattle.dictionary.specs.Code.{Patterns, Stand, Steps, nullsOf, firstLeft}
+use Rattle.dictionary.specs.Layout.{Entry}
 use Rattle.bitmap_index.specs.Reading.{placeAll}
 use Rattle.bitmap_index.specs.declared.Outcome.{Outcome}
 use Rattle.bitmap_index.specs.declared.Outcome.the-variants.{Done}

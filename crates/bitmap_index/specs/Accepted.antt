@@ -14,10 +14,11 @@ use Rattle.row_field.specs.Meaning.{size, bit, markAll, anySet, cleared, rowsOf
 use Rattle.row_field.specs.Marks.{Rising, Below, below-more, member, member-past, length-markAll, bit-markAll, bytes-zeros, rows-of-field}
 use Rattle.row_field.specs.Counts.{tick, Rises, count-full, length-zeroed, bit-zeroed}
 use Rattle.stored_value.specs.Meaning.{Cell, null, value, sameCell}
-use Rattle.stored_value.specs.Reading.{ok}
+use Rattle.refusal.specs.Reading.{ok}
 use Rattle.stored_value.specs.Laws.{sameCell-refl, sameCell→eq, sameCell-sym}
 use Rattle.dictionary.specs.Layout as layout
-use Rattle.dictionary.specs.Layout.{Entry, Valued, NullOnly, someHas, Distinct, Patterns}
+use Rattle.dictionary.specs.Code.{Patterns}
+use Rattle.dictionary.specs.Layout.{Entry, Valued, NullOnly, someHas, Distinct}
 use Rattle.dictionary.specs.Reading.{Dictionary, dictionary}
 use Rattle.dictionary.specs.Theorems.{WasLaidOut, in-one, in-two, read-was-laid-out as was-laid-out, Once, one-has-each-once, two-has-each-once, region-bytes}
 use Rattle.bitmap_index.specs.Meaning.{Cells}
@@ -25,7 +26,8 @@ use Rattle.bitmap_index.specs.Layout.{rowsWith, Placed, AllPlaced, Cover
 use Rattle.bitmap_index.specs.Reading.{place, placeAll}
 use Rattle.bitmap_index.specs.Rows.{rowsWhere, rows-with, rows-rise, rows-below, member-rows, markAll-same}
 use Rattle.bitmap_index.specs.Alike.{cellAt, passes-at, Typed}
-use Rattle.bitmap_index.specs.Taken.{then-ok, or-none, rowsAt, Taken, place-taken, Filled, Passed}
+use Rattle.refusal.specs.Laws.{then-ok}
+use Rattle.bitmap_index.specs.Taken.{or-none, rowsAt, Taken, place-taken, Filled, Passed}
 
 -- ---- the column that entries have: row r holds the cell of the first entry that has r
 

@@ -9,9 +9,10 @@ use lib.ListN.{length, getD, replicate, length-replicate, drop, take}
 use lib.Seq.{ext-getD, take-at}
 use Rattle.row_field.specs.Meaning.{size, bit}
 use Rattle.row_field.specs.Marks.{length-markAll, bit-markAll, bit-zeros}
-use Rattle.stored_value.specs.Meaning.{Cell, null, value, Value, same, listed}
-use Rattle.stored_value.specs.Reading.{ok}
-use Rattle.stored_value.specs.Laws.{same-refl, same→eq}
+use Rattle.numbers.specs.Meaning.{same}
+use Rattle.stored_value.specs.Meaning.{Cell, null, value, Value, listed}
+use Rattle.refusal.specs.Reading.{ok}
+use Rattle.numbers.specs.Same.{same-refl, same→eq}
 use Rattle.bitmap_index.specs.Meaning.{Cells, Column, chosen, takes, Question, scan}
 use Rattle.bitmap_index.specs.Rows.{rowsWhere, passes, member-rows}
 use Rattle.bitmap_index.specs.Answered.{scanned}

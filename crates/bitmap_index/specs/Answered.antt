@@ -19,7 +19,7 @@ use Rattle.roaring.specs.declared.Extent.{Extent}
 use Rattle.roaring.specs.Reading.{Read, got, read, choose, anyFrom, fits, marking, fieldAfter}
 use Rattle.roaring.specs.Theorems.{laid-out-is-read}
 use Rattle.stored_value.specs.Meaning.{Cell, sameCell}
-use Rattle.stored_value.specs.Reading.{Out, ok, check, andThen}
+use Rattle.refusal.specs.Reading.{Out, ok, check, andThen}
 use Rattle.stored_value.specs.Laws.{sameCell→eq, sameCell-sym}
 use Rattle.dictionary.specs.Layout.{Entry, minusOne, someHas}
 use Rattle.dictionary.specs.Theorems.{Once}

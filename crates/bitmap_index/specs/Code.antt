@@ -1,5 +1,4 @@
--- What the code's answers say, in the reading's terms: those of Audit and Ask (01, "What the library offers" and "Questions"), then those of private
--- functions.
+-- What the answers of private functions say, in the reading's terms.
 use mathlib.Core.Path.{_≡_}
 use Prim.Native.Nat.{ℕ, _-_, _≤_}
 use mathlib.Core.Bool.{Bool, _||_, cond}
@@ -9,32 +8,20 @@ use lib.ListN.{length, take, drop}
 use Rattle.refusal.specs.declared.Refusal.the-variants.{Missing}
 use Rattle.row_field.specs.Meaning.{count, cleared}
 use Rattle.stored_value.specs.Meaning.{Cell, value}
-use Rattle.stored_value.specs.Reading.{Out, refuse, ok, check, andThen, literals}
+use Rattle.refusal.specs.Reading.{Out, refuse, ok, check, andThen}
+use Rattle.stored_value.specs.Reading.{literals}
 use Rattle.dictionary.specs.declared.Checked.{Checked}
 use Rattle.dictionary.specs.declared.Checked.the-variants.{Found}
 use Rattle.dictionary.specs.declared.Head.{Head}
 use Rattle.dictionary.specs.declared.EntryAt.{EntryAt}
-use Rattle.dictionary.specs.Layout.{Entry, Patterns}
+use Rattle.dictionary.specs.Code.{Patterns, Stand, nullsOf, firstLeft}
+use Rattle.dictionary.specs.Layout.{Entry}
 use Rattle.dictionary.specs.Reading.{Dictionary}
-use Rattle.dictionary.specs.Code.{Stand, nullsOf, firstLeft}
-use Rattle.bitmap_index.specs.declared.Audited.{Audited}
-use Rattle.bitmap_index.specs.declared.Audited.the-variants.{Rows}
 use Rattle.bitmap_index.specs.declared.Answered.{Answered}
-use Rattle.bitmap_index.specs.declared.Answered.the-variants.{Skip, Keep}
 use Rattle.bitmap_index.specs.declared.Outcome.{Outcome}
 use Rattle.bitmap_index.specs.declared.Outcome.the-variants.{Done}
-use Rattle.bitmap_index.specs.Meaning.{chosen, keeps}
-use Rattle.bitmap_index.specs.Reading.{Answer, placeAll, prepared, audited, answered, bufferOf}
-
--- Audit: a refusal, or the row count
-unfoldable pub auditedBy : Out ℕ → Audited
-auditedBy (refuse r) = Audited.Refused r
-auditedBy (ok n) = Rows n
-
--- Ask: a refusal, or skip where no row is chosen, else keep and how many are
-unfoldable pub answeredBy : Out Answer → Answered
-answeredBy (refuse r) = Answered.Refused r
-answeredBy (ok a) = cond (keeps (a .matched)) (Keep (a .matched)) Skip
+use Rattle.bitmap_index.specs.Meaning.{chosen}
+use Rattle.bitmap_index.specs.Reading.{Answer, placeAll, prepared, audited, answered, bufferOf, answeredBy}
 
 -- ---- placing rows
 

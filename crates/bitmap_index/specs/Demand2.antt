@@ -16,7 +16,7 @@ use Rattle.refusal.specs.declared.Refusal.the-variants.{Version, Room, Literal,
 use Rattle.row_field.specs.Meaning.{size, cleared}
 use Rattle.row_field.specs.Marks.{bytes-zeros}
 use Rattle.stored_value.specs.Meaning.{Cell, literalBytes}
-use Rattle.stored_value.specs.Reading.{refuse, ok, check, andThen}
+use Rattle.refusal.specs.Reading.{refuse, ok, check, andThen}
 use Rattle.stored_value.specs.Laws.{literals-back}
 use Rattle.dictionary.specs.Reading.{Dictionary}
 use Rattle.bitmap_index.specs.Meaning.{Column, Question, scan}
@@ -24,7 +24,8 @@ use Rattle.bitmap_index.specs.Layout.{Body, version1, version2}
 use Rattle.bitmap_index.specs.Reading.{roomFor, prepared, audit, auditBuffer, asked, Answer, ask, askBuffer}
 use Rattle.bitmap_index.specs.Theorems.{column-is-answered}
 use Rattle.bitmap_index.specs.Alike.{same-column}
-use Rattle.bitmap_index.specs.Taken.{then-ok, check-ok, ok-same, audit-passed, asked-back, ask-parts}
+use Rattle.refusal.specs.Laws.{then-ok, check-ok}
+use Rattle.bitmap_index.specs.Taken.{ok-same, audit-passed, asked-back, ask-parts}
 use Rattle.bitmap_index.specs.Accepted.{holder, columnOf, length-table, passed-body, OnePlaceEach, passed-once}
 use Rattle.bitmap_index.specs.Versions.{version-audited, version-audited-buffer, version-asked, version-asked-buffer}
 

@@ -6,6 +6,7 @@ use Prim.Native.Nat.{ℕ, _+_, _-_, _≤_, _<_}
 use mathlib.Core.Bool.{true, cond}
 use mathlib.Core.List.{List, [], _∷_, _++_}
 use lib.ListN.{length}
+use Rattle.numbers.specs.Meaning.{All}
 use Rattle.roaring.specs.Layout.{Bitmap}
 use Rattle.stored_value.specs.Meaning.{Cell, null, sameCell}
 use Rattle.dictionary.specs.Layout.{Entry, minusOne, NullOnly, someHas, Distinct, NoExtents, body1, Rises, NoneEmpty, joined, body2}
@@ -26,13 +27,11 @@ pub data Placed (region rows : List ℕ) (e : Entry) : Type 0 where
 
 -- each entry has exactly the rows of its cell
 abbrev pub AllPlaced : List ℕ → List Cell → List Entry → Type 0
-AllPlaced region cells [] = Unit {0}
-AllPlaced region cells (e ∷ es) = Placed region (rowsWith (e .cell) 0 cells) e × AllPlaced region cells es
+AllPlaced region cells es = All (λ (e : Entry). Placed region (rowsWith (e .cell) 0 cells) e) es
 
 -- an entry for each of the column's cells (has-null 0: no null rows)
 abbrev pub Covers : List Entry → List Cell → Type 0
-Covers es [] = Unit {0}
-Covers es (c ∷ cells) = (someHas c es ≡ true) × Covers es cells
+Covers es cells = All (λ (c : Cell). someHas c es ≡ true) cells
 
 -- ---- the bodies of a column of type t, within 01's limits
 

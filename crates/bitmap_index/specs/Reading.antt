@@ -14,10 +14,15 @@ use Rattle.roaring.specs.declared.Extent.the-variants.{AsLong, Exactly}
 use Rattle.roaring.specs.declared.Marked.{Marked}
 use Rattle.roaring.specs.declared.Marked.the-variants.{Refused, Done}
 use Rattle.roaring.specs.Reading.{Read, read, marking, fieldAfter}
-use Rattle.stored_value.specs.Reading.{Out, refuse, ok, check, andThen, literals}
+use Rattle.refusal.specs.Reading.{Out, refuse, ok, check, andThen}
+use Rattle.stored_value.specs.Reading.{literals}
 use Rattle.dictionary.specs.Layout.{Entry, minusOne}
 use Rattle.dictionary.specs.Reading.{Dictionary, dictionary}
-use Rattle.bitmap_index.specs.Meaning.{chosen, takes}
+use Rattle.bitmap_index.specs.declared.Audited.{Audited}
+use Rattle.bitmap_index.specs.declared.Audited.the-variants.{Rows}
+use Rattle.bitmap_index.specs.declared.Answered.{Answered}
+use Rattle.bitmap_index.specs.declared.Answered.the-variants.{Skip, Keep}
+use Rattle.bitmap_index.specs.Meaning.{chosen, takes, keeps}
 
 -- ---- the bitmaps
 
@@ -108,3 +113,15 @@ bufferOf (ok a) otherwise = a .buffer
 
 unfoldable pub askBuffer : ℕ → ℕ → List ℕ → List ℕ → List ℕ → List ℕ
 askBuffer t q literal body field = bufferOf (ask t q literal body field) (zeroedFrom (askPrepared t q literal body field) field)
+
+-- ---- the calls' answers
+
+-- Audit: a refusal, or the row count
+unfoldable pub auditedBy : Out ℕ → Audited
+auditedBy (refuse r) = Audited.Refused r
+auditedBy (ok n) = Rows n
+
+-- Ask: a refusal, or skip where no row is chosen, else keep and how many are
+unfoldable pub answeredBy : Out Answer → Answered
+answeredBy (refuse r) = Answered.Refused r
+answeredBy (ok a) = cond (keeps (a .matched)) (Keep (a .matched)) Skip

@@ -24,7 +24,9 @@ use Rattle.roaring.specs.declared.Marked.the-variants.{Refused, Done}
 use Rattle.roaring.specs.Layout as roaring
 use Rattle.roaring.specs.Reading.{Read, refused, got, read, choose, anyFrom, fits, marking, fieldAfter}
 use Rattle.roaring.specs.Theorems.{read-was-laid-out, rows-rising}
-use Rattle.stored_value.specs.Reading.{Out, refuse, ok, check, andThen, literals}
+use Rattle.refusal.specs.Laws.{check-ok, then-ok}
+use Rattle.refusal.specs.Reading.{Out, refuse, ok, check, andThen}
+use Rattle.stored_value.specs.Reading.{literals}
 use Rattle.dictionary.specs.Layout.{Entry, minusOne}
 use Rattle.dictionary.specs.Reading.{Dictionary, dictionary}
 use Rattle.bitmap_index.specs.Meaning.{takes}
@@ -35,16 +37,6 @@ use Rattle.bitmap_index.specs.Reading.{extentOf, once, placeBitmap, plac
 
 never : {A X : Type 0} (r : Refusal) (a : A) → refuse r ≡ ok a → X
 never r a e = absurd (let z : _≡_ {A = ℕ} 0 1 = cc in omega arith)
-
-pub then-ok : {A B : Type 0} (x : Out A) (k : A → Out B) (b : B) → andThen x k ≡ ok b → (a : A) × (x ≡ ok a) × (k a ≡ ok b)
-unfolding andThen
-then-ok (refuse r) k b e = never r b e
-then-ok (ok a) k b e = (a, refl, e)
-
-pub check-ok : {A : Type 0} (b : Bool) (r : Refusal) (x : Out A) (a : A) → check b r x ≡ ok a → (b ≡ true) × (x ≡ ok a)
-unfolding check
-check-ok true r x a e = (refl, e)
-check-ok false r x a e = never r a e
 
 pub ok-same : {A : Type 0} (a b : A) → ok a ≡ ok b → a ≡ b
 ok-same a b e = cc

@@ -11,9 +11,10 @@ use Rattle.numbers.specs.Laws.{Bytes, length-spelled}
 use Rattle.refusal.specs.Meaning.{limit}
 use Rattle.row_field.specs.Meaning.{size, cleared}
 use Rattle.stored_value.specs.Meaning.{Cell, widths, width, Value, number, string, Literals, literalBytes}
-use Rattle.stored_value.specs.Reading.{ok, check, andThen}
+use Rattle.refusal.specs.Reading.{ok, check, andThen}
 use Rattle.stored_value.specs.Laws.{literals-laid}
-use Rattle.dictionary.specs.Layout.{Entry, entries1, null1, body1, joined, blocks, directory, null2, body2, Patterns}
+use Rattle.dictionary.specs.Code.{Patterns}
+use Rattle.dictionary.specs.Layout.{Entry, entries1, null1, body1, joined, blocks, directory, null2, body2}
 use Rattle.dictionary.specs.Reading.{dictionary}
 use Rattle.dictionary.specs.Theorems.{one-is-read, two-is-read, one-has-each-once, two-has-each-once}
 use Rattle.bitmap_index.specs.Meaning.{Question, scan}

@@ -9,7 +9,7 @@ use lib.ListN.{length}
 use Rattle.refusal.specs.Meaning.{limit}
 use Rattle.refusal.specs.declared.Refusal.{Refusal}
 use Rattle.refusal.specs.declared.Refusal.the-variants.{Version, Literal, Limit}
-use Rattle.stored_value.specs.Reading.{Out, refuse, ok, check, andThen}
+use Rattle.refusal.specs.Reading.{Out, refuse, ok, check, andThen}
 use Rattle.dictionary.specs.Reading.{Dictionary}
 use Rattle.dictionary.specs.Theorems.{version-known}
 use Rattle.bitmap_index.specs.Reading.{prepared, audited, audit, auditBuffer, zeroedFrom, asked, answered, ask, askBuffer, askPrepared, bufferOf}

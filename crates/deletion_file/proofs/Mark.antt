@@ -18,7 +18,8 @@ use Rattle.roaring.specs.declared.Marked.the-variants.{Refused, Done}
 use Rattle.roaring.specs.Reading.{Read, refused, got, choose, anyFrom, fits, read, marking, fieldAfter}
 use Rattle.deletion_file.specs.declared.Deletions.the-variants.{Deleted}
 use Rattle.deletion_file.specs.declared.Deletions.{Deletions}
-use Rattle.deletion_file.specs.Reading.{Out, refuse, ok, marked, before, markedBy, bitmapIn, bitmapOf, outcome, answerOf, fieldThen}
+use Rattle.refusal.specs.Reading.{Out, refuse, ok}
+use Rattle.deletion_file.specs.Reading.{marked, before, markedBy, bitmapIn, bitmapOf, outcome, answerOf, fieldThen}
 use Rattle.deletion_file.specs.Code.{part, bytesAt, fieldFrom}
 use Rattle.deletion_file.specs.declared.Place.{Place}
 use Rattle.deletion_file.specs.declared.Place.the-variants.{At}

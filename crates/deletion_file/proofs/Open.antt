@@ -12,7 +12,8 @@ use Rattle.numbers.specs.Laws.{numberAt-drop}
 use Rattle.refusal.specs.declared.Refusal.{Refusal}
 use Rattle.refusal.specs.declared.Refusal.the-variants.{Short, Magic, Version, Checksum}
 use Rattle.crc32.specs.Meaning.{checksum}
-use Rattle.deletion_file.specs.Reading.{refuse, ok, check, andThen, bins, asked, opened, bitmapOf}
+use Rattle.refusal.specs.Reading.{refuse, ok, check, andThen}
+use Rattle.deletion_file.specs.Reading.{bins, asked, opened, bitmapOf}
 use Rattle.deletion_file.specs.Code.{part, binFrom, binAt}
 use Rattle.deletion_file.specs.declared.Place.{Place}
 use Rattle.deletion_file.specs.declared.Place.the-variants.{Refused, At}

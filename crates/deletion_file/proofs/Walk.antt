@@ -14,7 +14,8 @@ use Rattle.numbers.specs.Meaning.{beAt, big}
 use Rattle.numbers.specs.Laws.{numberAt-drop, number-at, number-short}
 use Rattle.refusal.specs.declared.Refusal.the-variants.{Short, NoBin}
 use Rattle.deletion_file.specs.Layout.{Bin}
-use Rattle.deletion_file.specs.Reading.{Out, refuse, ok, check, andThen, front, bins, asked}
+use Rattle.refusal.specs.Reading.{Out, refuse, ok, check, andThen}
+use Rattle.deletion_file.specs.Reading.{front, bins, asked}
 use Rattle.deletion_file.specs.Code.{binFrom}
 
 -- ---- one after the other

@@ -21,8 +21,10 @@ use Rattle.roaring.specs.Reading.{Read, refused, got, read, choose, anyFrom, fi
 use Rattle.roaring.specs.Theorems.{read-was-laid-out}
 use Rattle.deletion_file.specs.declared.Deletions.the-variants.{Deleted}
 use Rattle.deletion_file.specs.Layout.{Bin, magic, binOf, frames}
-use Rattle.deletion_file.specs.Reading.{Out, refuse, ok, andThen, bins, asked, opened, bitmapOf, Outcome, untouched, zeroed, marked, before, markedBy, bitmapIn, answerOf}
-use Rattle.deletion_file.specs.Frames.{Framed, not-ok, check-passed, then-passed, nothing, walk-passed}
+use Rattle.refusal.specs.Reading.{Out, refuse, ok, andThen}
+use Rattle.deletion_file.specs.Reading.{bins, asked, opened, bitmapOf, Outcome, untouched, zeroed, marked, before, markedBy, bitmapIn, answerOf}
+use Rattle.refusal.specs.Laws.{not-ok, check-ok, then-ok}
+use Rattle.deletion_file.specs.Frames.{Framed, nothing, walk-passed}
 use Rattle.deletion_file.specs.Fields.{any-below}
 
 -- ---- bytes of a part
@@ -75,8 +77,8 @@ bin-same x bytes sum e f = rw (← e, ← f)
 opened-back : (x : Bin) (bitmap : List ℕ) → Bytes (x .bytes) → 4 ≤ length (x .bytes) → opened x ≡ ok bitmap → (x ≡ binOf bitmap) × (bitmap ≡ drop 4 (x .bytes))
 unfolding opened
 opened-back x bitmap b h e =
-    let m = check-passed (eqb (beAt 4 (x .bytes) 0) magic) Magic _ e in
-    let c = check-passed (eqb (checksum (x .bytes)) (x .sum)) Checksum _ (m .1) in
+    let m = check-ok (eqb (beAt 4 (x .bytes) 0) magic) Magic _ _ e in
+    let c = check-ok (eqb (checksum (x .bytes)) (x .sum)) Checksum _ _ (m .1) in
     let d : drop 4 (x .bytes) ≡ bitmap = cc in
     let v : beAt 4 (x .bytes) 0 ≡ magic = eqb-true _ _ (m .0) in
     let s : checksum (x .bytes) ≡ x .sum = eqb-true _ _ (c .0) in
@@ -116,10 +118,10 @@ found-at file b bitmap xs x p t w g h e =
 pub bitmap-found : (file : List ℕ) (b : ℕ) (bitmap : List ℕ) → Bytes file → bitmapOf b file ≡ ok bitmap → Found file b bitmap
 unfolding bitmapOf
 bitmap-found file b bitmap t e =
-    let c = check-passed (leb 1 (length file)) Short _ e in
-    let d = check-passed (eqb (getD file 0 0) 1) Version _ (c .1) in
-    let w = then-passed (andThen (bins (length file) (drop 1 file)) (asked b)) opened (d .1) in
-    let v = then-passed (bins (length file) (drop 1 file)) (asked b) (w .1) in
+    let c = check-ok (leb 1 (length file)) Short _ _ e in
+    let d = check-ok (eqb (getD file 0 0) 1) Version _ _ (c .1) in
+    let w = then-ok (andThen (bins (length file) (drop 1 file)) (asked b)) opened _ (d .1) in
+    let v = then-ok (bins (length file) (drop 1 file)) (asked b) _ (w .1) in
     let p = walk-passed (length file) (drop 1 file) (v .0) (bytes-drop 1 file t) (v .1) in
     found-at file b bitmap (v .0) (w .0) (asked-placed b (v .0) (v .2)) t (first-byte file (leb-true _ _ (c .0)) (eqb-true _ _ (d .0))) (p .0) (p .1) (w .2)
 

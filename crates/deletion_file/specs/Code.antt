@@ -6,7 +6,8 @@ use Rattle.numbers.specs.Meaning.{beAt}
 use Rattle.deletion_file.specs.declared.Place.{Place}
 use Rattle.deletion_file.specs.declared.Place.the-variants.{Refused, At}
 use Rattle.deletion_file.specs.Layout.{Bin}
-use Rattle.deletion_file.specs.Reading.{Out, refuse, ok, Outcome, untouched, zeroed, marked}
+use Rattle.refusal.specs.Reading.{Out, refuse, ok}
+use Rattle.deletion_file.specs.Reading.{Outcome, untouched, zeroed, marked}
 
 -- the bytes from start to end
 abbrev pub part : ℕ → ℕ → List ℕ → List ℕ

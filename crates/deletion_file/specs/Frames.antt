@@ -13,27 +13,14 @@ use Rattle.numbers.specs.Laws.{Bytes, bytes-drop, beAt-lt, numberAt-drop, numbe
 use Rattle.refusal.specs.declared.Refusal.{Refusal}
 use Rattle.refusal.specs.declared.Refusal.the-variants.{Short}
 use Rattle.deletion_file.specs.Layout.{Bin, frames}
-use Rattle.deletion_file.specs.Reading.{Out, refuse, ok, check, andThen, front, bins}
+use Rattle.refusal.specs.Laws.{not-ok, check-ok, then-ok}
+use Rattle.refusal.specs.Reading.{Out, refuse, ok, check, andThen}
+use Rattle.deletion_file.specs.Reading.{front, bins}
 
 -- each size is at least 4, and sizes and checksums have four bytes
 abbrev pub Framed : List Bin → Type 0
 Framed [] = Unit {0}
 Framed (x ∷ xs) = (4 ≤ length (x .bytes)) × (length (x .bytes) < 4294967296) × (x .sum < 4294967296) × Framed xs
-
--- ---- taken apart: what passed a test, and what came of a step that followed
-
-pub not-ok : {A : Type 0} {r : Refusal} {a : A} → refuse r ≡ ok a → ⊥
-not-ok e = let z : _≡_ {A = ℕ} 0 1 = cc in omega arith
-
-pub check-passed : {A : Type 0} (t : Bool) (r : Refusal) (o : Out A) {a : A} → check t r o ≡ ok a → (t ≡ true) × (o ≡ ok a)
-unfolding check
-check-passed true r o e = (refl, e)
-check-passed false r o e = absurd (not-ok e)
-
-pub then-passed : {A B : Type 0} (o : Out A) (f : A → Out B) {b : B} → andThen o f ≡ ok b → (a : A) × (o ≡ ok a) × (f a ≡ ok b)
-unfolding andThen
-then-passed (refuse r) f e = absurd (not-ok e)
-then-passed (ok a) f e = (a, refl, e)
 
 -- ---- framed bins are passed
 
@@ -109,9 +96,9 @@ walk-passed (suc steps) s xs b e =
     end-or s xs _ e
     (λ g. on-number big 4 (refuse Short) (λ o. o ≡ ok xs) (λ s. Framed xs × (s ≡ frames xs)) s _ not-ok b g
     (λ v t l b′ g.
-    let c = check-passed (leb 4 v) Short _ g in
-    let d = check-passed (leb (v + 4) (length t)) Short _ (c .1) in
-    let w = then-passed (bins steps (drop (v + 4) t)) _ (d .1) in
+    let c = check-ok (leb 4 v) Short _ _ g in
+    let d = check-ok (leb (v + 4) (length t)) Short _ _ (c .1) in
+    let w = then-ok (bins steps (drop (v + 4) t)) _ _ (d .1) in
     let n : front v t ∷ w .0 ≡ xs = cc in
     all-passed v t xs (w .0) l b′ (leb-true 4 v (c .0)) (leb-true (v + 4) (length t) (d .0)) n
     (walk-passed steps (drop (v + 4) t) (w .0) (bytes-drop (v + 4) t b′) (w .1))))

@@ -14,7 +14,8 @@ use Rattle.roaring.specs.Layout.{Bitmap}
 use Rattle.roaring.specs.Reading.{got, read, choose, fits, marking, fieldAfter}
 use Rattle.roaring.specs.Theorems.{laid-out-is-read}
 use Rattle.deletion_file.specs.Layout.{Bin, magic, binOf, frames, Bins, none, more, DeletionFile, version-1}
-use Rattle.deletion_file.specs.Reading.{ok, check, andThen, asked, opened, bitmapOf, marked, markedBy, bitmapIn}
+use Rattle.refusal.specs.Reading.{ok, check, andThen}
+use Rattle.deletion_file.specs.Reading.{asked, opened, bitmapOf, marked, markedBy, bitmapIn}
 use Rattle.deletion_file.specs.Frames.{Framed, walk-passes}
 use Rattle.deletion_file.specs.Fields.{below-any}
 use Rattle.deletion_file.specs.Bytes.{bytes-bitmap, bytes-bin}

@@ -7,6 +7,7 @@ use lib.Dec.{eqb, leb}
 use lib.ListN.{length, take, drop, getD}
 use Rattle.numbers.specs.Meaning.{beAt, big, number}
 use Rattle.refusal.specs.Meaning.{limit}
+use Rattle.refusal.specs.Reading.{Out, refuse, ok, check, andThen}
 use Rattle.refusal.specs.declared.Refusal.{Refusal}
 use Rattle.refusal.specs.declared.Refusal.the-variants.{Short, Magic, Version, Room, Limit, Checksum, NoBin}
 use Rattle.crc32.specs.Meaning.{checksum}
@@ -18,19 +19,6 @@ use Rattle.roaring.specs.Reading.{read, marking, fieldAfter}
 use Rattle.deletion_file.specs.declared.Deletions.{Deletions}
 use Rattle.deletion_file.specs.declared.Deletions.the-variants.{Deleted}
 use Rattle.deletion_file.specs.Layout.{Bin, magic}
-
-pub data Out (A : Type 0) : Type 0 where
-  refuse : Refusal → Out A
-  ok : A → Out A
-
--- o where the test holds, else the refusal
-unfoldable pub check : {A : Type 0} → Bool → Refusal → Out A → Out A
-check true r o = o
-check false r o = refuse r
-
-unfoldable pub andThen : {A B : Type 0} → Out A → (A → Out B) → Out B
-andThen (refuse r) k = refuse r
-andThen (ok a) k = k a
 
 -- ---- the file
 

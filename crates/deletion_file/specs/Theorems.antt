@@ -15,8 +15,10 @@ use Rattle.roaring.specs.Layout.{Bitmap}
 use Rattle.roaring.specs.Theorems.{rows-rising}
 use Rattle.deletion_file.specs.declared.Deletions.the-variants.{Deleted}
 use Rattle.deletion_file.specs.Layout.{Bin, frames, binOf, DeletionFile}
-use Rattle.deletion_file.specs.Reading.{refuse, check, bitmapOf, zeroed, marked, before, bitmapIn, outcome, answerOf, fieldThen}
-use Rattle.deletion_file.specs.Frames.{Framed, check-passed}
+use Rattle.refusal.specs.Reading.{refuse, check}
+use Rattle.deletion_file.specs.Reading.{bitmapOf, zeroed, marked, before, bitmapIn, outcome, answerOf, fieldThen}
+use Rattle.refusal.specs.Laws.{check-ok}
+use Rattle.deletion_file.specs.Frames.{Framed}
 use Rattle.deletion_file.specs.Fields.{marked-field, marked-count}
 use Rattle.deletion_file.specs.LaidOut.{bitmap-laid, marked-laid}
 use Rattle.deletion_file.specs.Accepted.{Found, bitmap-found, Rows, bitmap-rows, bitmap-there, before-passed, answer-marked}
@@ -106,6 +108,6 @@ rows-have-version-1 file b n field k e =
     let m = before-passed (leb n limit) Limit _ (l .1) in
     let o = before-passed (leb (size n) (length field)) Room _ (m .1) in
     let w = bitmap-there n (cleared n field) (bitmapOf b file) (o .1) in
-    let c = check-passed (leb 1 (length file)) Short _ (w .1) in
-    let d = check-passed (eqb (getD file 0 0) 1) Version _ (c .1) in
+    let c = check-ok (leb 1 (length file)) Short _ _ (w .1) in
+    let d = check-ok (eqb (getD file 0 0) 1) Version _ _ (c .1) in
     eqb-true (getD file 0 0) 1 (d .0)

@@ -12,7 +12,7 @@ use borrow.Author.Tests.{le-leb, lt-leb, lt-ltb, le-ltb, ne-eqb}
 use Rattle.numbers.specs.Meaning.{big, beAt, number}
 use Rattle.refusal.specs.declared.Refusal.{Refusal}
 use Rattle.refusal.specs.declared.Refusal.the-variants.{Short, Dict, Limit, Version}
-use Rattle.stored_value.specs.Reading.{Out, refuse, check}
+use Rattle.refusal.specs.Reading.{Out, refuse, check}
 use Rattle.dictionary.specs.declared.Count.{Count}
 use Rattle.dictionary.specs.declared.Count.the-variants.{Is}
 use Rattle.dictionary.specs.declared.Fixed.the-variants.{Fields}

@@ -8,12 +8,13 @@ use lib.Dec.{eqb, ltb, leb}
 use lib.ListN.{length, take, drop, length-append, length-drop}
 use lib.Seq.{drop-drop, length-take-le}
 use borrow.Author.Tests.{leb-true, leb-false, le-leb, lt-leb, lt-ltb, le-ltb, eq-eqb, ne-eqb}
-use Rattle.numbers.specs.Meaning.{big, beAt, number}
+use Rattle.numbers.specs.Meaning.{big, beAt, number, same}
 use Rattle.numbers.specs.Laws.{numberAt-drop}
 use Rattle.refusal.specs.declared.Refusal.{Refusal}
 use Rattle.refusal.specs.declared.Refusal.the-variants.{Short, Dict}
-use Rattle.stored_value.specs.Meaning.{Cell, null, value, same, less}
-use Rattle.stored_value.specs.Reading.{Out, refuse, ok, check, valueSize}
+use Rattle.stored_value.specs.Meaning.{Cell, null, value, less}
+use Rattle.refusal.specs.Reading.{Out, refuse, ok, check}
+use Rattle.stored_value.specs.Reading.{valueSize}
 use Rattle.dictionary.specs.declared.Span.{Span}
 use Rattle.dictionary.specs.declared.Passed.{Passed}
 use Rattle.dictionary.specs.declared.Count.{Count}

@@ -4,7 +4,7 @@ use mathlib.Core.Path.{_≡_, _∙_}
 use mathlib.Core.Bool.{Bool, true, false}
 use mathlib.Core.List.{List}
 use Rattle.refusal.specs.declared.Refusal.{Refusal}
-use Rattle.stored_value.specs.Reading.{refuse}
+use Rattle.refusal.specs.Reading.{refuse}
 use Rattle.dictionary.specs.declared.Checked.{Checked}
 use Rattle.dictionary.specs.declared.Fixed.{Fixed}
 use Rattle.dictionary.specs.declared.Null.{Null}

@@ -8,7 +8,8 @@ use lib.ListN.{length, take, drop}
 use Rattle.numbers.specs.Meaning.{beAt}
 use Rattle.refusal.specs.declared.Refusal.the-variants.{Short, Dict}
 use Rattle.stored_value.specs.Meaning.{Cell, null, value, width}
-use Rattle.stored_value.specs.Reading.{Out, refuse, ok, valueSize}
+use Rattle.refusal.specs.Reading.{Out, refuse, ok}
+use Rattle.stored_value.specs.Reading.{valueSize}
 use Rattle.dictionary.specs.declared.Value.{Value}
 use Rattle.dictionary.specs.declared.Count.{Count}
 use Rattle.dictionary.specs.declared.Count.the-variants.{Is}

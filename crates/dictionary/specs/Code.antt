@@ -1,7 +1,7 @@
 -- Where the code finds entries: a cursor is a position and the number of entries left in the block that is open, 0 where a block's number is due.
 -- Version 1 has no blocks: all its entries are left from the start.
 use mathlib.Core.Path.{_≡_}
-use Prim.Native.Nat.{ℕ, _+_, _-_, _≤_}
+use Prim.Native.Nat.{ℕ, _+_, _-_, _≤_, _<_}
 use mathlib.Core.Bool.{Bool, true, false, cond}
 use mathlib.Core.List.{List, [], _∷_, _++_}
 use lib.Dec.{eqb}
@@ -9,13 +9,19 @@ use lib.ListN.{length, take, drop}
 use Rattle.numbers.specs.Meaning.{beAt}
 use Rattle.refusal.specs.declared.Refusal.the-variants.{Short, Dict}
 use Rattle.stored_value.specs.Meaning.{null, value}
-use Rattle.stored_value.specs.Reading.{refuse, ok, valueSize}
+use Rattle.refusal.specs.Reading.{refuse, ok}
+use Rattle.stored_value.specs.Reading.{valueSize}
 use Rattle.dictionary.specs.declared.Checked.{Checked}
 use Rattle.dictionary.specs.declared.Checked.the-variants.{Refused, Found}
 use Rattle.dictionary.specs.declared.Head.{Head}
 use Rattle.dictionary.specs.declared.EntryAt.{EntryAt}
 use Rattle.dictionary.specs.Layout.{Entry, minusOne}
 use Rattle.dictionary.specs.Reading.{Dictionary, dictionary}
+
+-- both numbers of each entry are 32-bit patterns
+abbrev pub Patterns : List Entry → Type 0
+Patterns [] = Unit {0}
+Patterns (e ∷ es) = (e .offset < 4294967296) × (e .extent < 4294967296) × Patterns es
 
 -- the bytes of a block's number, where that is due, and the entries left then
 abbrev pub opening : ℕ → ℕ

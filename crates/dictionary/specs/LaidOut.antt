@@ -13,10 +13,13 @@ use Rattle.numbers.specs.Meaning.{be, big, number}
 use Rattle.numbers.specs.Laws.{number-laid}
 use Rattle.refusal.specs.declared.Refusal.the-variants.{Short, Dict}
 use Rattle.stored_value.specs.Meaning.{Cell, null, value, sameCell}
-use Rattle.stored_value.specs.Reading.{Out, refuse, ok, check, andThen, valueOf}
-use Rattle.dictionary.specs.Layout.{Entry, Valued, NullOnly, someHas, Distinct, NoExtents, valueBytes, entries1, hasNull, null1, body1, first, Past, Rises, NoneEmpty, joined, entries2, block, blocks, directory, null2, body2, Patterns}
+use Rattle.refusal.specs.Reading.{Out, refuse, ok, check, andThen}
+use Rattle.stored_value.specs.Reading.{valueOf}
+use Rattle.dictionary.specs.Code.{Patterns}
+use Rattle.dictionary.specs.Layout.{Entry, Valued, NullOnly, someHas, Distinct, NoExtents, valueBytes, entries1, hasNull, null1, body1, first, Past, Rises, NoneEmpty, joined, entries2, block, blocks, directory, null2, body2}
 use Rattle.dictionary.specs.Reading.{counted, Dictionary, entriesOne, Listing, listings, past, heads, entriesTwo, behind, blocksOf, blocked, nullOf, dictionary}
-use Rattle.stored_value.specs.Laws.{value-laid, same-refl, sameCell-sym}
+use Rattle.numbers.specs.Same.{same-refl}
+use Rattle.stored_value.specs.Laws.{value-laid, sameCell-sym}
 
 -- ---- a value
 

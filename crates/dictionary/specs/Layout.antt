@@ -5,7 +5,7 @@ use Prim.Native.Nat.{ℕ, _+_, _≤_, _<_}
 use mathlib.Core.Bool.{Bool, true, false, _||_}
 use mathlib.Core.List.{List, [], _∷_, _++_}
 use lib.ListN.{length}
-use Rattle.numbers.specs.Meaning.{be}
+use Rattle.numbers.specs.Meaning.{All, be}
 use Rattle.stored_value.specs.Meaning.{Cell, null, value, Value, sameCell, less}
 
 -- a stored cell, null's or a value's, with the two numbers that say where its rows are
@@ -41,8 +41,7 @@ Distinct t [] = Unit {0}
 Distinct t (e ∷ es) = Valued t (e .cell) × (someHas (e .cell) es ≡ false) × Distinct t es
 
 abbrev pub NoExtents : List Entry → Type 0
-NoExtents [] = Unit {0}
-NoExtents (e ∷ es) = (e .extent ≡ minusOne) × NoExtents es
+NoExtents es = All (λ (e : Entry). e .extent ≡ minusOne) es
 
 abbrev pub valueBytes : Cell → List ℕ
 valueBytes null = []
@@ -81,8 +80,7 @@ Rises t before (e ∷ es) = Valued t (e .cell) × Past t before (e .cell) × Ris
 
 -- the blocks are cut as the writer likes, none of them empty
 abbrev pub NoneEmpty : List (List Entry) → Type 0
-NoneEmpty [] = Unit {0}
-NoneEmpty (b ∷ bs) = (1 ≤ length b) × NoneEmpty bs
+NoneEmpty bs = All (λ (b : List Entry). 1 ≤ length b) bs
 
 abbrev pub joined : List (List Entry) → List Entry
 joined [] = []
@@ -112,8 +110,3 @@ abbrev pub body2 : ℕ → List Entry → List (List Entry) → List ℕ → Lis
 body2 n nulls bs region =
     2 ∷ (be 4 n ++ (be 4 (length (joined bs)) ++ (hasNull nulls ∷ (null2 nulls ++ (be 4 (length bs)
     ++ (directory 0 bs ++ (be 4 (length (blocks bs)) ++ (blocks bs ++ region))))))))
-
--- both numbers of each entry are 32-bit patterns
-abbrev pub Patterns : List Entry → Type 0
-Patterns [] = Unit {0}
-Patterns (e ∷ es) = (e .offset < 4294967296) × (e .extent < 4294967296) × Patterns es

@@ -8,8 +8,9 @@ use mathlib.Core.List.{List, [], _∷_}
 use lib.ListN.{drop}
 use lib.Dec.{eqb, ltb}
 use borrow.Author.Tests.{ltb-true, eqb-true, lt-ltb, le-ltb, eq-eqb}
-use Rattle.stored_value.specs.Meaning.{width, isString, same, rank, bytesLess, less}
-use Rattle.stored_value.specs.Laws.{same→eq}
+use Rattle.numbers.specs.Meaning.{same}
+use Rattle.stored_value.specs.Meaning.{width, isString, rank, bytesLess, less}
+use Rattle.numbers.specs.Same.{same→eq}
 
 never : true ≡ false → ⊥
 never e = let z : _≡_ {A = ℕ} 0 1 = cc in omega arith

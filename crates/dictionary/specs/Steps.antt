@@ -8,14 +8,16 @@ use lib.Dec.{eqb, ltb, leb}
 use lib.ListN.{length, take, drop, length-append, length-drop}
 use lib.Seq.{drop-drop}
 use borrow.Author.Tests.{leb-true, eqb-true, eqb-false, ne-eqb}
-use Rattle.numbers.specs.Meaning.{big, beAt, number}
+use Rattle.numbers.specs.Meaning.{big, beAt, number, same}
 use Rattle.numbers.specs.Laws.{number-at, number-short, numberAt-drop}
 use Rattle.refusal.specs.declared.Refusal.{Refusal}
 use Rattle.refusal.specs.declared.Refusal.the-variants.{Short, Dict, Limit}
 use Rattle.stored_value.specs.declared.Sized.{Sized}
 use Rattle.stored_value.specs.declared.Sized.the-variants.{Bytes}
-use Rattle.stored_value.specs.Meaning.{value, width, isString, booleanOk, same, sameCell}
-use Rattle.stored_value.specs.Reading.{Out, refuse, ok, check, andThen, valueSize, valueOf}
+use Rattle.stored_value.specs.Meaning.{value, width, isString, booleanOk, sameCell}
+use Rattle.refusal.specs.Laws.{check-ok}
+use Rattle.refusal.specs.Reading.{Out, refuse, ok, check, andThen}
+use Rattle.stored_value.specs.Reading.{valueSize, valueOf}
 use Rattle.stored_value.specs.Code.{sizedBy}
 use Rattle.dictionary.specs.declared.Value.{Value}
 use Rattle.dictionary.specs.Layout.{Entry, minusOne, someHas}
@@ -24,11 +26,6 @@ use Rattle.dictionary.specs.Code.{tail, entryOf, Stand}
 use Rattle.dictionary.specs.Answers.{ValueAt}
 
 -- ---- what is accepted passed its tests
-
-check-ok : {A : Type 0} (b : Bool) (r : Refusal) (x : Out A) (a : A) → check b r x ≡ ok a → (b ≡ true) × (x ≡ ok a)
-unfolding check
-check-ok true r x a e = (refl, e)
-check-ok false r x a e = absurd (let z : _≡_ {A = ℕ} 0 1 = cc in omega arith)
 
 number-ok : {A : Type 0} (w : ℕ) (r : Refusal) (s : List ℕ) (k : ℕ → List ℕ → Out A) (a : A) → number big w (refuse r) s k ≡ ok a
     → (w ≤ length s) × (k (beAt w s 0) (drop w s) ≡ ok a)

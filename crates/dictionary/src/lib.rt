@@ -244,7 +244,7 @@ fn taken(body: &[u8], t: u32, at: usize, i: u64, v: &[u8]) -> bool
                 return false;
             }
             Value::To(e) => {
-                if stored_value::same(v, &body[p..e]) {
+                if numbers::same(v, &body[p..e]) {
                     return true;
                 }
                 p = e + 4;
@@ -330,7 +330,7 @@ fn is_head(body: &[u8], head: Span, p: usize, e: usize) -> bool
     let b = head.start;
     let z = head.end;
     if b < z {
-        return stored_value::same(&body[b..z], &body[p..e]);
+        return numbers::same(&body[b..z], &body[p..e]);
     }
     true
 }

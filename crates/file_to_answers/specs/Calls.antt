@@ -12,17 +12,16 @@ use Rattle.refusal.specs.Meaning.{numberOf}
 use Rattle.refusal.specs.declared.Refusal.{Refusal}
 use Rattle.row_field.specs.Meaning.{size}
 use Rattle.stored_value.specs.Meaning.{Cell, literalBytes}
-use Rattle.stored_value.specs.Reading.{Out, refuse, ok}
+use Rattle.refusal.specs.Reading.{Out, refuse, ok, andThen}
 use Rattle.index_file.specs.Reading.{lookedAt, located, answerOf, partOf}
 use Rattle.bitmap_index.specs.declared.Audited.{Audited}
 use Rattle.bitmap_index.specs.declared.Audited.the-variants.{Rows}
 use Rattle.bitmap_index.specs.declared.Answered.{Answered}
 use Rattle.bitmap_index.specs.Meaning.{Question, scan, keeps}
-use Rattle.bitmap_index.specs.Reading.{Answer, audit, auditBuffer, ask, askBuffer}
-use Rattle.bitmap_index.specs.Code.{auditedBy, answeredBy}
+use Rattle.bitmap_index.specs.Reading.{Answer, audit, auditBuffer, ask, askBuffer, auditedBy, answeredBy}
 use Rattle.file_to_answers.specs.declared.Told.{Told}
 use Rattle.file_to_answers.specs.Layout.{ColumnFile}
-use Rattle.file_to_answers.specs.Reading.{said, askedOf, auditedOf, bodyTold, auditedBuffer, bodyBuffer, toldBy, told, toldBuffer}
+use Rattle.file_to_answers.specs.Reading.{said, askedOf, bodyTold, auditedBuffer, bodyBuffer, toldBy, told, toldBuffer}
 use Rattle.file_to_answers.specs.Demand3.{told-as-scan, buffer-as-scan}
 
 -- Ask's answer, told
@@ -84,14 +83,14 @@ module _ (embedded file column kind : List ℕ) (t q : ℕ) (literal field : Lis
     module _ (z : n ≡ 0) {body : List ℕ} (p : body ≡ partOf (located embedded file column kind) (lookedAt embedded file)) {a : Audited} (u : a ≡ auditedBy (audit t body field))
         {after : List ℕ} (v : after ≡ auditBuffer t body field) where
       pub audit-refused : {r : Refusal} → a ≡ Audited.Refused r → {m : ℕ} → m ≡ numberOf r → Promise (Told.Refused m) after
-      unfolding told toldBy toldBuffer bodyTold bodyBuffer auditedOf auditedBuffer
+      unfolding told toldBy toldBuffer bodyTold bodyBuffer askedOf andThen auditedBuffer
       audit-refused {r} h g =
           let w : audit t body field ≡ refuse r = audit-refuses (audit t body field) r (sym u ∙ h) in
           (rw (← e, z, ← p, w, g), rw (← e, z, ← p, w) v)
 
       pub answered : {k : ℕ} → a ≡ Rows k → {y : Answered} → y ≡ answeredBy (ask t q literal body after) → {exit : List ℕ} → exit ≡ askBuffer t q literal body after
           → {r : Told} → r ≡ toldOf y → Promise r exit
-      unfolding told toldBy toldBuffer bodyTold bodyBuffer auditedOf auditedBuffer
+      unfolding told toldBy toldBuffer bodyTold bodyBuffer andThen auditedBuffer
       answered {k} h g x o =
           let w : audit t body field ≡ ok k = audit-counts (audit t body field) k (sym u ∙ h) in
           (o ∙ rw (← e, z, ← p, w, ← v, g) (sym (asked-told (ask t q literal body after))), rw (← e, z, ← p, w, ← v) x)

@@ -9,13 +9,14 @@ use Rattle.row_field.specs.Meaning.{size, cleared}
 use Rattle.row_field.specs.Counts.{length-zeroed, bytes-zeroed, zeroed-front}
 use lib.Seq.{drop-at}
 use lib.ListN.{replicate, length-replicate}
+use Rattle.refusal.specs.Reading.{andThen}
 use Rattle.stored_value.specs.Meaning.{Cell, literalBytes}
 use Rattle.index_file.specs.Reading.{lookedAt, located, answerOf, partOf}
 use Rattle.index_file.specs.Theorems.{laid-is-located}
 use Rattle.bitmap_index.specs.Meaning.{Question, scan}
 use Rattle.bitmap_index.specs.Theorems.{AnswersAsScan, column-is-answered}
 use Rattle.file_to_answers.specs.Layout.{ColumnFile}
-use Rattle.file_to_answers.specs.Reading.{said, askedOf, auditedOf, bodyTold, auditedBuffer, bodyBuffer, toldBy, told, toldBuffer}
+use Rattle.file_to_answers.specs.Reading.{said, askedOf, bodyTold, auditedBuffer, bodyBuffer, toldBy, told, toldBuffer}
 
 -- what is claimed of a column's file, lent as embedded or as file: Locate hands back the body, and with any field that has room, Audit accepts it with the row
 -- count and leaves the field zero, and Ask answers every well-formed question of the type as the scan does, bytes behind the field kept
@@ -52,7 +53,7 @@ module _ (t : ℕ) (cells : List Cell) (column kind embedded file : List ℕ) (f
   then-asked = claim .answers zero (bytes-zeroed (size (length cells)) field b) (rw (length-zeroed (size (length cells)) field) room)
 
   pub told-as-scan : told embedded file column kind t q (literalBytes ls) field ≡ said (scan q ls cells .matched)
-  unfolding told toldBy bodyTold auditedOf askedOf zero
+  unfolding told toldBy bodyTold andThen askedOf zero
   told-as-scan = rw (claim .found, claim .handed-back, first .audited, first .audited-buffer, then-asked .asked q ls w)
 
   pub buffer-as-scan : toldBuffer embedded file column kind t q (literalBytes ls) field ≡ scan q ls cells .field ++ drop (size (length cells)) field

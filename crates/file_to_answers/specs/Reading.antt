@@ -4,7 +4,7 @@ use mathlib.Core.Bool.{cond}
 use mathlib.Core.List.{List}
 use lib.Dec.{eqb}
 use Rattle.refusal.specs.Meaning.{numberOf}
-use Rattle.stored_value.specs.Reading.{Out, refuse, ok}
+use Rattle.refusal.specs.Reading.{Out, refuse, ok, andThen}
 use Rattle.index_file.specs.Reading.{lookedAt, located, answerOf, partOf}
 use Rattle.bitmap_index.specs.Meaning.{keeps}
 use Rattle.bitmap_index.specs.Reading.{Answer, audit, auditBuffer, ask, askBuffer}
@@ -19,13 +19,9 @@ unfoldable pub askedOf : Out Answer → Told
 askedOf (refuse r) = Refused (numberOf r)
 askedOf (ok a) = said (a .matched)
 
-unfoldable pub auditedOf : Out ℕ → Told → Told
-auditedOf (refuse r) next = Refused (numberOf r)
-auditedOf (ok n) next = next
-
 -- Audit and Ask of a body, the field handed from the one to the other
 unfoldable pub bodyTold : ℕ → ℕ → List ℕ → List ℕ → List ℕ → Told
-bodyTold t q literal field body = auditedOf (audit t body field) (askedOf (ask t q literal body (auditBuffer t body field)))
+bodyTold t q literal field body = askedOf (andThen (audit t body field) (λ rows. ask t q literal body (auditBuffer t body field)))
 
 unfoldable pub auditedBuffer : Out ℕ → List ℕ → List ℕ → List ℕ
 auditedBuffer (refuse r) after next = after

@@ -7,13 +7,14 @@ use lib.Bits.{bitOr}
 use lib.Dec.{eqb, ltb, leb}
 use lib.IntN.{ℤ, pos, negsuc}
 use lib.ListN.{length, getD, set, take, drop, replicate}
-use Rattle.numbers.specs.Meaning.{number, signed32}
+use Rattle.numbers.specs.Meaning.{All, number, signed32, same}
 use Rattle.refusal.specs.declared.Refusal.the-variants.{Range}
 use Rattle.row_field.specs.Meaning.{bit, mark, markAll, anySet, zeroed, upTo, rowsFrom}
 use Rattle.roaring.specs.Reading.{Read, got, need, choose, valuesOf, runsOf, rising, apart, bodySize, bodyValues, sound, body, offsetIs, containers, contents, readPlain, readFlagged, read}
 use Rattle.roaring.specs.Reading as roaring
-use Rattle.stored_value.specs.Meaning.{Cell, null, value, width, isString, booleanOk, same, sameCell, rank, less, listed}
-use Rattle.stored_value.specs.Reading.{Out, refuse, ok, check, andThen, valueSize, valueOf, literals}
+use Rattle.stored_value.specs.Meaning.{Cell, null, value, width, isString, booleanOk, sameCell, rank, less, listed}
+use Rattle.refusal.specs.Reading.{Out, refuse, ok, check, andThen}
+use Rattle.stored_value.specs.Reading.{valueSize, valueOf, literals}
 use Rattle.dictionary.specs.Reading.{counted, entriesOne, listings, past, heads, entriesTwo, behind, blocksOf, blocked, nullOf, dictionary}
 use Rattle.index_file.specs.Reading.{located, answerOf, partOf, lookedAt}
 use Rattle.index_file.specs.Reading as head
@@ -70,10 +71,6 @@ Holds (reads bytes rows) = read bytes ≡ got rows (length bytes) []
 Holds (names offset row) = signed32 offset ≡ negsuc row
 Holds (outside offset) = placeAt (signed32 offset) 0 2147483647 [] [] ≡ refuse Range
 
-abbrev pub All : List Case → Type 0
-All [] = Unit {0}
-All (c ∷ cs) = Holds c × All cs
-
 abbrev pub table : List Case
 table =
     locates one
@@ -91,6 +88,6 @@ table =
     ∷ outside 0x80000000
     ∷ []
 
-pub starred : All table
-unfolding number head.find head.file head.need head.count head.name head.same head.entries head.afterEntry head.columns head.afterColumn head.placed head.head head.used read readPlain readFlagged contents containers need choose roaring.andThen offsetIs body bodySize bodyValues sound valuesOf runsOf rising apart bit mark markAll anySet zeroed upTo rowsFrom placeAt place placeAll check andThen valueSize valueOf literals width isString booleanOk same sameCell rank less listed counted entriesOne listings past heads entriesTwo behind blocksOf blocked nullOf dictionary chosen takes scanFrom scan roomFor prepared audited audit chosenOf answered asked ask
+pub starred : All Holds table
+unfolding number head.find head.file head.need head.count head.name head.entries head.afterEntry head.columns head.afterColumn head.placed head.head head.used read readPlain readFlagged contents containers need choose roaring.andThen offsetIs body bodySize bodyValues sound valuesOf runsOf rising apart bit mark markAll anySet zeroed upTo rowsFrom placeAt place placeAll check andThen valueSize valueOf literals width isString booleanOk same sameCell rank less listed counted entriesOne listings past heads entriesTwo behind blocksOf blocked nullOf dictionary chosen takes scanFrom scan roomFor prepared audited audit chosenOf answered asked ask
 starred = ((refl, refl), (refl, (refl, ((refl, refl, refl), ((refl, refl, refl), ((refl, refl, refl), (refl, (refl, (refl, (refl, (refl, tt)))))))))))

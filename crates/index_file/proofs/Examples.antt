@@ -3,11 +3,11 @@ use Prim.Native.Nat.{ℕ}
 use mathlib.Core.Path.{_≡_, refl}
 use mathlib.Core.List.{List, [], _∷_, _++_}
 use lib.ListN.{take, drop, set}
-use Rattle.numbers.specs.Meaning.{number}
+use Rattle.numbers.specs.Meaning.{number, same}
 use Rattle.refusal.specs.declared.Refusal.the-variants.{Short, Magic, Version, Head}
 use Rattle.index_file.specs.declared.Located.the-variants.{Found, Absent, Refused}
 use Rattle.index_file.specs.Layout.{headBytes}
-use Rattle.index_file.specs.Reading.{need, count, name, same, afterEntry, entries, afterColumn, columns, position, placed, head, file, find}
+use Rattle.index_file.specs.Reading.{need, count, name, afterEntry, entries, afterColumn, columns, position, placed, head, file, find}
 
 abbrev bitmap : List ℕ
 bitmap = 98 ∷ 105 ∷ 116 ∷ 109 ∷ 97 ∷ 112 ∷ []

@@ -10,7 +10,7 @@ use lib.Dec.{eqb, leb}
 use lib.ListN.{length, take, drop, getD, length-drop, drop-of-length-le}
 use lib.Seq.{drop-cons, drop-drop, length-take-le}
 use borrow.Author.Tests.{lt-ltb, le-ltb, le-leb, lt-leb, eq-eqb, ne-eqb}
-use Rattle.numbers.specs.Meaning.{beAt, number, big}
+use Rattle.numbers.specs.Meaning.{beAt, number, big, same}
 use Rattle.numbers.specs.Laws.{number-at, number-short}
 use Rattle.numbers.specs.declared.Position.{Position}
 use Rattle.refusal.specs.Meaning.{numberOf}
@@ -20,41 +20,9 @@ use Rattle.index_file.specs.declared.Place.{Place}
 use Rattle.index_file.specs.declared.Name.{Name}
 use Rattle.index_file.specs.declared.Count.{Count}
 use Rattle.index_file.specs.declared.Walk.{Walk}
-use Rattle.index_file.specs.Reading.{need, broken, count, name, same, afterEntry, entries, afterColumn, columns, position, placed, head, file, find, used, answerOf, partOf, HandedBack}
+use Rattle.index_file.specs.Reading.{need, broken, count, name, afterEntry, entries, afterColumn, columns, position, placed, head, file, find, used, answerOf, partOf, HandedBack}
 use Rattle.index_file.specs.Laws.{from-count}
 use Rattle.index_file.specs.Steps.{named, counted, walked}
-
--- ---- names are compared
-
-pub same-unlike : (a b : List ℕ) → (length a ≡ length b → ⊥) → false ≡ same a b
-unfolding same
-same-unlike [] [] h = absurd (h refl)
-same-unlike [] (y ∷ b) h = refl
-same-unlike (x ∷ a) [] h = refl
-same-unlike (x ∷ a) (y ∷ b) h = rest (eqb x y) (same-unlike a b (λ e. h (ap suc e)))
-  where
-    rest : (t : Bool) → false ≡ same a b → false ≡ t && same a b
-    rest true e = e
-    rest false e = refl
-
--- i bytes are equal
-pub record Same (a b : List ℕ) (i : ℕ) : Type 0 where
-  pub so : same a b ≡ same (drop i a) (drop i b)
-
-module _ {a b : List ℕ} {i : ℕ} (st : Same a b i) (l : length a ≡ length b) where
-  turn : i < length a → same a b ≡ eqb (getD a i 0) (getD b i 0) && same (drop (i + 1) a) (drop (i + 1) b)
-  unfolding same
-  turn h = let g : i < length b = omega arith in st .so ∙ simp (drop-cons a i 0 h, drop-cons b i 0 g, add-one)
-
-  pub same-no : i < length a → (getD a i 0 ≡ getD b i 0 → ⊥) → false ≡ same a b
-  same-no h e = sym (turn h ∙ simp (ne-eqb (getD a i 0) (getD b i 0) e))
-
-  pub same-next : i < length a → getD a i 0 ≡ getD b i 0 → Same a b (i + 1)
-  same-next h e = record { so = turn h ∙ simp (eq-eqb (getD a i 0) (getD b i 0) e) }
-
-  pub same-yes : length a ≤ i → true ≡ same a b
-  unfolding same
-  same-yes h = let g : length b ≤ i = omega arith in sym (st .so ∙ simp (drop-of-length-le a h, drop-of-length-le b g))
 
 -- ---- a name
 

@@ -8,15 +8,15 @@ use native.Mathlib.Omega.{arith}
 use lib.Dec.{T, leb→le, ltb→lt, eqb→eq}
 use lib.ListN.{length, take, drop, length-take, take-append-drop, List·getD-eq-default}
 use lib.Seq.{length-take-le, getD-take, take-take}
-use Rattle.numbers.specs.Meaning.{be, big}
+use Rattle.numbers.specs.Meaning.{be, big, same, All}
 use Rattle.numbers.specs.Laws.{Bytes, bytes-drop, on-number}
 use Rattle.numbers.specs.declared.Position.{Position}
 use Rattle.refusal.specs.declared.Refusal.{Refusal}
 use Rattle.index_file.specs.declared.Located.{Located}
 use Rattle.index_file.specs.declared.Place.{Place}
 use Rattle.index_file.specs.declared.Place.the-variants.{Nowhere, At, Repeated}
-use Rattle.index_file.specs.Layout.{Entry, Column, nameBytes, entryBytes, entriesBytes, columnBytes, columnsBytes, headBytes, All, FitEntry, FitColumn, Headed, File, Unlisted}
-use Rattle.index_file.specs.Reading.{need, broken, count, name, same, afterEntry, entries, afterColumn, columns, position, placed, head, file, find}
+use Rattle.index_file.specs.Layout.{Entry, Column, nameBytes, entryBytes, entriesBytes, columnBytes, columnsBytes, headBytes, FitEntry, FitColumn, Headed, File, Unlisted}
+use Rattle.index_file.specs.Reading.{need, broken, count, name, afterEntry, entries, afterColumn, columns, position, placed, head, file, find}
 use Rattle.index_file.specs.Once.{placeIn, placeOf, found-back, absent-back}
 use Rattle.index_file.specs.Laid.{entry-split, column-split, headed-file}
 

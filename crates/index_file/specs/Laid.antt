@@ -7,15 +7,15 @@ use native.Mathlib.Omega.{arith}
 use lib.ListN.{length, take, drop, length-append}
 use lib.Seq.{take-at, drop-at}
 use borrow.Author.Tests.{lt-ltb, le-leb, eq-eqb}
-use Rattle.numbers.specs.Meaning.{be, big}
+use Rattle.numbers.specs.Meaning.{be, big, same, All}
 use Rattle.numbers.specs.Laws.{number-laid}
 use Rattle.refusal.specs.Meaning.{limit}
 use Rattle.refusal.specs.declared.Refusal.{Refusal}
 use Rattle.index_file.specs.declared.Located.{Located}
 use Rattle.index_file.specs.declared.Place.{Place}
 use Rattle.index_file.specs.declared.Place.the-variants.{Nowhere, At}
-use Rattle.index_file.specs.Layout.{Entry, Column, nameBytes, entryBytes, entriesBytes, columnBytes, columnsBytes, headBytes, All, FitEntry, FitColumn, Once, Headed, File, Unlisted}
-use Rattle.index_file.specs.Reading.{need, broken, count, name, same, afterEntry, entries, afterColumn, columns, position, placed, head, file, find}
+use Rattle.index_file.specs.Layout.{Entry, Column, nameBytes, entryBytes, entriesBytes, columnBytes, columnsBytes, headBytes, FitEntry, FitColumn, Once, Headed, File, Unlisted}
+use Rattle.index_file.specs.Reading.{need, broken, count, name, afterEntry, entries, afterColumn, columns, position, placed, head, file, find}
 use Rattle.index_file.specs.Laws.{find-file}
 use Rattle.index_file.specs.Once.{placeIn, placeOf, in-once, of-once, of-unlisted}
 

@@ -3,7 +3,7 @@ use Prim.Native.Nat.{ℕ, _+_, _<_, _≤_}
 use mathlib.Core.Path.{_≡_}
 use mathlib.Core.List.{List, [], _∷_, _++_}
 use lib.ListN.{length, take, drop}
-use Rattle.numbers.specs.Meaning.{be}
+use Rattle.numbers.specs.Meaning.{All, be}
 
 -- "per index: name, start (4), length (4)": start and length as the 32 bits that stand there
 pub record Entry : Type 0 where
@@ -42,11 +42,6 @@ headBytes headLength cs redundant =
     be 8 1493475289347502 ++ (be 4 1 ++ (be 4 headLength ++ (be 4 (length cs) ++ (columnsBytes cs ++ (be 4 (length redundant) ++ redundant)))))
 
 -- ---- rules
-
--- each of the list has the property
-abbrev pub All : {A : Type 0} → (A → Type 0) → List A → Type 0
-All P [] = Unit {0}
-All P (x ∷ l) = P x × All P l
 
 -- a name's length fits 2 bytes; a count fits 31 bits, so that it is not negative; start and length are any 32 bits
 abbrev pub FitEntry : Entry → Type 0

@@ -9,8 +9,10 @@ use lib.Dec.{eqb}
 use borrow.Author.Tests.{eq-eqb, eqb-true}
 use Rattle.index_file.specs.declared.Place.{Place}
 use Rattle.index_file.specs.declared.Place.the-variants.{Nowhere, At, Repeated}
-use Rattle.index_file.specs.Layout.{Entry, Column, All, Named, Once, Unlisted, no-column, no-kind}
-use Rattle.index_file.specs.Reading.{same, afterEntry, afterColumn}
+use Rattle.numbers.specs.Meaning.{All, same}
+use Rattle.numbers.specs.Same.{same-refl, same→eq}
+use Rattle.index_file.specs.Layout.{Entry, Column, Named, Once, Unlisted, no-column, no-kind}
+use Rattle.index_file.specs.Reading.{afterEntry, afterColumn}
 
 never : {X : Type 0} → _≡_ {A = ℕ} 0 1 → X
 never z = absurd (let w : ⊥ = omega arith in w)
@@ -32,26 +34,11 @@ once-later {A} {y = y} n o = record {
 
 -- ---- names
 
-both : (p q : Bool) → p && q ≡ true → (p ≡ true) × (q ≡ true)
-both true q e = (refl, e)
-both false q e = never (cc)
-
-same-self : (a : List ℕ) → same a a ≡ true
-unfolding same
-same-self [] = refl
-same-self (x ∷ a) = let r : x ≡ x = refl in simp (eq-eqb x x r) (same-self a)
-
 pub named-same : (asked stored : List ℕ) → Named asked stored → same asked stored ≡ true
-named-same asked stored e = rw e (same-self asked)
+named-same asked stored e = rw e (same-refl asked)
 
 pub same-named : (asked stored : List ℕ) → same asked stored ≡ true → Named asked stored
-unfolding same
-same-named [] [] e = refl
-same-named [] (y ∷ b) e = never (cc)
-same-named (x ∷ a) [] e = never (cc)
-same-named (x ∷ a) (y ∷ b) e =
-    let h = both (eqb x y) (same a b) e in
-    ap₂ (λ (z : ℕ) (l : List ℕ). z ∷ l) (sym (eqb-true x y (h .0))) (same-named a b (h .1))
+same-named asked stored e = sym (same→eq asked stored e)
 
 pub other-name : (asked stored : List ℕ) → (Named asked stored → ⊥) → same asked stored ≡ false
 other-name asked stored h = go (same asked stored) refl

@@ -1,12 +1,12 @@
 -- 01, "Locate" and "Index file head": what is answered for any bytes. A cursor `s` is what is left of the head's bytes, so that a field that passes the head
 -- finds too few; for magic, version and head length it is what is left of the file. `k` is what follows of what was read.
 use Prim.Native.Nat.{ℕ, zero, suc, _+_}
-use mathlib.Core.Bool.{Bool, true, false, _&&_, _||_}
+use mathlib.Core.Bool.{Bool, true, false, _||_}
 use mathlib.Core.List.{List, [], _∷_}
 use mathlib.Core.Path.{_≡_}
 use lib.ListN.{length, take, drop}
 use lib.Dec.{leb, ltb, eqb}
-use Rattle.numbers.specs.Meaning.{number, big}
+use Rattle.numbers.specs.Meaning.{same, number, big}
 use Rattle.numbers.specs.declared.Position.{Position}
 use Rattle.refusal.specs.Meaning.{numberOf, limit}
 use Rattle.refusal.specs.declared.Refusal.the-variants.{Short, Magic, Version, Head, Limit}
@@ -34,14 +34,9 @@ count s k = number big 4 broken s (λ v s. need (ltb v 2147483648) broken (k v s
 unfoldable pub name : List ℕ → (List ℕ → List ℕ → Located) → Located
 name s k = number big 2 broken s (λ n s. need (leb n (length s)) broken (k (take n s) (drop n s)))
 
--- "Names are compared byte for byte": the asked name, the stored one
-unfoldable pub same : List ℕ → List ℕ → Bool
-same [] [] = true
-same [] (y ∷ b) = false
-same (x ∷ a) [] = false
-same (x ∷ a) (y ∷ b) = eqb x y && same a b
-
 -- ---- the columns
+
+-- Names are the same where they are byte for byte ("Names are compared byte for byte").
 
 -- where the asked kind stands, after one more entry of the column, whose name is the asked one or not: "the asked kind twice in it"
 unfoldable pub afterEntry : Bool → ℕ → ℕ → Place → Place

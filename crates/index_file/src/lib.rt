@@ -3,7 +3,8 @@ ghost use mathlib.Core.Path.{_≡_};
 ghost use mathlib.Core.Bool.{false};
 ghost use Prim.Native.Nat.{_≤_};
 ghost use lib.ListN.{length, drop};
-ghost use Rattle.index_file.specs.Reading.{same, afterEntry, afterColumn, entries, columns, placed, head, file, find, lookedAt, located, answerOf, partOf, used, HandedBack};
+ghost use Rattle.numbers.specs.Meaning.{same};
+ghost use Rattle.index_file.specs.Reading.{afterEntry, afterColumn, entries, columns, placed, head, file, find, lookedAt, located, answerOf, partOf, used, HandedBack};
 ghost use Rattle.index_file.specs.Steps.{named, counted, walked};
 use numbers::Position;
 use refusal::Refusal;
@@ -47,17 +48,7 @@ enum Walk {
 fn same_name(asked: &[u8], stored: &[u8]) -> bool
     ensures { λ r. ⌜ r ≡ same (now (asked .entry)) (now (stored .entry)) ⌝ }
 {
-    if asked.len() != stored.len() {
-        return false;
-    }
-    let mut i: usize = 0;
-    while i < asked.len() {
-        if asked[i] != stored[i] {
-            return false;
-        }
-        i = i + 1;
-    }
-    true
+    numbers::same(asked, stored)
 }
 
 // The place after one more entry.

@@ -1,10 +1,22 @@
--- Numbers of `w` bytes: what bytes spell, which bytes spell a number, and reading one off the front of some bytes.
+-- Bytes that are the same; and numbers of `w` bytes: what bytes spell, which bytes spell a number, and reading one off the front of some bytes.
 use Prim.Native.Nat.{ℕ, zero, suc, _+_, _-_, _*_, _/_, _%_, _^_}
-use mathlib.Core.Bool.{cond}
+use mathlib.Core.Bool.{Bool, true, false, _&&_, cond}
 use mathlib.Core.List.{List, [], _∷_, _++_}
-use lib.Dec.{leb, ltb}
+use lib.Dec.{eqb, leb, ltb}
 use lib.IntN.{ℤ, pos, negsuc}
 use lib.ListN.{length, drop, getD}
+
+-- each of the list has the property
+abbrev pub All : {A : Type 0} → (A → Type 0) → List A → Type 0
+All P [] = Unit {0}
+All P (x ∷ l) = P x × All P l
+
+-- byte for byte the same
+unfoldable pub same : List ℕ → List ℕ → Bool
+same [] [] = true
+same [] (y ∷ ys) = false
+same (x ∷ xs) [] = false
+same (x ∷ xs) (y ∷ ys) = eqb x y && same xs ys
 
 -- the number of the w bytes of s from `at` on, the first of the greatest weight (big-endian)
 abbrev pub beAt : ℕ → List ℕ → ℕ → ℕ

@@ -1,8 +1,9 @@
-// Integers of 1, 2, 4 and 8 bytes at a position of a slice, in both byte orders.
+// Integers of 1, 2, 4 and 8 bytes at a position of a slice, in both byte orders; and whether bytes are the same.
 ghost use mathlib.Core.Path.{_≡_};
 ghost use Prim.Native.Nat.{ℕ, _+_, _<_, _≤_};
 ghost use lib.ListN.{length, getD};
 ghost use Rattle.numbers.specs.Meaning.{beAt, leAt, signed32};
+ghost use Rattle.numbers.specs.Meaning as meaning;
 
 // A byte position in a buffer: a kind of its own (document 01), which no row number can stand in for.
 pub struct Position(pub usize);
@@ -90,4 +91,21 @@ pub fn to_signed(x: u32) -> i32
     } else {
         -1 - ((4294967295 - x) as i32)
     }
+}
+
+// Whether two slices have the same bytes.
+pub fn same(a: &[u8], b: &[u8]) -> bool
+    ensures { λ r. ⌜ r ≡ meaning.same (now (a .entry)) (now (b .entry)) ⌝ }
+{
+    if a.len() != b.len() {
+        return false;
+    }
+    let mut i = 0;
+    while i < a.len() {
+        if a[i] != b[i] {
+            return false;
+        }
+        i += 1;
+    }
+    true
 }

@@ -1,4 +1,5 @@
--- The numbers that the C interface hands out: 0 for accepted, else the refusal's number in 01's table; counts are 0 with a refusal.
+-- The numbers that the C interface hands out: first the answer's, 0 for accepted and else the refusal's in 01's table, then counts, which are 0 with a
+-- refusal.
 use Prim.Native.Nat.{ℕ}
 use Rattle.index_file.specs.declared.Located.{Located}
 use Rattle.index_file.specs.declared.Located.the-variants.{Found, Absent}
@@ -12,55 +13,29 @@ use Rattle.row_field.specs.declared.Subtracted.the-variants.{Done}
 use Rattle.deletion_file.specs.declared.Deletions.{Deletions}
 use Rattle.deletion_file.specs.declared.Deletions.the-variants.{Deleted}
 
--- Read deletions
-unfoldable pub deletionsNumber : Deletions → ℕ
-deletionsNumber (Deletions.Refused r) = numberOf r
-deletionsNumber (Deleted n) = 0
+-- Read deletions: how many rows are deleted
+unfoldable pub deletionsOut : Deletions → ℕ × ℕ
+deletionsOut (Deletions.Refused r) = (numberOf r, 0)
+deletionsOut (Deleted n) = (0, n)
 
-unfoldable pub deletedCount : Deletions → ℕ
-deletedCount (Deletions.Refused r) = 0
-deletedCount (Deleted n) = n
+-- Subtract: rows left, rows removed
+unfoldable pub subtractOut : Subtracted → ℕ × ℕ × ℕ
+subtractOut (Subtracted.Refused r) = (numberOf r, 0, 0)
+subtractOut (Done left removed) = (0, left, removed)
 
--- Subtract
-unfoldable pub subtractNumber : Subtracted → ℕ
-subtractNumber (Subtracted.Refused r) = numberOf r
-subtractNumber (Done left removed) = 0
+-- Locate: 255 is ABSENT; start and length of the body in the buffer that was looked at
+unfoldable pub locateOut : Located → ℕ × ℕ × ℕ
+locateOut (Found start size) = (0, start .0, size)
+locateOut Absent = (255, 0, 0)
+locateOut (Located.Refused r) = (numberOf r, 0, 0)
 
-unfoldable pub leftCount : Subtracted → ℕ
-leftCount (Subtracted.Refused r) = 0
-leftCount (Done left removed) = left
+-- Audit: the row count
+unfoldable pub auditOut : Audited → ℕ × ℕ
+auditOut (Audited.Refused r) = (numberOf r, 0)
+auditOut (Rows n) = (0, n)
 
-unfoldable pub removedCount : Subtracted → ℕ
-removedCount (Subtracted.Refused r) = 0
-removedCount (Done left removed) = removed
-
--- Locate: where the body is in the buffer that was looked at (its number is index_file's `answerOf`: 255 for ABSENT)
-unfoldable pub foundStart : Located → ℕ
-foundStart (Found start size) = start .0
-foundStart Absent = 0
-foundStart (Located.Refused r) = 0
-
-unfoldable pub foundLength : Located → ℕ
-foundLength (Found start size) = size
-foundLength Absent = 0
-foundLength (Located.Refused r) = 0
-
--- Audit
-unfoldable pub auditNumber : Audited → ℕ
-auditNumber (Audited.Refused r) = numberOf r
-auditNumber (Rows n) = 0
-
-unfoldable pub rowCount : Audited → ℕ
-rowCount (Audited.Refused r) = 0
-rowCount (Rows n) = n
-
--- Ask: a count of 0 says skip
-unfoldable pub askNumber : Answered → ℕ
-askNumber (Answered.Refused r) = numberOf r
-askNumber Skip = 0
-askNumber (Keep n) = 0
-
-unfoldable pub matchedCount : Answered → ℕ
-matchedCount (Answered.Refused r) = 0
-matchedCount Skip = 0
-matchedCount (Keep n) = n
+-- Ask: how many rows are chosen; 0 says skip
+unfoldable pub askOut : Answered → ℕ × ℕ
+askOut (Answered.Refused r) = (numberOf r, 0)
+askOut Skip = (0, 0)
+askOut (Keep n) = (0, n)

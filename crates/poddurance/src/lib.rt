@@ -4,11 +4,9 @@ ghost use mathlib.Core.Path.{_≡_};
 ghost use Rattle.row_field.specs.Reading.{subtraction, fieldAfter};
 ghost use Rattle.deletion_file.specs.Reading.{outcome, answerOf, fieldThen};
 ghost use Rattle.index_file.specs.Reading.{located};
-ghost use Rattle.index_file.specs.Reading as head;
-ghost use Rattle.bitmap_index.specs.Reading.{auditBuffer, askBuffer};
+ghost use Rattle.bitmap_index.specs.Reading.{auditBuffer, askBuffer, auditedBy, answeredBy};
 ghost use Rattle.bitmap_index.specs.Reading as index;
-ghost use Rattle.bitmap_index.specs.Code.{auditedBy, answeredBy};
-ghost use Rattle.poddurance.specs.Reading.{deletionsNumber, deletedCount, subtractNumber, leftCount, removedCount, foundStart, foundLength, auditNumber, rowCount, askNumber, matchedCount};
+ghost use Rattle.poddurance.specs.Reading.{deletionsOut, subtractOut, locateOut, auditOut, askOut};
 use bitmap_index::Answered;
 use bitmap_index::Audited;
 use deletion_file::Deletions;
@@ -23,8 +21,8 @@ pub extern "C" fn poddurance_read_deletions(
     field: &mut [u8],
     deleted: &mut u64,
 ) -> u8
-    ensures { λ r. ⌜ (r ≡ deletionsNumber (answerOf rows (outcome (now (file .entry)) bin rows (now (field .entry)))))
-        × (now (deleted .exit) ≡ deletedCount (answerOf rows (outcome (now (file .entry)) bin rows (now (field .entry)))))
+    ensures { λ r. ⌜ (r ≡ deletionsOut (answerOf rows (outcome (now (file .entry)) bin rows (now (field .entry)))) .0)
+        × (now (deleted .exit) ≡ deletionsOut (answerOf rows (outcome (now (file .entry)) bin rows (now (field .entry)))) .1)
         × (now (field .exit) ≡ fieldThen rows (now (field .entry)) (outcome (now (file .entry)) bin rows (now (field .entry)))) ⌝ }
 {
     let answer = deletion_file::read_deletions(file, bin, rows, field);
@@ -48,9 +46,9 @@ pub extern "C" fn poddurance_subtract(
     left: &mut u64,
     removed: &mut u64,
 ) -> u8
-    ensures { λ r. ⌜ (r ≡ subtractNumber (subtraction rows (now (first .entry)) (now (second .entry))))
-        × (now (left .exit) ≡ leftCount (subtraction rows (now (first .entry)) (now (second .entry))))
-        × (now (removed .exit) ≡ removedCount (subtraction rows (now (first .entry)) (now (second .entry))))
+    ensures { λ r. ⌜ (r ≡ subtractOut (subtraction rows (now (first .entry)) (now (second .entry))) .0)
+        × (now (left .exit) ≡ subtractOut (subtraction rows (now (first .entry)) (now (second .entry))) .1)
+        × (now (removed .exit) ≡ subtractOut (subtraction rows (now (first .entry)) (now (second .entry))) .2)
         × (now (first .exit) ≡ fieldAfter (subtraction rows (now (first .entry)) (now (second .entry))) rows (now (first .entry)) (now (second .entry))) ⌝ }
 {
     let answer = row_field::subtract(first, second, rows);
@@ -90,9 +88,9 @@ pub extern "C" fn poddurance_locate(
     start: &mut u64,
     length: &mut u64,
 ) -> u8
-    ensures { λ r. ⌜ (r ≡ head.answerOf (located (now (embedded .entry)) (now (file .entry)) (now (column .entry)) (now (kind .entry))))
-        × (now (start .exit) ≡ foundStart (located (now (embedded .entry)) (now (file .entry)) (now (column .entry)) (now (kind .entry))))
-        × (now (length .exit) ≡ foundLength (located (now (embedded .entry)) (now (file .entry)) (now (column .entry)) (now (kind .entry)))) ⌝ }
+    ensures { λ r. ⌜ (r ≡ locateOut (located (now (embedded .entry)) (now (file .entry)) (now (column .entry)) (now (kind .entry))) .0)
+        × (now (start .exit) ≡ locateOut (located (now (embedded .entry)) (now (file .entry)) (now (column .entry)) (now (kind .entry))) .1)
+        × (now (length .exit) ≡ locateOut (located (now (embedded .entry)) (now (file .entry)) (now (column .entry)) (now (kind .entry))) .2) ⌝ }
 {
     let answer = find(embedded, file, column, kind);
     match answer {
@@ -119,8 +117,8 @@ pub extern "C" fn poddurance_locate(
 
 #[no_mangle]
 pub extern "C" fn poddurance_audit(body: &[u8], t: u32, field: &mut [u8], rows: &mut u64) -> u8
-    ensures { λ r. ⌜ (r ≡ auditNumber (auditedBy (index.audit t (now (body .entry)) (now (field .entry)))))
-        × (now (rows .exit) ≡ rowCount (auditedBy (index.audit t (now (body .entry)) (now (field .entry)))))
+    ensures { λ r. ⌜ (r ≡ auditOut (auditedBy (index.audit t (now (body .entry)) (now (field .entry)))) .0)
+        × (now (rows .exit) ≡ auditOut (auditedBy (index.audit t (now (body .entry)) (now (field .entry)))) .1)
         × (now (field .exit) ≡ auditBuffer t (now (body .entry)) (now (field .entry))) ⌝ }
 {
     let answer = bitmap_index::audit(body, t, field);
@@ -145,8 +143,8 @@ pub extern "C" fn poddurance_ask(
     field: &mut [u8],
     matched: &mut u64,
 ) -> u8
-    ensures { λ r. ⌜ (r ≡ askNumber (answeredBy (index.ask t question (now (literals .entry)) (now (body .entry)) (now (field .entry)))))
-        × (now (matched .exit) ≡ matchedCount (answeredBy (index.ask t question (now (literals .entry)) (now (body .entry)) (now (field .entry)))))
+    ensures { λ r. ⌜ (r ≡ askOut (answeredBy (index.ask t question (now (literals .entry)) (now (body .entry)) (now (field .entry)))) .0)
+        × (now (matched .exit) ≡ askOut (answeredBy (index.ask t question (now (literals .entry)) (now (body .entry)) (now (field .entry)))) .1)
         × (now (field .exit) ≡ askBuffer t question (now (literals .entry)) (now (body .entry)) (now (field .entry))) ⌝ }
 {
     let answer = bitmap_index::ask(body, t, question, literals, field);

@@ -9,8 +9,10 @@ use lib.Seq.{drop-drop}
 use Rattle.numbers.specs.Laws.{Bytes, bytes-drop}
 use Rattle.refusal.specs.declared.Refusal.{Refusal}
 use Rattle.refusal.specs.declared.Refusal.the-variants.{Literal}
-use Rattle.stored_value.specs.Meaning.{same, listed}
-use Rattle.stored_value.specs.Reading.{refuse, ok, valueSize, literals}
+use Rattle.numbers.specs.Meaning.{same}
+use Rattle.stored_value.specs.Meaning.{listed}
+use Rattle.refusal.specs.Reading.{refuse, ok}
+use Rattle.stored_value.specs.Reading.{valueSize, literals}
 use Rattle.stored_value.specs.Laws.{literals-end, literals-full, literals-refused, literals-next, literals-more}
 
 -- behind `passed`, which has not v's bytes, s is read to all of ls

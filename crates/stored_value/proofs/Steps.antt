@@ -16,35 +16,11 @@ use Rattle.numbers.specs.Laws.{Bytes, bytes-drop, number-at, number-short}
 use Rattle.refusal.specs.declared.Refusal.{Refusal}
 use Rattle.refusal.specs.declared.Refusal.the-variants.{Literal, Limit}
 use Rattle.stored_value.specs.declared.Sized.{Sized}
-use Rattle.stored_value.specs.Meaning.{width, isString, booleanOk, same, rank, bytesLess, less}
-use Rattle.stored_value.specs.Reading.{Out, refuse, ok, check, valueSize, literals}
+use Rattle.stored_value.specs.Meaning.{width, isString, booleanOk, rank, bytesLess, less}
+use Rattle.refusal.specs.Reading.{Out, refuse, ok, check}
+use Rattle.stored_value.specs.Reading.{valueSize, literals}
 use Rattle.stored_value.specs.Code.{sizedBy}
-use Rattle.stored_value.specs.Laws.{same→eq, stringSize, size-number, size-string, value-read, literals-end, literals-full, literals-refused, literals-next}
-
--- ---- `same`
-
-module _ (a b : List ℕ) where
-  same-step : (i : ℕ) → i < length a → i < length b
-      → same (drop i a) (drop i b) ≡ eqb (getD a i 0) (getD b i 0) && same (drop (i + 1) a) (drop (i + 1) b)
-  unfolding same
-  same-step i h g = rw (add-one, drop-cons a i 0 h, drop-cons b i 0 g)
-
-  pub same-next : (i : ℕ) → i < length a → i < length b → getD a i 0 ≡ getD b i 0 → same (drop i a) (drop i b) ≡ same (drop (i + 1) a) (drop (i + 1) b)
-  same-next i h g e = same-step i h g ∙ rw (eq-eqb (getD a i 0) (getD b i 0) e)
-
-  pub same-ends : (i : ℕ) → i < length a → i < length b → (getD a i 0 ≡ getD b i 0 → ⊥) → same (drop i a) (drop i b) ≡ false
-  same-ends i h g n = same-step i h g ∙ rw (ne-eqb (getD a i 0) (getD b i 0) n)
-
-  pub same-done : (i : ℕ) → length a ≤ i → length b ≤ i → same (drop i a) (drop i b) ≡ true
-  unfolding same
-  same-done i h g = rw (drop-of-length-le a h, drop-of-length-le b g)
-
-  pub same-other : (length a ≡ length b → ⊥) → same a b ≡ false
-  same-other n = by (same a b) refl
-    where
-      by : (x : Bool) → same a b ≡ x → x ≡ false
-      by true e = absurd (n (ap length (same→eq a b e)))
-      by false e = refl
+use Rattle.stored_value.specs.Laws.{stringSize, size-number, size-string, value-read, literals-end, literals-full, literals-refused, literals-next}
 
 -- ---- `bytes_less`
 

@@ -6,7 +6,7 @@ use Rattle.stored_value.specs.declared.Sized.{Sized}
 use Rattle.stored_value.specs.declared.Sized.the-variants.{Bytes}
 use Rattle.stored_value.specs.declared.Counted.{Counted}
 use Rattle.stored_value.specs.declared.Counted.the-variants.{Count}
-use Rattle.stored_value.specs.Reading.{Out, refuse, ok}
+use Rattle.refusal.specs.Reading.{Out, refuse, ok}
 
 unfoldable pub sizedBy : Out ℕ → Sized
 sizedBy (refuse r) = Sized.Refused r

@@ -1,4 +1,4 @@
--- Laws of values in stored form: what `same` says, that values and literals which are laid out are read, and that what is read is laid out.
+-- Laws of values in stored form: that values and literals which are laid out are read, and that what is read is laid out.
 -- Assumes nothing.
 use Prim.Native.Nat.{ℕ, zero, suc, _+_, _-_, _*_, _^_, _<_, _≤_}
 use mathlib.Core.Path.{_≡_, refl, sym, ap, ap₂, _∙_, subst}
@@ -16,44 +16,15 @@ use borrow.Author.Tests.{lt-ltb, le-ltb, le-leb, eq-eqb, ne-eqb, eqb-true, eqb-f
 use Rattle.numbers.specs.Meaning.{be, beAt, big}
 use Rattle.numbers.specs.Meaning as meaning
 use Rattle.numbers.specs.Laws.{Bytes, bytes-drop, on-number, number-laid}
+use Rattle.numbers.specs.Same.{same-refl, same→eq, same-sym}
 use Rattle.refusal.specs.declared.Refusal.{Refusal}
 use Rattle.refusal.specs.declared.Refusal.the-variants.{Literal, Limit}
-use Rattle.stored_value.specs.Meaning.{width, isString, booleanOk, Value, number, string, same, rank, Cell, null, value, sameCell, Literals, literalBytes}
-use Rattle.stored_value.specs.Reading.{Out, refuse, ok, check, andThen, valueSize, valueOf, literals}
+use Rattle.stored_value.specs.Meaning.{width, isString, booleanOk, Value, number, string, rank, Cell, null, value, sameCell, Literals, literalBytes}
+use Rattle.refusal.specs.Laws.{check-ok}
+use Rattle.refusal.specs.Reading.{Out, refuse, ok, check, andThen}
+use Rattle.stored_value.specs.Reading.{valueSize, valueOf, literals}
 
--- ---- the same bytes
-
-eqb-same : (x : ℕ) → eqb x x ≡ true
-eqb-same x = eq-eqb x x refl
-
-pub same-refl : (v : List ℕ) → same v v ≡ true
-unfolding same
-same-refl [] = refl
-same-refl (x ∷ xs) = rw (eqb-same x) (same-refl xs)
-
-and-true : (a b : Bool) → a && b ≡ true → (a ≡ true) × (b ≡ true)
-and-true true b e = (refl, e)
-and-true false b e = (e, cc)
-
-pub same→eq : (v w : List ℕ) → same v w ≡ true → v ≡ w
-unfolding same
-same→eq [] [] e = refl
-same→eq [] (y ∷ ys) e = cc
-same→eq (x ∷ xs) [] e = cc
-same→eq (x ∷ xs) (y ∷ ys) e =
-    let h = and-true (eqb x y) (same xs ys) e in
-    ap₂ (λ (z : ℕ) (zs : List ℕ). z ∷ zs) (eqb-true x y (h .0)) (same→eq xs ys (h .1))
-
-eqb-sym : (x y : ℕ) → Dec (x ≡ y) → eqb x y ≡ eqb y x
-eqb-sym x y (yes e) = rw e
-eqb-sym x y (no n) = ne-eqb x y n ∙ sym (ne-eqb y x (λ e. n (sym e)))
-
-pub same-sym : (v w : List ℕ) → same v w ≡ same w v
-unfolding same
-same-sym [] [] = refl
-same-sym [] (y ∷ ys) = refl
-same-sym (x ∷ xs) [] = refl
-same-sym (x ∷ xs) (y ∷ ys) = rw (eqb-sym x y (ℕ-discrete x y), same-sym xs ys)
+-- ---- the same cell
 
 pub sameCell-refl : (c : Cell) → sameCell c c ≡ true
 unfolding sameCell
@@ -162,11 +133,6 @@ value-laid short broken t v tail (string c n l b) h =
 never : {A X : Type 0} (o : Out A) (r : Refusal) (a : A) → o ≡ refuse r → o ≡ ok a → X
 never o r a e f = absurd (let z : _≡_ {A = ℕ} 0 1 = cc in omega arith)
 
-on-check : {A : Type 0} (b : Bool) (r : Refusal) (x : Out A) (a : A) → check b r x ≡ ok a → (b ≡ true) × (x ≡ ok a)
-unfolding check
-on-check true r x a e = (refl, e)
-on-check false r x a e = never (refuse r) r a refl e
-
 -- what is said of a value that was read
 pub record Read (t : ℕ) (s : List ℕ) (k : ℕ) : Type 0 where
   pub some : 1 ≤ k
@@ -187,8 +153,8 @@ first-taken t k s p = rw (getD-take k s 0 0 p)
 module _ (short broken : Refusal) (t : ℕ) (s : List ℕ) (k : ℕ) (h : Bytes s) (e : valueSize short broken t s ≡ ok k) where
   read-number : isString t ≡ false → Read t s k
   read-number n =
-      let f = on-check _ _ _ k (sym (size-number short broken t s n) ∙ e) in
-      let g = on-check _ _ _ k (f .1) in
+      let f = check-ok _ _ _ k (sym (size-number short broken t s n) ∙ e) in
+      let g = check-ok _ _ _ k (f .1) in
       let l : width t ≤ length s = leb-true (width t) (length s) (f .0) in
       let q : width t ≡ k = cc in
       let p = width-some t n in
@@ -207,8 +173,8 @@ module _ (short broken : Refusal) (t : ℕ) (s : List ℕ) (k : ℕ) (h : Bytes 
     where
       string-whole : (v : ℕ) (c : List ℕ) → Bytes c → stringSize short broken v c ≡ ok k → Read t (be 4 v ++ c) k
       string-whole v c hc x =
-          let f = on-check _ _ _ k (on-check _ _ _ k x .1) in
-          let g = on-check _ _ _ k (f .1) in
+          let f = check-ok _ _ _ k (check-ok _ _ _ k x .1) in
+          let g = check-ok _ _ _ k (f .1) in
           let m : v ≤ 65535 = leb-true v 65535 (f .0) in
           let l : v ≤ length c = leb-true v (length c) (g .0) in
           let q : 4 + v ≡ k = cc in

@@ -5,7 +5,7 @@ use mathlib.Core.Bool.{Bool, true, false, _&&_, _||_, cond}
 use mathlib.Core.List.{List, [], _∷_, _++_}
 use lib.Dec.{eqb, ltb, leb}
 use lib.ListN.{length, getD, drop}
-use Rattle.numbers.specs.Meaning.{be, beAt}
+use Rattle.numbers.specs.Meaning.{All, same, be, beAt}
 use Rattle.numbers.specs.Laws.{Bytes}
 
 -- ---- types and values
@@ -30,12 +30,6 @@ booleanOk t v = cond (eqb t 1) (leb (getD v 0 0) 1) true
 pub data Value (t : ℕ) : List ℕ → Type 0 where
   number : (v : List ℕ) → isString t ≡ false → length v ≡ width t → Bytes v → booleanOk t v ≡ true → Value t v
   string : (c : List ℕ) → isString t ≡ true → length c ≤ 65535 → Bytes c → Value t (be 4 (length c) ++ c)
-
-unfoldable pub same : List ℕ → List ℕ → Bool
-same [] [] = true
-same [] (y ∷ ys) = false
-same (x ∷ xs) [] = false
-same (x ∷ xs) (y ∷ ys) = eqb x y && same xs ys
 
 -- ---- the order of values (01, "Numbers compare signed. Strings compare by unsigned bytes, a prefix first")
 
@@ -73,8 +67,7 @@ listed v (l ∷ ls) = same v l || listed v ls
 
 -- literals of type t, each in its stored form, and the bytes of all, one after another
 abbrev pub Literals : ℕ → List (List ℕ) → Type 0
-Literals t [] = Unit {0}
-Literals t (l ∷ ls) = Value t l × Literals t ls
+Literals t ls = All (Value t) ls
 
 abbrev pub literalBytes : List (List ℕ) → List ℕ
 literalBytes [] = []

@@ -1,26 +1,14 @@
 -- What is read of any bytes as values: the size of one, and literals to the end (01, "Bitmap body" and "Questions").
 use Prim.Native.Nat.{ℕ, zero, suc, _+_}
-use mathlib.Core.Bool.{Bool, true, false, cond}
+use mathlib.Core.Bool.{cond}
 use mathlib.Core.List.{List, [], _∷_, _++_}
 use lib.Dec.{eqb, ltb, leb}
 use lib.ListN.{length, take, drop}
 use Rattle.numbers.specs.Meaning.{big, number}
+use Rattle.refusal.specs.Reading.{Out, refuse, ok, check, andThen}
 use Rattle.refusal.specs.declared.Refusal.{Refusal}
 use Rattle.refusal.specs.declared.Refusal.the-variants.{Literal, Limit}
 use Rattle.stored_value.specs.Meaning.{width, isString, booleanOk}
-
--- a refusal, or what was read
-pub data Out (A : Type 0) : Type 0 where
-  refuse : Refusal → Out A
-  ok : A → Out A
-
-unfoldable pub check : {A : Type 0} → Bool → Refusal → Out A → Out A
-check true r x = x
-check false r x = refuse r
-
-unfoldable pub andThen : {A B : Type 0} → Out A → (A → Out B) → Out B
-andThen (refuse r) k = refuse r
-andThen (ok a) k = k a
 
 -- how many bytes the value of type t at the front of s takes in its stored form. A string's length is tested before its bytes. `short` and
 -- `broken` are SHORT and DICT in a dictionary, and LITERAL both among literals

@@ -8,7 +8,8 @@ ghost use lib.Dec.{ltb};
 ghost use lib.ListN.{length, drop};
 ghost use Rattle.stored_value.specs.Meaning.{width, bytesLess};
 ghost use Rattle.stored_value.specs.Meaning as meaning;
-ghost use Rattle.stored_value.specs.Reading.{ok, valueSize};
+ghost use Rattle.refusal.specs.Reading.{ok};
+ghost use Rattle.stored_value.specs.Reading.{valueSize};
 ghost use Rattle.stored_value.specs.Reading as reading;
 ghost use Rattle.stored_value.specs.Code.{sizedBy, countedBy};
 use numbers::Position;
@@ -74,23 +75,6 @@ pub fn size(s: &[u8], at: Position, t: u32, short: Refusal, broken: Refusal) -> 
         }
     }
     Sized::Bytes(w)
-}
-
-// Whether two values have the same bytes.
-pub fn same(a: &[u8], b: &[u8]) -> bool
-    ensures { λ r. ⌜ r ≡ meaning.same (now (a .entry)) (now (b .entry)) ⌝ }
-{
-    if a.len() != b.len() {
-        return false;
-    }
-    let mut i = 0;
-    while i < a.len() {
-        if a[i] != b[i] {
-            return false;
-        }
-        i += 1;
-    }
-    true
 }
 
 // The place of v among the numbers below twice `half`, where those from `half` on are the negative ones and come first.
@@ -188,7 +172,7 @@ pub fn listed(v: &[u8], literals: &[u8], t: u32) -> bool
             }
             Sized::Bytes(n) => {
                 let e = p + n;
-                if same(v, &literals[p..e]) {
+                if numbers::same(v, &literals[p..e]) {
                     return true;
                 }
                 p = e;

@@ -1,6 +1,6 @@
 -- `poddurance_ask` meets its contract: the answer of the call it wraps, case by case.
 use mathlib.Core.Path.{refl, sym, _∙_}
-use Rattle.poddurance.specs.Reading.{askNumber, matchedCount}
+use Rattle.poddurance.specs.Reading.{askOut}
 use borrow.Author.Needs.{needs}
 use Rattle.poddurance.proofs.poddurance_ask.Statement.{statement}
 use Rattle.poddurance.proofs.poddurance_ask.Tie as tie
@@ -24,7 +24,7 @@ same-length : tie.Need-same-length
 same-length c = search needs
 
 returns : tie.Need-returns
-unfolding askNumber matchedCount
+unfolding askOut
 returns c =
     let a = c .before .before .before .before .before .before .ask in
     let e = sym (a .ensures .0) ∙ c .before .before .answer .given .1 in
@@ -34,7 +34,7 @@ same-length-2 : tie.Need-same-length-2
 same-length-2 c = search needs
 
 returns-2 : tie.Need-returns-2
-unfolding askNumber matchedCount
+unfolding askOut
 returns-2 c =
     let a = c .before .before .before .before .ask in
     let e = sym (a .ensures .0) ∙ c .enum-told .given .1 in
@@ -44,7 +44,7 @@ same-length-3 : tie.Need-same-length-3
 same-length-3 c = search needs
 
 returns-3 : tie.Need-returns-3
-unfolding askNumber matchedCount
+unfolding askOut
 returns-3 c =
     let a = c .before .before .before .before .before .ask in
     let e = sym (a .ensures .0) ∙ c .before .answer2 .given .1 in

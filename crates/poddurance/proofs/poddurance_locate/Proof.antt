@@ -1,6 +1,6 @@
 -- `poddurance_locate` meets its contract: the answer of Locate on the buffer that is looked at, case by case.
 use mathlib.Core.Path.{refl, sym, _∙_}
-use Rattle.poddurance.specs.Reading.{foundStart, foundLength}
+use Rattle.poddurance.specs.Reading.{locateOut}
 use borrow.Author.Needs.{needs}
 use Rattle.poddurance.proofs.poddurance_locate.Statement.{statement}
 use Rattle.poddurance.proofs.poddurance_locate.Tie as tie
@@ -21,19 +21,19 @@ number-requires : tie.Need-number-requires
 number-requires c κs = search needs
 
 returns : tie.Need-returns
-unfolding foundStart foundLength
+unfolding locateOut
 returns c =
     let e = sym (c .before .before .before .find .ensures) ∙ c .before .answer .given .1 in
     (rw e refl, rw e refl, rw e refl)
 
 returns-2 : tie.Need-returns-2
-unfolding foundStart foundLength
+unfolding locateOut
 returns-2 c =
     let e = sym (c .before .before .find .ensures) ∙ c .enum-told .given .1 in
     (rw e refl, rw e refl, rw e refl)
 
 returns-3 : tie.Need-returns-3
-unfolding foundStart foundLength
+unfolding locateOut
 returns-3 c =
     let e = sym (c .before .before .before .before .find .ensures) ∙ c .before .before .answer2 .given .1 in
     (rw e (c .number .ensures), rw e refl, rw e refl)

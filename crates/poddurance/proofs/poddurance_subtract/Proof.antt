@@ -1,6 +1,6 @@
 -- `poddurance_subtract` meets its contract: the answer of the call it wraps, case by case.
 use mathlib.Core.Path.{refl, sym, _∙_}
-use Rattle.poddurance.specs.Reading.{subtractNumber, leftCount, removedCount}
+use Rattle.poddurance.specs.Reading.{subtractOut}
 use borrow.Author.Needs.{needs}
 use Rattle.poddurance.proofs.poddurance_subtract.Statement.{statement}
 use Rattle.poddurance.proofs.poddurance_subtract.Tie as tie
@@ -21,7 +21,7 @@ same-length : tie.Need-same-length
 same-length c = search needs
 
 returns : tie.Need-returns
-unfolding subtractNumber leftCount removedCount
+unfolding subtractOut
 returns c =
     let a = c .before .before .before .before .before .before .subtract in
     let e = sym (a .ensures .0) ∙ c .before .before .answer .given .1 in
@@ -31,7 +31,7 @@ same-length-2 : tie.Need-same-length-2
 same-length-2 c = search needs
 
 returns-2 : tie.Need-returns-2
-unfolding subtractNumber leftCount removedCount
+unfolding subtractOut
 returns-2 c =
     let a = c .before .before .before .before .before .subtract in
     let e = sym (a .ensures .0) ∙ c .before .answer2 .given .1 in

@@ -6,7 +6,7 @@ use native.Mathlib.Omega.{arith}
 use lib.ListN.{length, drop}
 use borrow.Author.Needs.{needs}
 use Rattle.refusal.specs.declared.Refusal.the-variants.{Literal}
-use Rattle.stored_value.specs.Reading.{ok}
+use Rattle.refusal.specs.Reading.{ok}
 use Rattle.stored_value.specs.Reading as reading
 use Rattle.stored_value.proofs.Steps.{size-refused, size-bytes, size-within}
 use Rattle.stored_value.proofs.Passed.{Left, left-start, left-done, left-refused, left-found, left-next}

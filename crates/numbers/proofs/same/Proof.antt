@@ -3,10 +3,10 @@ use Prim.Native.Nat.{_-_, _≤_}
 use mathlib.Core.Path.{_≡_, refl, sym, _∙_}
 use native.Mathlib.Omega.{arith}
 use lib.ListN.{length, drop}
-use Rattle.stored_value.specs.Meaning as meaning
-use Rattle.stored_value.proofs.Steps.{same-next, same-ends, same-done, same-other}
-use Rattle.stored_value.proofs.same.Statement.{statement}
-use Rattle.stored_value.proofs.same.Tie as tie
+use Rattle.numbers.specs.Meaning as meaning
+use Rattle.numbers.specs.Same.{same-next, same-ends, same-done, same-other}
+use Rattle.numbers.proofs.same.Statement.{statement}
+use Rattle.numbers.proofs.same.Tie as tie
 
 abbrev Inv-loop : tie.InvT-loop
 Inv-loop a b i₀ i = (i ≤ length a) × (meaning.same (drop i a) (drop i b) ≡ meaning.same a b)

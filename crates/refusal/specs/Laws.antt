@@ -1,0 +1,20 @@
+-- Stages taken apart: what passed a test, and what came of a stage that followed. Assumes nothing.
+use Prim.Native.Nat.{ℕ}
+use mathlib.Core.Path.{_≡_, refl}
+use mathlib.Core.Bool.{Bool, true, false}
+use native.Mathlib.Omega.{arith}
+use Rattle.refusal.specs.declared.Refusal.{Refusal}
+use Rattle.refusal.specs.Reading.{Out, refuse, ok, check, andThen}
+
+pub not-ok : {A : Type 0} {r : Refusal} {a : A} → refuse r ≡ ok a → ⊥
+not-ok e = let z : _≡_ {A = ℕ} 0 1 = cc in omega arith
+
+pub check-ok : {A : Type 0} (b : Bool) (r : Refusal) (x : Out A) (a : A) → check b r x ≡ ok a → (b ≡ true) × (x ≡ ok a)
+unfolding check
+check-ok true r x a e = (refl, e)
+check-ok false r x a e = absurd (not-ok e)
+
+pub then-ok : {A B : Type 0} (x : Out A) (k : A → Out B) (b : B) → andThen x k ≡ ok b → (a : A) × (x ≡ ok a) × (k a ≡ ok b)
+unfolding andThen
+then-ok (refuse r) k b e = absurd (not-ok e)
+then-ok (ok a) k b e = (a, refl, e)
