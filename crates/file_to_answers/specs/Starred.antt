@@ -1,6 +1,8 @@
 -- 01, "Files written out": the cases marked * stand together in one table, with one proved statement, `starred`. Assumes nothing.
-use Prim.Native.Nat.{ℕ, zero, suc, _+_, _-_, _*_, _/_, _%_, _^_}
+use Prim.Native.Nat.{ℕ, zero, suc, _+_, _-_, _*_, _/_, _%_, _^_, _≤_, _<_}
 use mathlib.Core.Path.{_≡_, refl}
+use native.Mathlib.Omega.{arith}
+use borrow.Author.Tests.{le-ltb}
 use mathlib.Core.Bool.{Bool, true, false, not, _&&_, _||_, cond}
 use mathlib.Core.List.{List, [], _∷_, _++_}
 use lib.Bits.{bitOr}
@@ -8,18 +10,28 @@ use lib.Dec.{eqb, ltb, leb}
 use lib.IntN.{ℤ, pos, negsuc}
 use lib.ListN.{length, getD, set, take, drop, replicate}
 use Rattle.numbers.specs.Meaning.{All, number, signed32, same}
+use Rattle.numbers.specs.Laws.{Bytes}
+use Rattle.refusal.specs.Meaning.{limit}
 use Rattle.refusal.specs.declared.Refusal.the-variants.{Range}
 use Rattle.row_field.specs.Meaning.{bit, mark, markAll, anySet, zeroed, upTo, rowsFrom}
 use Rattle.roaring.specs.Reading.{Read, got, need, choose, valuesOf, runsOf, rising, apart, bodySize, bodyValues, sound, body, offsetIs, containers, contents, readPlain, readFlagged, read}
 use Rattle.roaring.specs.Reading as roaring
-use Rattle.stored_value.specs.Meaning.{Cell, null, value, width, isString, booleanOk, sameCell, rank, less, listed}
+use Rattle.roaring.specs.Layout.{Bitmap, plain-bitmap, flagged-bitmap, array, runs}
+use Rattle.stored_value.specs.Meaning.{Cell, null, value, Value, width, isString, booleanOk, sameCell, rank, less, listed}
+use Rattle.stored_value.specs.Meaning as values
 use Rattle.refusal.specs.Reading.{Out, refuse, ok, check, andThen}
 use Rattle.stored_value.specs.Reading.{valueSize, valueOf, literals}
 use Rattle.dictionary.specs.Reading.{counted, entriesOne, listings, past, heads, entriesTwo, behind, blocksOf, blocked, nullOf, dictionary}
 use Rattle.index_file.specs.Reading.{located, answerOf, partOf, lookedAt}
 use Rattle.index_file.specs.Reading as head
-use Rattle.bitmap_index.specs.Meaning.{chosen, takes, scanFrom, scan, keeps}
-use Rattle.bitmap_index.specs.Reading.{Answer, placeAt, place, placeAll, roomFor, prepared, audited, audit, chosenOf, answered, asked, ask}
+use Rattle.index_file.specs.Layout as layout
+use Rattle.dictionary.specs.Layout.{Entry, minusOne}
+use Rattle.bitmap_index.specs.declared.Answered.{Answered}
+use Rattle.bitmap_index.specs.declared.Answered.the-variants.{Skip, Keep}
+use Rattle.bitmap_index.specs.Meaning.{Column, chosen, takes, scanFrom, scan, keeps}
+use Rattle.bitmap_index.specs.Layout.{Kept, single, Body, version1, version2}
+use Rattle.bitmap_index.specs.Reading.{Answer, placeAt, place, placeAll, roomFor, prepared, audited, audit, chosenOf, answered, asked, ask, answeredBy}
+use Rattle.file_to_answers.specs.Layout.{ColumnFile}
 
 -- TINYINT column s = 7, 9, null
 abbrev pub cells : List Cell
@@ -46,39 +58,41 @@ abbrev pub bitmap : List ℕ
 bitmap = 0x62 ∷ 0x69 ∷ 0x74 ∷ 0x6D ∷ 0x61 ∷ 0x70 ∷ []
 
 pub data Case : Type 0 where
-  -- Locate hands back this body of the file
+  -- the file is the column's, and Locate hands back this body of it
   locates : List ℕ → Case
-  -- Audit of the body gives three rows
+  -- the body is the column's, and Audit of it gives three rows
   audits : List ℕ → Case
-  -- the question, by its number, with this TINYINT literal, of either body and of the scan: the field's byte, and the count
-  answers : ℕ → ℕ → ℕ → ℕ → Case
-  -- the bitmap's bytes are read as these rows
+  -- the question, by its number, with this TINYINT literal, of either body and of the scan: the field's byte, the count, and what Ask answers
+  answers : ℕ → ℕ → ℕ → ℕ → Answered → Case
+  -- the bytes are a bitmap of these rows, and are read so
   reads : List ℕ → List ℕ → Case
   -- the offset, as 32 bits, names this row
   names : ℕ → ℕ → Case
-  -- the offset is RANGE for the greatest row count that 01 allows
+  -- the offset is RANGE always: for each row count that 01 allows
   outside : ℕ → Case
 
 -- a lent byte with all bits set is the field of the three rows
 abbrev pub Holds : Case → Type 0
-Holds (locates body) = (answerOf (located [] file s bitmap) ≡ 0) × (partOf (located [] file s bitmap) (lookedAt [] file) ≡ body)
-Holds (audits body) = audit 0 body (0xFF ∷ []) ≡ ok 3
-Holds (answers q v field matched) =
+Holds (locates body) =
+    (answerOf (located [] file s bitmap) ≡ 0) × (partOf (located [] file s bitmap) (lookedAt [] file) ≡ body) × ColumnFile 0 cells s bitmap file
+Holds (audits body) = (audit 0 body (0xFF ∷ []) ≡ ok 3) × Body 0 cells body
+Holds (answers q v field matched answer) =
     (ask 0 q (v ∷ []) one (0xFF ∷ []) ≡ ok (record { buffer = field ∷ []; matched = matched }))
     × (ask 0 q (v ∷ []) two (0xFF ∷ []) ≡ ok (record { buffer = field ∷ []; matched = matched }))
     × (scan q ((v ∷ []) ∷ []) cells ≡ record { field = field ∷ []; matched = matched })
-Holds (reads bytes rows) = read bytes ≡ got rows (length bytes) []
+    × (answeredBy (ok (record { buffer = field ∷ []; matched = matched })) ≡ answer)
+Holds (reads bytes rows) = (read bytes ≡ got rows (length bytes) []) × Bitmap rows bytes
 Holds (names offset row) = signed32 offset ≡ negsuc row
-Holds (outside offset) = placeAt (signed32 offset) 0 2147483647 [] [] ≡ refuse Range
+Holds (outside offset) = (extent n : ℕ) (region field : List ℕ) → n ≤ limit → placeAt (signed32 offset) extent n region field ≡ refuse Range
 
 abbrev pub table : List Case
 table =
     locates one
     ∷ audits one
     ∷ audits two
-    ∷ answers 0 7 0x01 1
-    ∷ answers 1 7 0x06 2
-    ∷ answers 0 8 0x00 0
+    ∷ answers 0 7 0x01 1 (Keep 1)
+    ∷ answers 1 7 0x06 2 (Keep 2)
+    ∷ answers 0 8 0x00 0 Skip
     ∷ reads
     (0x3A ∷ 0x30 ∷ 0 ∷ 0 ∷ 1 ∷ 0 ∷ 0 ∷ 0 ∷ 0 ∷ 0 ∷ 2 ∷ 0 ∷ 0x10 ∷ 0 ∷ 0 ∷ 0 ∷ 0 ∷ 0 ∷ 2 ∷ 0 ∷ 5 ∷ 0 ∷ [])
     (0 ∷ 2 ∷ 5 ∷ [])
@@ -88,6 +102,106 @@ table =
     ∷ outside 0x80000000
     ∷ []
 
+-- ---- the layouts of these bytes
+
+single-byte : (b : ℕ) → b < 256 → Bytes (b ∷ [])
+single-byte b h zero = h
+single-byte b h (suc i) = omega arith
+
+tinyint : (b : ℕ) → b < 256 → Value 0 (b ∷ [])
+unfolding isString width booleanOk
+tinyint b h = values.number (b ∷ []) refl refl (single-byte b h) refl
+
+entry : Cell → ℕ → Entry
+entry c r = record { cell = c; offset = minusOne - r; extent = minusOne }
+
+column : Column 0 cells
+column = (omega arith, (tinyint 7 (omega arith), (tinyint 9 (omega arith), tt)))
+
+-- each row by its offset alone
+kept : (region : List ℕ) → Kept cells region (entry null 2 ∷ []) (entry (value (7 ∷ [])) 0 ∷ entry (value (9 ∷ [])) 1 ∷ [])
+unfolding same sameCell entry
+kept region = (
+  (refl, refl),
+  (single 2 refl (omega arith) refl (omega arith), (single 0 refl (omega arith) refl (omega arith), (single 1 refl (omega arith) refl (omega arith), tt))),
+  (refl, (refl, (refl, tt))),
+)
+
+one-is-its-body : Body 0 cells one
+unfolding same sameCell entry
+one-is-its-body =
+    version1 (entry null 2 ∷ []) (entry (value (7 ∷ [])) 0 ∷ entry (value (9 ∷ [])) 1 ∷ []) [] column (kept []) (refl, (refl, (refl, tt)))
+    (tinyint 7 (omega arith), refl, (tinyint 9 (omega arith), refl, tt)) (omega arith) (omega arith) (omega arith)
+
+two-is-its-body : Body 0 cells two
+unfolding same sameCell entry less rank isString width
+two-is-its-body =
+    version2 (entry null 2 ∷ []) ((entry (value (7 ∷ [])) 0 ∷ []) ∷ (entry (value (9 ∷ [])) 1 ∷ []) ∷ []) [] column (kept []) (omega arith, (omega arith, tt))
+    (tinyint 7 (omega arith), tt, (tinyint 9 (omega arith), refl, tt)) (omega arith) (omega arith) (omega arith) (omega arith)
+
+its-file : ColumnFile 0 cells s bitmap file
+its-file =
+    let e : layout.Entry = record { name = bitmap; start = 47; length = 24 } in
+    let c : layout.Column = record { name = s; entries = e ∷ [] } in
+    record {
+      body = one;
+      file = record {
+        head = record {
+          headLength = 47;
+          columns = c ∷ [];
+          redundant = [];
+          rest = one;
+          laid = refl;
+          whole = refl;
+          counts = (omega arith, omega arith, omega arith);
+          fit = ((omega arith, omega arith, ((omega arith, omega arith, omega arith), tt)), tt);
+        };
+        asked = c;
+        entry = e;
+        column-once = record { before = []; after = []; parts = refl; holds = refl; none-before = tt; none-after = tt };
+        kind-once = record { before = []; after = []; parts = refl; holds = refl; none-before = tt; none-after = tt };
+        not-negative = (omega arith, omega arith);
+        behind = omega arith;
+        within = omega arith;
+        part = refl;
+      };
+      laid = one-is-its-body;
+      small = omega arith;
+    }
+
+array-bitmap : Bitmap (0 ∷ 2 ∷ 5 ∷ []) (0x3A ∷ 0x30 ∷ 0 ∷ 0 ∷ 1 ∷ 0 ∷ 0 ∷ 0 ∷ 0 ∷ 0 ∷ 2 ∷ 0 ∷ 0x10 ∷ 0 ∷ 0 ∷ 0 ∷ 0 ∷ 0 ∷ 2 ∷ 0 ∷ 5 ∷ 0 ∷ [])
+array-bitmap =
+    plain-bitmap (record { key = 0; body = array (0 ∷ 2 ∷ 5 ∷ []) } ∷ []) (omega arith) refl
+    (omega arith, omega arith, (omega arith, omega arith, (omega arith, omega arith, (omega arith, omega arith, (omega arith, omega arith, tt)))), omega arith, tt)
+
+run-bitmap : Bitmap (1 ∷ 2 ∷ 3 ∷ 4 ∷ []) (0x3B ∷ 0x30 ∷ 0 ∷ 0 ∷ 1 ∷ 0 ∷ 0 ∷ 3 ∷ 0 ∷ 1 ∷ 0 ∷ 1 ∷ 0 ∷ 3 ∷ 0 ∷ [])
+unfolding upTo markAll mark
+run-bitmap =
+    flagged-bitmap (record { key = 0; body = runs (record { start = 1; more = 3 } ∷ []) } ∷ []) (omega arith) (omega arith)
+    (omega arith, omega arith, (omega arith, omega arith, (omega arith, omega arith, tt)), tt, tt)
+
+always : (extent n : ℕ) (region field : List ℕ) → n ≤ limit → placeAt (signed32 0x80000000) extent n region field ≡ refuse Range
+unfolding placeAt check
+always extent n region field h = rw (le-ltb 2147483647 n h)
+
 pub starred : All Holds table
-unfolding number head.find head.file head.need head.count head.name head.entries head.afterEntry head.columns head.afterColumn head.placed head.head head.used read readPlain readFlagged contents containers need choose roaring.andThen offsetIs body bodySize bodyValues sound valuesOf runsOf rising apart bit mark markAll anySet zeroed upTo rowsFrom placeAt place placeAll check andThen valueSize valueOf literals width isString booleanOk same sameCell rank less listed counted entriesOne listings past heads entriesTwo behind blocksOf blocked nullOf dictionary chosen takes scanFrom scan roomFor prepared audited audit chosenOf answered asked ask
-starred = ((refl, refl), (refl, (refl, ((refl, refl, refl), ((refl, refl, refl), ((refl, refl, refl), (refl, (refl, (refl, (refl, (refl, tt)))))))))))
+unfolding number head.find head.file head.need head.count head.name head.entries head.afterEntry head.columns head.afterColumn head.placed head.head head.used read readPlain readFlagged contents containers need choose roaring.andThen offsetIs body bodySize bodyValues sound valuesOf runsOf rising apart bit mark markAll anySet zeroed upTo rowsFrom placeAt place placeAll check andThen valueSize valueOf literals width isString booleanOk same sameCell rank less listed counted entriesOne listings past heads entriesTwo behind blocksOf blocked nullOf dictionary chosen takes scanFrom scan roomFor prepared audited audit chosenOf answered asked ask answeredBy keeps
+starred = (
+  (refl, refl, its-file),
+  (
+    (refl, one-is-its-body),
+    (
+      (refl, two-is-its-body),
+      (
+        (refl, refl, refl, refl),
+        (
+          (refl, refl, refl, refl),
+          (
+            (refl, refl, refl, refl),
+            ((refl, array-bitmap), ((refl, run-bitmap), (refl, (refl, (always, tt))))),
+          ),
+        ),
+      ),
+    ),
+  ),
+)

@@ -1,10 +1,10 @@
-// Finding a body in an index file: document 01's Locate.
+// Finding a body in an index file: the head of document 01's Locate, which chooses between two buffers in `file_to_answers`.
 ghost use mathlib.Core.Path.{_≡_};
 ghost use mathlib.Core.Bool.{false};
 ghost use Prim.Native.Nat.{_≤_};
 ghost use lib.ListN.{length, drop};
 ghost use Rattle.numbers.specs.Meaning.{same};
-ghost use Rattle.index_file.specs.Reading.{afterEntry, afterColumn, entries, columns, placed, head, file, find, lookedAt, located, answerOf, partOf, used, HandedBack};
+ghost use Rattle.index_file.specs.Reading.{afterEntry, afterColumn, entries, columns, placed, head, file, find, answerOf, partOf, HandedBack};
 ghost use Rattle.index_file.specs.Steps.{named, counted, walked};
 use numbers::Position;
 use refusal::Refusal;
@@ -13,13 +13,14 @@ const LIMIT: usize = 2147483647;
 
 const MAGIC: u64 = 1493475289347502;
 
+// Where the body is, ABSENT for a column or a kind that is not listed, or a refusal.
 pub enum Located {
     Found { start: Position, length: usize },
     Absent,
     Refused(Refusal),
 }
 
-// Where the asked kind stands, as far as the head was read: in no entry, in one, or in more than one.
+// Where the asked kind stands, as far as the head was read: in no entry, in one; or it, or the asked column, is there twice.
 enum Place {
     Nowhere,
     At { start: usize, length: usize },
@@ -268,8 +269,8 @@ pub fn find(bytes: &[u8], column: &[u8], kind: &[u8]) -> Located
     read_file(bytes, column, kind)
 }
 
-// The part that `find` finds, and the number of its answer.
-fn part_of<'a>(bytes: &'a [u8], column: &[u8], kind: &[u8], answer: &mut u8) -> &'a [u8]
+// The part that `find` finds, with the bytes' lifetime, and through `answer` 0 for found, 255 for ABSENT, or the refusal's number.
+pub fn part_of<'a>(bytes: &'a [u8], column: &[u8], kind: &[u8], answer: &mut u8) -> &'a [u8]
     ensures { λ r. ⌜ (now (answer .exit) ≡ answerOf (find (now (bytes .entry)) (now (column .entry)) (now (kind .entry))))
         × (now r ≡ partOf (find (now (bytes .entry)) (now (column .entry)) (now (kind .entry))) (now (bytes .entry)))
         × HandedBack (find (now (bytes .entry)) (now (column .entry)) (now (kind .entry))) (bytes .entry .ptr) (r .ptr) ⌝ }
@@ -291,22 +292,4 @@ fn part_of<'a>(bytes: &'a [u8], column: &[u8], kind: &[u8], answer: &mut u8) -> 
             &bytes[0..0]
         }
     }
-}
-
-// Document 01's Locate: the body as a part of the buffer that is looked at; through `answer` 0 for found, 255 for ABSENT, or the refusal's number.
-pub fn locate<'a>(
-    embedded: &'a [u8],
-    file: &'a [u8],
-    column: &[u8],
-    kind: &[u8],
-    answer: &mut u8,
-) -> &'a [u8]
-    ensures { λ r. ⌜ (now (answer .exit) ≡ answerOf (located (now (embedded .entry)) (now (file .entry)) (now (column .entry)) (now (kind .entry))))
-        × (now r ≡ partOf (located (now (embedded .entry)) (now (file .entry)) (now (column .entry)) (now (kind .entry))) (lookedAt (now (embedded .entry)) (now (file .entry))))
-        × HandedBack (located (now (embedded .entry)) (now (file .entry)) (now (column .entry)) (now (kind .entry))) (used (now (embedded .entry)) (embedded .entry .ptr) (file .entry .ptr)) (r .ptr) ⌝ }
-{
-    if embedded.len() != 0 {
-        return part_of(embedded, column, kind, answer);
-    }
-    part_of(file, column, kind, answer)
 }

@@ -47,7 +47,7 @@ fn say_found(found: Located) {
 
 fn say_part<'a>(embedded: &'a [u8], file: &'a [u8], column: &[u8], kind: &[u8]) {
     let mut answer = 99u8;
-    let part = index_file::locate(embedded, file, column, kind, &mut answer);
+    let part = file_to_answers::locate(embedded, file, column, kind, &mut answer);
     say(b"answer ");
     say_number(wide(answer));
     say(b", part ");

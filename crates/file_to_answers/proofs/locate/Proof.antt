@@ -1,8 +1,8 @@
 -- The buffer that is looked at, then its part.
 use borrow.Author.Needs.{needs}
 use Rattle.index_file.proofs.Positions.{used-embedded, used-file}
-use Rattle.index_file.proofs.locate.Statement.{statement}
-use Rattle.index_file.proofs.locate.Tie as tie
+use Rattle.file_to_answers.proofs.locate.Statement.{statement}
+use Rattle.file_to_answers.proofs.locate.Tie as tie
 
 part-of-requires : tie.Need-part-of-requires
 part-of-requires c κs = search needs
