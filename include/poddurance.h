@@ -2,7 +2,7 @@
  *
  * Link the archive that `rt staticlib poddurance` writes to target/staticlib/libpoddurance.a (x86-64 Linux).
  * Every call ends, reads and writes only inside the buffers it is lent, allocates nothing and keeps no state.
- * Buffers of one call must not overlap. A pointer may not be NULL, even where its length is 0.
+ * A buffer that is written must not overlap another of the call. A pointer may not be NULL, even where its length is 0.
  *
  * A row field for n rows is the first (n + 7) / 8 bytes of a buffer: row r is the bit of weight 1 << (r % 8) in byte r / 8, and the spare bits of its
  * last byte are 0. Bytes of the buffer behind the field never change.
