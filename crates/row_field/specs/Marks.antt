@@ -188,50 +188,50 @@ set-append-add : (p ys : List ℕ) (i v : ℕ) → set (p ++ ys) (length p + i) 
 set-append-add [] ys i v = rw zero-add
 set-append-add (a ∷ p) ys i v = rw (suc-add (length p) i) (ap (λ (l : List ℕ). a ∷ l) (set-append-add p ys i v))
 
--- x is a whole part of 65536 rows, or nothing comes after it
-Whole : List ℕ → List ℕ → Type 0
-Whole x q = (length x ≡ 8192) ⊎ (q ≡ [])
+-- x is a whole part of k bytes, or nothing comes after it
+Whole : ℕ → List ℕ → List ℕ → Type 0
+Whole k x q = (length x ≡ k) ⊎ (q ≡ [])
 
-whole-mark : (x q : List ℕ) (v : ℕ) → Whole x q → Whole (mark x v) q
+whole-mark : (k : ℕ) (x q : List ℕ) (v : ℕ) → Whole k x q → Whole k (mark x v) q
 unfolding Whole
-whole-mark x q v (inl e) = inl (length-mark x v ∙ e)
-whole-mark x q v (inr e) = inr e
+whole-mark k x q v (inl e) = inl (length-mark x v ∙ e)
+whole-mark k x q v (inr e) = inr e
 
-mark-part : (p x q : List ℕ) (v : ℕ) → v < 65536 → Whole x q → mark (p ++ (x ++ q)) (length p * 8 + v) ≡ p ++ (mark x v ++ q)
+mark-part : (k : ℕ) (p x q : List ℕ) (v : ℕ) → v < k * 8 → Whole k x q → mark (p ++ (x ++ q)) (length p * 8 + v) ≡ p ++ (mark x v ++ q)
 unfolding mark Whole
-mark-part p x q v s (inl e) =
+mark-part k p x q v s (inl e) =
     let d : (length p * 8 + v) / 8 ≡ length p + v / 8 = omega arith in
     let m : (length p * 8 + v) % 8 ≡ v % 8 = omega arith in
     let h : v / 8 < length x = omega arith in
     rw (d, m, getD-append-add, List·getD-append x q 0 (v / 8) h, set-append-add, set-append-left x q (v / 8) _ h)
-mark-part p x q v s (inr e) =
+mark-part k p x q v s (inr e) =
     let d : (length p * 8 + v) / 8 ≡ length p + v / 8 = omega arith in
     let m : (length p * 8 + v) % 8 ≡ v % 8 = omega arith in
     simp (d, m, e, append-nil, getD-append-add, set-append-add)
 
-bit-part : (p x q : List ℕ) (v : ℕ) → v < 65536 → Whole x q → bit (p ++ (x ++ q)) (length p * 8 + v) ≡ bit x v
+bit-part : (k : ℕ) (p x q : List ℕ) (v : ℕ) → v < k * 8 → Whole k x q → bit (p ++ (x ++ q)) (length p * 8 + v) ≡ bit x v
 unfolding bit Whole
-bit-part p x q v s (inl e) =
+bit-part k p x q v s (inl e) =
     let d : (length p * 8 + v) / 8 ≡ length p + v / 8 = omega arith in
     let m : (length p * 8 + v) % 8 ≡ v % 8 = omega arith in
     let h : v / 8 < length x = omega arith in
     rw (d, m, getD-append-add, List·getD-append x q 0 (v / 8) h)
-bit-part p x q v s (inr e) =
+bit-part k p x q v s (inr e) =
     let d : (length p * 8 + v) / 8 ≡ length p + v / 8 = omega arith in
     let m : (length p * 8 + v) % 8 ≡ v % 8 = omega arith in
     simp (d, m, e, append-nil, getD-append-add)
 
-markAll-part : (p x q vs : List ℕ) → Below 65536 vs → Whole x q → markAll (p ++ (x ++ q)) (above (length p * 8) vs) ≡ p ++ (markAll x vs ++ q)
+markAll-part : (k : ℕ) (p x q vs : List ℕ) → Below (k * 8) vs → Whole k x q → markAll (p ++ (x ++ q)) (above (length p * 8) vs) ≡ p ++ (markAll x vs ++ q)
 unfolding markAll above
-markAll-part p x q [] s w = refl
-markAll-part p x q (v ∷ vs) s w =
-    ap (λ (g : List ℕ). markAll g (above (length p * 8) vs)) (mark-part p x q v (s .0) w)
-    ∙ markAll-part p (mark x v) q vs (s .1) (whole-mark x q v w)
+markAll-part k p x q [] s w = refl
+markAll-part k p x q (v ∷ vs) s w =
+    ap (λ (g : List ℕ). markAll g (above (length p * 8) vs)) (mark-part k p x q v (s .0) w)
+    ∙ markAll-part k p (mark x v) q vs (s .1) (whole-mark k x q v w)
 
-anySet-part : (p x q vs : List ℕ) → Below 65536 vs → Whole x q → anySet (p ++ (x ++ q)) (above (length p * 8) vs) ≡ anySet x vs
+anySet-part : (k : ℕ) (p x q vs : List ℕ) → Below (k * 8) vs → Whole k x q → anySet (p ++ (x ++ q)) (above (length p * 8) vs) ≡ anySet x vs
 unfolding anySet above
-anySet-part p x q [] s w = refl
-anySet-part p x q (v ∷ vs) s w = rw (bit-part p x q v (s .0) w, anySet-part p x q vs (s .1) w)
+anySet-part k p x q [] s w = refl
+anySet-part k p x q (v ∷ vs) s w = rw (bit-part k p x q v (s .0) w, anySet-part k p x q vs (s .1) w)
 
 -- nothing can be marked in no bytes
 markAll-nil : (vs : List ℕ) → markAll [] vs ≡ []
@@ -244,9 +244,9 @@ unfolding anySet
 anySet-nil [] = refl
 anySet-nil (v ∷ vs) = rw (bit-out [] v (omega arith)) (anySet-nil vs)
 
--- the part of a field from byte a on for 65536 rows, as far as the field goes: it is lent, and comes back
-module _ (f vs : List ℕ) (a from to : ℕ) (s : Below 65536 vs) (p : from ≡ min a (length f)) (q : to ≡ min (a + 8192) (length f)) where
-  whole-part : a ≤ length f → Dec (a + 8192 ≤ length f) → Whole (midOf a (to - a) f) (postOf a (to - a) f)
+-- the k bytes of a field from byte a on, as far as the field goes: they are lent, and come back
+module _ (f vs : List ℕ) (a k from to : ℕ) (s : Below (k * 8) vs) (p : from ≡ min a (length f)) (q : to ≡ min (a + k) (length f)) where
+  whole-part : a ≤ length f → Dec (a + k ≤ length f) → Whole k (midOf a (to - a) f) (postOf a (to - a) f)
   unfolding Whole
   whole-part h (yes l) = inl (omega (arith, mid-len a to f (omega arith)))
   whole-part h (no l) =
@@ -258,7 +258,7 @@ module _ (f vs : List ℕ) (a from to : ℕ) (s : Below 65536 vs) (p : from ≡ 
       let e : from ≡ a = omega arith in
       let l = length-take-le a f h in
       let g = put-same a (to - a) f in
-      let m = markAll-part (take a f) (midOf a (to - a) f) (postOf a (to - a) f) vs s (whole-part h (decLe (a + 8192) (length f))) in
+      let m = markAll-part k (take a f) (midOf a (to - a) f) (postOf a (to - a) f) vs s (whole-part h (decLe (a + k) (length f))) in
       rw e (cc)
   marked-go (no h) =
       let z : to - from ≡ 0 = omega arith in
@@ -269,7 +269,7 @@ module _ (f vs : List ℕ) (a from to : ℕ) (s : Below 65536 vs) (p : from ≡ 
       let e : from ≡ a = omega arith in
       let l = length-take-le a f h in
       let g = put-same a (to - a) f in
-      let m = anySet-part (take a f) (midOf a (to - a) f) (postOf a (to - a) f) vs s (whole-part h (decLe (a + 8192) (length f))) in
+      let m = anySet-part k (take a f) (midOf a (to - a) f) (postOf a (to - a) f) vs s (whole-part h (decLe (a + k) (length f))) in
       rw e (cc)
   set-go (no h) =
       let z : to - from ≡ 0 = omega arith in
