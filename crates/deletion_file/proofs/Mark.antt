@@ -1,6 +1,6 @@
 -- Marking a bin's bitmap, and the stages before: roaring's promise put into the reading. Assumes nothing.
 use Prim.Native.Nat.{ℕ, _-_, _<_, _≤_}
-use mathlib.Core.Path.{_≡_, refl, sym, _∙_}
+use mathlib.Core.Path.{_≡_, refl, sym, ap, _∙_}
 use mathlib.Core.Bool.{Bool, true, false, cond}
 use mathlib.Core.List.{List}
 use native.Mathlib.Omega.{arith}
@@ -19,7 +19,7 @@ use Rattle.roaring.specs.Reading.{Read, refused, got, choose, anyFrom, fits, re
 use Rattle.deletion_file.specs.declared.Deletions.the-variants.{Deleted}
 use Rattle.deletion_file.specs.declared.Deletions.{Deletions}
 use Rattle.refusal.specs.Reading.{Out, refuse, ok}
-use Rattle.deletion_file.specs.Reading.{marked, before, markedBy, bitmapIn, bitmapOf, outcome, answerOf, fieldThen}
+use Rattle.deletion_file.specs.Reading.{before, markedBy, bitmapIn, bitmapOf, outcome, answerOf, fieldThen, deletionsOut}
 use Rattle.deletion_file.specs.Code.{part, bytesAt, fieldFrom}
 use Rattle.deletion_file.specs.declared.Place.{Place}
 use Rattle.deletion_file.specs.declared.Place.the-variants.{At}
@@ -78,21 +78,24 @@ unfolding fieldThen fieldFrom bitmapIn
 cleared-then n field (refuse r) = refl
 cleared-then n field (ok bytes) = marked-then n field _ (marking (Exactly (length bytes)) n (cleared n field) (read bytes))
 
--- the answer, and what the field holds then, where the outcome is known by a law
+-- the answer, what the field holds then, and the answer's numbers, where the outcome is known by a law
 module _ (file : List ℕ) (b n : ℕ) (field : List ℕ) where
   abbrev Said : Deletions → List ℕ → Type 0
-  Said answer after = (answer ≡ answerOf n (outcome file b n field)) × (after ≡ fieldThen n field (outcome file b n field))
+  Said answer after =
+      (answer ≡ answerOf n (outcome file b n field))
+      × (after ≡ fieldThen n field (outcome file b n field))
+      × (deletionsOut answer ≡ deletionsOut (answerOf n (outcome file b n field)))
 
   pub long-file : limit < length file → Said (Deletions.Refused Limit) field
   unfolding outcome before answerOf fieldThen
-  long-file h = let e = lt-leb (length file) limit h in (rw e, rw e)
+  long-file h = let e = lt-leb (length file) limit h in (rw e, rw e, rw e)
 
   pub many-rows : length file ≤ limit → limit < n → Said (Deletions.Refused Limit) field
   unfolding outcome before answerOf fieldThen
   many-rows h k =
       let e = le-leb (length file) limit h in
       let f = lt-leb n limit k in
-      (rw (e, f), rw (e, f))
+      (rw (e, f), rw (e, f), rw (e, f))
 
   -- whether there was room, and what the field was then
   module _ (h : length file ≤ limit) (k : n ≤ limit) {room : Bool} {start : List ℕ}
@@ -102,7 +105,7 @@ module _ (file : List ℕ) (b n : ℕ) (field : List ℕ) where
     no-room t =
         let f = le-leb (length file) limit h in
         let g = le-leb n limit k in
-        (rw (f, g, ← e .0, t), e .1 ∙ rw (f, g, ← e .0, t))
+        (rw (f, g, ← e .0, t), e .1 ∙ rw (f, g, ← e .0, t), rw (f, g, ← e .0, t))
 
     pub with-room : room ≡ true → {answer : Deletions} {after : List ℕ}
         → (answer ≡ answerOf n (bitmapIn n start (bitmapOf b file))) × (after ≡ fieldFrom start (bitmapIn n start (bitmapOf b file))) → Said answer after
@@ -111,5 +114,8 @@ module _ (file : List ℕ) (b n : ℕ) (field : List ℕ) where
         let f = le-leb (length file) limit h in
         let g = le-leb n limit k in
         let c : start ≡ cleared n field = e .1 ∙ rw t in
-        let w = rw c at m in
-        (rw (f, g, ← e .0, t) (w .0), rw (f, g, ← e .0, t) (w .1 ∙ sym (cleared-then n field (bitmapOf b file))))
+        let w = rw c at m in (
+          rw (f, g, ← e .0, t) (w .0),
+          rw (f, g, ← e .0, t) (w .1 ∙ sym (cleared-then n field (bitmapOf b file))),
+          rw (f, g, ← e .0, t) (ap deletionsOut (w .0)),
+        )

@@ -7,7 +7,7 @@ use native.Mathlib.Omega.{arith}
 use lib.Dec.{eqb, leb}
 use lib.ListN.{length, drop, getD, length-append}
 use borrow.Author.Tests.{leb-true, eqb-true}
-use Rattle.numbers.specs.Meaning.{be, beAt, big}
+use Rattle.numbers.specs.Meaning.{be, beAt, big, All}
 use Rattle.numbers.specs.Laws.{Bytes, bytes-drop, numberAt-back}
 use Rattle.refusal.specs.declared.Refusal.{Refusal}
 use Rattle.refusal.specs.declared.Refusal.the-variants.{Short, Magic, Version, Bitmap, Range, Checksum}
@@ -20,11 +20,11 @@ use Rattle.roaring.specs.Layout as roaring
 use Rattle.roaring.specs.Reading.{Read, refused, got, read, choose, anyFrom, fits, marking, fieldAfter}
 use Rattle.roaring.specs.Theorems.{read-was-laid-out}
 use Rattle.deletion_file.specs.declared.Deletions.the-variants.{Deleted}
-use Rattle.deletion_file.specs.Layout.{Bin, magic, binOf, frames}
+use Rattle.deletion_file.specs.Layout.{Bin, magic, binOf, frames, Framed}
 use Rattle.refusal.specs.Reading.{Out, refuse, ok, andThen}
 use Rattle.deletion_file.specs.Reading.{bins, asked, opened, bitmapOf, Outcome, untouched, zeroed, marked, before, markedBy, bitmapIn, answerOf}
 use Rattle.refusal.specs.Laws.{not-ok, check-ok, then-ok}
-use Rattle.deletion_file.specs.Frames.{Framed, nothing, walk-passed}
+use Rattle.deletion_file.specs.Frames.{nothing, walk-passed}
 use Rattle.deletion_file.specs.Fields.{any-below}
 
 -- ---- bytes of a part
@@ -56,9 +56,9 @@ asked-placed (suc b) (y ∷ ys) e =
     let i = asked-placed b ys e in
     record { earlier = y ∷ i .earlier; later = i .later; place = ap suc (i .place); cut = ap (λ (zs : List Bin). y ∷ zs) (i .cut) }
 
-framed-at : (ys : List Bin) (x : Bin) (zs : List Bin) → Framed (ys ++ (x ∷ zs)) → 4 ≤ length (x .bytes)
-framed-at [] x zs f = f .0
-framed-at (y ∷ ys) x zs f = framed-at ys x zs (f .3)
+framed-at : (ys : List Bin) (x : Bin) (zs : List Bin) → All Framed (ys ++ (x ∷ zs)) → 4 ≤ length (x .bytes)
+framed-at [] x zs f = f .0 .0
+framed-at (y ∷ ys) x zs f = framed-at ys x zs (f .1)
 
 bytes-first : (x : Bin) (t : List ℕ) → Bytes (be 4 (length (x .bytes)) ++ (x .bytes ++ (be 4 (x .sum) ++ t))) → Bytes (x .bytes) × Bytes t
 bytes-first x t b =
@@ -91,7 +91,7 @@ pub record Found (file : List ℕ) (b : ℕ) (bitmap : List ℕ) : Type 0 where
   pub earlier : List Bin
   pub later : List Bin
   pub place : length earlier ≡ b
-  pub framed : Framed (earlier ++ (binOf bitmap ∷ later))
+  pub framed : All Framed (earlier ++ (binOf bitmap ∷ later))
   pub cut : file ≡ 1 ∷ frames (earlier ++ (binOf bitmap ∷ later))
   pub are-bytes : Bytes bitmap
 
@@ -100,9 +100,9 @@ first-byte [] h e = absurd (omega arith)
 first-byte (v ∷ s) h e = rw e
 
 found-at : (file : List ℕ) (b : ℕ) (bitmap : List ℕ) (xs : List Bin) (x : Bin) → Placed xs b x → Bytes file → file ≡ 1 ∷ drop 1 file
-    → Framed xs → drop 1 file ≡ frames xs → opened x ≡ ok bitmap → Found file b bitmap
+    → All Framed xs → drop 1 file ≡ frames xs → opened x ≡ ok bitmap → Found file b bitmap
 found-at file b bitmap xs x p t w g h e =
-    let f : Framed (p .earlier ++ (x ∷ p .later)) = rw (p .cut) at g in
+    let f : All Framed (p .earlier ++ (x ∷ p .later)) = rw (p .cut) at g in
     let s : drop 1 file ≡ frames (p .earlier ++ (x ∷ p .later)) = rw (p .cut) at h in
     let y = bytes-at (p .earlier) x (p .later) (rw s at (bytes-drop 1 file t)) in
     let o = opened-back x bitmap y (framed-at (p .earlier) x (p .later) f) e in

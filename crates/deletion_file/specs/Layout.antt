@@ -1,8 +1,8 @@
 -- What a writer may lay out for a list of row sets (01, "Deletion file"). His choice is each bitmap's form.
-use Prim.Native.Nat.{ℕ, _<_}
+use Prim.Native.Nat.{ℕ, _<_, _≤_}
 use mathlib.Core.List.{List, [], _∷_, _++_}
 use lib.ListN.{length}
-use Rattle.numbers.specs.Meaning.{be}
+use Rattle.numbers.specs.Meaning.{be, All}
 use Rattle.crc32.specs.Meaning.{checksum}
 use Rattle.roaring.specs.Layout.{Bitmap}
 
@@ -32,3 +32,12 @@ pub data Bins : List (List ℕ) → List Bin → Type 0 where
 -- "Version 1 (one byte), then to the end" the bins
 pub data DeletionFile : List (List ℕ) → List ℕ → Type 0 where
   version-1 : {sets : List (List ℕ)} {xs : List Bin} → Bins sets xs → DeletionFile sets (1 ∷ frames xs)
+
+-- what the frame asks of a bin, whatever it holds: a size of at least 4, and four bytes hold size and checksum each
+abbrev pub Framed : Bin → Type 0
+Framed x = (4 ≤ length (x .bytes)) × (length (x .bytes) < 4294967296) × (x .sum < 4294967296)
+
+-- bin b of a file is a bitmap of the rows; what the other bins hold is left open
+pub data HasBin : ℕ → List ℕ → List ℕ → Type 0 where
+  has-bin : (earlier later : List Bin) {rows bitmap : List ℕ} → Bitmap rows bitmap → All Framed (earlier ++ (binOf bitmap ∷ later))
+      → HasBin (length earlier) rows (1 ∷ frames (earlier ++ (binOf bitmap ∷ later)))

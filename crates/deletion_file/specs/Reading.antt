@@ -6,7 +6,7 @@ use mathlib.Core.List.{List, [], _∷_}
 use lib.Dec.{eqb, leb}
 use lib.ListN.{length, take, drop, getD}
 use Rattle.numbers.specs.Meaning.{beAt, big, number}
-use Rattle.refusal.specs.Meaning.{limit}
+use Rattle.refusal.specs.Meaning.{limit, numberOf}
 use Rattle.refusal.specs.Reading.{Out, refuse, ok, check, andThen}
 use Rattle.refusal.specs.declared.Refusal.{Refusal}
 use Rattle.refusal.specs.declared.Refusal.the-variants.{Short, Magic, Version, Room, Limit, Checksum, NoBin}
@@ -22,9 +22,9 @@ use Rattle.deletion_file.specs.Layout.{Bin, magic}
 
 -- ---- the file
 
--- the bin of `size` bytes at the front of s, and the checksum behind it
+-- the bin of `long` bytes at the front of s, and the checksum behind it
 abbrev pub front : ℕ → List ℕ → Bin
-front size s = record { bytes = take size s; sum = beAt 4 s size }
+front long s = record { bytes = take long s; sum = beAt 4 s long }
 
 -- the walk over all sizes to the end of the bytes: SHORT, also for a size below 4. A bin takes 12 bytes at least, with its size and checksum, so a
 -- number of steps that is no smaller than the number of bytes is enough
@@ -32,8 +32,8 @@ unfoldable pub bins : ℕ → List ℕ → Out (List Bin)
 bins zero s = cond (eqb (length s) 0) (ok []) (refuse Short)
 bins (suc steps) s =
     cond (eqb (length s) 0) (ok [])
-    (number big 4 (refuse Short) s (λ size s. check (leb 4 size) Short (check (leb (size + 4) (length s)) Short
-    (andThen (bins steps (drop (size + 4) s)) (λ more. ok (front size s ∷ more))))))
+    (number big 4 (refuse Short) s (λ long s. check (leb 4 long) Short (check (leb (long + 4) (length s)) Short
+    (andThen (bins steps (drop (long + 4) s)) (λ more. ok (front long s ∷ more))))))
 
 -- the asked bin, by its number from 0: NOBIN
 unfoldable pub asked : ℕ → List Bin → Out Bin
@@ -84,6 +84,11 @@ unfoldable pub answerOf : ℕ → Outcome → Deletions
 answerOf n (untouched r) = Deletions.Refused r
 answerOf n (zeroed r) = Deletions.Refused r
 answerOf n (marked field) = Deleted (count field n)
+
+-- the answer's number, 0 for accepted and else the refusal's in 01's table, and how many rows are deleted
+unfoldable pub deletionsOut : Deletions → ℕ × ℕ
+deletionsOut (Deletions.Refused r) = (numberOf r, 0)
+deletionsOut (Deleted n) = (0, n)
 
 -- what the field holds then: "Refusals before and at the ROOM stage leave the buffer untouched. Later ones leave the field's ceil(n/8) bytes zero"
 unfoldable pub fieldThen : ℕ → List ℕ → Outcome → List ℕ

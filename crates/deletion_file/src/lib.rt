@@ -6,7 +6,7 @@ ghost use lib.Dec.{leb};
 ghost use lib.ListN.{length, drop};
 ghost use Rattle.row_field.specs.Meaning.{size, cleared};
 ghost use Rattle.refusal.specs.Reading.{andThen, ok};
-ghost use Rattle.deletion_file.specs.Reading.{bins, asked, opened, bitmapOf, bitmapIn, outcome, answerOf, fieldThen};
+ghost use Rattle.deletion_file.specs.Reading.{bins, asked, opened, bitmapOf, bitmapIn, outcome, answerOf, fieldThen, deletionsOut};
 ghost use Rattle.deletion_file.specs.Code.{part, binFrom, binAt, bytesAt, HoldsBin, Lies, fieldFrom};
 use numbers::Position;
 use refusal::Refusal;
@@ -132,7 +132,9 @@ fn clear_if_room(field: &mut [u8], rows: u64) -> bool
 
 // Read deletions: the rows of bin number `bin` of a deletion file are set in the field for `rows` rows, and no others. Bytes behind the field stay.
 pub fn read_deletions(file: &[u8], bin: u64, rows: u64, field: &mut [u8]) -> Deletions
-    ensures { λ r. ⌜ (r ≡ answerOf rows (outcome (now (file .entry)) bin rows (now (field .entry)))) × (now (field .exit) ≡ fieldThen rows (now (field .entry)) (outcome (now (file .entry)) bin rows (now (field .entry)))) ⌝ }
+    ensures { λ r. ⌜ (r ≡ answerOf rows (outcome (now (file .entry)) bin rows (now (field .entry))))
+        × (now (field .exit) ≡ fieldThen rows (now (field .entry)) (outcome (now (file .entry)) bin rows (now (field .entry))))
+        × (deletionsOut r ≡ deletionsOut (answerOf rows (outcome (now (file .entry)) bin rows (now (field .entry))))) ⌝ }
 {
     if 2147483647 < file.len() {
         return Deletions::Refused(Refusal::Limit);

@@ -1,12 +1,12 @@
-// The C interface (include/poddurance.h). Each function answers a number, 0 for accepted and else the refusal's number in document 01, and writes
-// counts through pointers; with a refusal the counts are 0.
+// The C interface (include/poddurance.h). Each function answers a number, 0 for accepted, 255 for Locate's ABSENT and else the refusal's number in
+// document 01, and writes counts through pointers; with ABSENT and a refusal the counts are 0.
 ghost use mathlib.Core.Path.{_≡_};
-ghost use Rattle.row_field.specs.Reading.{subtraction, fieldAfter};
-ghost use Rattle.deletion_file.specs.Reading.{outcome, answerOf, fieldThen};
+ghost use Rattle.row_field.specs.Reading.{subtraction, fieldAfter, subtractOut};
+ghost use Rattle.deletion_file.specs.Reading.{outcome, answerOf, fieldThen, deletionsOut};
 ghost use Rattle.index_file.specs.Reading.{located};
 ghost use Rattle.bitmap_index.specs.Reading.{auditBuffer, askBuffer, auditedBy, answeredBy};
 ghost use Rattle.bitmap_index.specs.Reading as index;
-ghost use Rattle.poddurance.specs.Reading.{deletionsOut, subtractOut, locateOut, auditOut, askOut};
+ghost use Rattle.poddurance.specs.Reading.{locateOut, auditOut, askOut};
 use bitmap_index::Answered;
 use bitmap_index::Audited;
 use deletion_file::Deletions;

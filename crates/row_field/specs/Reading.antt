@@ -4,7 +4,7 @@ use mathlib.Core.Bool.{Bool, cond}
 use mathlib.Core.List.{List}
 use lib.Dec.{leb}
 use lib.ListN.{length}
-use Rattle.refusal.specs.Meaning.{limit}
+use Rattle.refusal.specs.Meaning.{limit, numberOf}
 use Rattle.refusal.specs.declared.Refusal.{Refusal}
 use Rattle.refusal.specs.declared.Refusal.the-variants.{Limit, Room}
 use Rattle.row_field.specs.declared.Subtracted.{Subtracted}
@@ -27,3 +27,8 @@ subtraction n f g =
 unfoldable pub fieldAfter : Subtracted → ℕ → List ℕ → List ℕ → List ℕ
 fieldAfter (Refused why) n f g = f
 fieldAfter (Done left gone) n f g = subtracted n f g
+
+-- the answer's number, 0 for accepted and else the refusal's in 01's table, rows left, and rows removed
+unfoldable pub subtractOut : Subtracted → ℕ × ℕ × ℕ
+subtractOut (Refused why) = (numberOf why, 0, 0)
+subtractOut (Done left gone) = (0, left, gone)

@@ -7,7 +7,7 @@ ghost use lib.Count.{ones};
 ghost use lib.ListN.{length, getD, set};
 ghost use Rattle.row_field.specs.Meaning.{size, bit, markAll, anySet, cleared, upTo, rowsOf};
 ghost use Rattle.row_field.specs.Meaning as meaning;
-ghost use Rattle.row_field.specs.Reading.{subtraction, fieldAfter};
+ghost use Rattle.row_field.specs.Reading.{subtraction, fieldAfter, subtractOut};
 ghost use Rattle.row_field.specs.Subtracts.{Taken};
 ghost use Rattle.row_field.specs.Bytes.{anySeen, byteRows};
 use refusal::Refusal;
@@ -237,7 +237,9 @@ fn subtract_rows(first: &mut [u8], second: &[u8], rows: u64) -> u64
 
 // Document 01, Subtract: clears in the first field each row below `rows` that is set in the second. A refusal changes nothing.
 pub fn subtract(first: &mut [u8], second: &[u8], rows: u64) -> Subtracted
-    ensures { λ r. ⌜ (r ≡ subtraction rows (now (first .entry)) (now (second .entry))) × (now (first .exit) ≡ fieldAfter r rows (now (first .entry)) (now (second .entry))) ⌝ }
+    ensures { λ r. ⌜ (r ≡ subtraction rows (now (first .entry)) (now (second .entry)))
+        × (now (first .exit) ≡ fieldAfter r rows (now (first .entry)) (now (second .entry)))
+        × (subtractOut r ≡ subtractOut (subtraction rows (now (first .entry)) (now (second .entry)))) ⌝ }
 {
     if MOST_ROWS < rows {
         return Subtracted::Refused(Refusal::Limit);

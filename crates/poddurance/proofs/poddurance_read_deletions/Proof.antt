@@ -1,6 +1,6 @@
 -- `poddurance_read_deletions` meets its contract: the answer of the call it wraps, case by case.
 use mathlib.Core.Path.{refl, sym, _∙_}
-use Rattle.poddurance.specs.Reading.{deletionsOut}
+use Rattle.deletion_file.specs.Reading.{deletionsOut}
 use borrow.Author.Needs.{needs}
 use Rattle.poddurance.proofs.poddurance_read_deletions.Statement.{statement}
 use Rattle.poddurance.proofs.poddurance_read_deletions.Tie as tie

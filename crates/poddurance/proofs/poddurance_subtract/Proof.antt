@@ -1,6 +1,6 @@
 -- `poddurance_subtract` meets its contract: the answer of the call it wraps, case by case.
 use mathlib.Core.Path.{refl, sym, _∙_}
-use Rattle.poddurance.specs.Reading.{subtractOut}
+use Rattle.row_field.specs.Reading.{subtractOut}
 use borrow.Author.Needs.{needs}
 use Rattle.poddurance.proofs.poddurance_subtract.Statement.{statement}
 use Rattle.poddurance.proofs.poddurance_subtract.Tie as tie

@@ -14,7 +14,7 @@ use Rattle.row_field.proofs.subtract.Tie as tie
 
 returns : tie.Need-returns
 unfolding subtraction fieldAfter need
-returns c = (rw (lt-leb _ limit (c .if1 .taken)), refl)
+returns c = let l = lt-leb _ limit (c .if1 .taken) in (rw l, refl, rw l)
 
 has-room-requires : tie.Need-has-room-requires
 has-room-requires c κs = search needs
@@ -28,7 +28,7 @@ returns-2 c =
     let l = le-leb _ limit (c .before .before .before .if1 .left) in
     let a = c .before .before .before .before .before .before .args in
     let f : leb (size (a .rows)) (length (a .first .now)) ≡ false = sym (c .before .has-room .ensures) ∙ not-true _ (c .if2 .taken) in
-    (rw (l, f), refl)
+    (rw (l, f), refl, rw (l, f))
 
 has-room-requires-2 : tie.Need-has-room-requires-2
 has-room-requires-2 c κs = search needs
@@ -43,7 +43,7 @@ returns-3 c =
     let a = c .before .before .before .before .before .before .before .before .args in
     let f : leb (size (a .rows)) (length (a .first .now)) ≡ true = sym (c .before .before .before .has-room .ensures) ∙ not-false _ (c .before .before .if2 .left) in
     let g : leb (size (a .rows)) (length (a .second .now)) ≡ false = sym (c .before .has-room2 .ensures) ∙ not-true _ (c .if3 .taken) in
-    (rw (l, f, g), refl)
+    (rw (l, f, g), refl, rw (l, f, g))
 
 subtract-rows-requires : tie.Need-subtract-rows-requires
 subtract-rows-requires c κs =
@@ -64,8 +64,11 @@ returns-4 c =
     let a = c .before .before .before .before .before .before .before .before .before .before .before .before .before .before .args in
     let f : leb (size (a .rows)) (length (a .first .now)) ≡ true = sym (c .before .before .before .before .before .before .before .before .before .has-room .ensures) ∙ not-false _ (c .before .before .before .before .before .before .before .before .if2 .left) in
     let g : leb (size (a .rows)) (length (a .second .now)) ≡ true = sym (c .before .before .before .before .before .before .before .has-room2 .ensures) ∙ not-false _ (c .before .before .before .before .before .before .if3 .left) in
-    let t = c .before .before .before .before .subtract-rows .ensures in
-    (rw (l, f, g, ← t .field, ← t .rows, c .count .ensures), t .field)
+    let t = c .before .before .before .before .subtract-rows .ensures in (
+      rw (l, f, g, ← t .field, ← t .rows, c .count .ensures),
+      t .field,
+      rw (l, f, g, ← t .field, ← t .rows, c .count .ensures),
+    )
 
 pub subtract-spec : {M : Type 1} → statement M
 subtract-spec =
