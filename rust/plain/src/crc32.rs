@@ -9,11 +9,7 @@ const fn table() -> [u32; 256] {
         let mut rest = byte as u32;
         let mut bit = 0;
         while bit < 8 {
-            rest = if rest & 1 == 1 {
-                0xEDB8_8320 ^ (rest >> 1)
-            } else {
-                rest >> 1
-            };
+            rest = if rest & 1 == 1 { 0xEDB8_8320 ^ (rest >> 1) } else { rest >> 1 };
             bit += 1;
         }
         table[byte] = rest;
@@ -24,9 +20,7 @@ const fn table() -> [u32; 256] {
 
 /// The checksum of the bytes.
 pub fn crc32(bytes: &[u8]) -> u32 {
-    !bytes.iter().fold(!0, |crc: u32, byte| {
-        TABLE[usize::from(crc as u8 ^ byte)] ^ (crc >> 8)
-    })
+    !bytes.iter().fold(!0, |crc: u32, byte| TABLE[usize::from(crc as u8 ^ byte)] ^ (crc >> 8))
 }
 
 #[cfg(test)]

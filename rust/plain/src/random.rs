@@ -4,8 +4,8 @@ use std::collections::HashSet;
 
 use crate::types::{self, Width};
 use crate::writer::{
-    bitmap_traced, deletion_file_traced, BitmapForm, ByteOrder, Column, ContainerForm, Content,
-    Field, FileLayout, Groups, Index, IndexedColumn, Layout, Length, Place, Traced,
+    bitmap_traced, deletion_file_traced, BitmapForm, ByteOrder, Column, ContainerForm, Content, Field, FileLayout, Groups, Index,
+    IndexedColumn, Layout, Length, Place, Traced,
 };
 
 /// Random numbers from a seed (splitmix64).
@@ -86,11 +86,7 @@ pub fn value(random: &mut Random, ty: u32, longest: usize) -> Vec<u8> {
                 _ => random.number() as i64,
             };
             // An extreme of 8 bytes keeps its sign and becomes the extreme of the width.
-            let shift = if matches!(number, i64::MIN | i64::MAX) {
-                64 - 8 * width
-            } else {
-                0
-            };
+            let shift = if matches!(number, i64::MIN | i64::MAX) { 64 - 8 * width } else { 0 };
             (number >> shift).to_be_bytes()[8 - width..].to_vec()
         }
         Width::Counted => {
@@ -105,9 +101,7 @@ pub fn value(random: &mut Random, ty: u32, longest: usize) -> Vec<u8> {
             let length = length.min(longest);
             match random.below(4) {
                 0 => (0..length).map(|_| *random.pick(b"ab")).collect(),
-                1 => (0..length)
-                    .map(|_| *random.pick(&[0x00, 0x7F, 0x80, 0xFF]))
-                    .collect(),
+                1 => (0..length).map(|_| *random.pick(&[0x00, 0x7F, 0x80, 0xFF])).collect(),
                 2 => {
                     let text = "grüße, 泵, насос, 🛢 and more ".repeat(length / 30 + 1);
                     text.as_bytes()[..length].to_vec()
@@ -162,10 +156,7 @@ pub fn column_of(random: &mut Random, ty: u32, rows: usize) -> Column {
             1 => (random.below(values.len()), random.between(1, longest_run)),
             2 => (row * pieces / rows % values.len(), 1),
             3 => (row % values.len(), 1),
-            4 => (
-                random.below(values.len()) * usize::from(random.percent(5)),
-                1,
-            ),
+            4 => (random.below(values.len()) * usize::from(random.percent(5)), 1),
             _ => {
                 let others = random.below(values.len());
                 (if row < prevailing_rows { 0 } else { others }, 1)
@@ -211,9 +202,7 @@ pub fn row_set(random: &mut Random, end: u32) -> Vec<u32> {
         6 => *random.pick(&[4095, 4096, 4097]),
         _ => random.between(1, 300),
     };
-    let mut rows: Vec<u32> = (0..count)
-        .map(|_| random.below(end as usize) as u32)
-        .collect();
+    let mut rows: Vec<u32> = (0..count).map(|_| random.below(end as usize) as u32).collect();
     if count > 4000 && end as usize > 2 * count {
         // Exactly that many in the first container.
         let step = (end as usize).min(65536) / count;
@@ -241,10 +230,7 @@ pub fn bitmap_form(random: &mut Random, rows: &[u32]) -> BitmapForm {
                     let cuts = if cut_percent == 0 {
                         Vec::new()
                     } else {
-                        rows.iter()
-                            .filter(|_| random.percent(cut_percent))
-                            .map(|row| *row as u16)
-                            .collect()
+                        rows.iter().filter(|_| random.percent(cut_percent)).map(|row| *row as u16).collect()
                     };
                     ContainerForm::Runs { cuts }
                 })
@@ -269,11 +255,7 @@ fn gap(random: &mut Random) -> Vec<u8> {
 /// A layout permitted for these groups.
 pub fn layout(random: &mut Random, groups: &Groups) -> Layout {
     let number = groups.values.len();
-    let version = if number > 4096 {
-        2
-    } else {
-        random.between(1, 2) as u8
-    };
+    let version = if number > 4096 { 2 } else { random.between(1, 2) as u8 };
     let mut order: Vec<usize> = (0..number).collect();
     if random.percent(60) {
         random.shuffle(&mut order);
@@ -291,11 +273,7 @@ pub fn layout(random: &mut Random, groups: &Groups) -> Layout {
         }
     };
     let single_percent = *random.pick(&[0, 50, 100, 100]);
-    let reuse_percent = if groups.rows <= 300 {
-        *random.pick(&[0, 50, 100])
-    } else {
-        0
-    };
+    let reuse_percent = if groups.rows <= 300 { *random.pick(&[0, 50, 100]) } else { 0 };
     let places = (0..=number)
         .map(|i| {
             let rows = match i {
@@ -309,12 +287,7 @@ pub fn layout(random: &mut Random, groups: &Groups) -> Layout {
                 _ if rows.len() == 1 && single => Length::Stored(random.number() as i32),
                 _ => Length::Exact,
             };
-            Place {
-                form: bitmap_form(random, rows),
-                single,
-                length,
-                reuse: random.percent(reuse_percent),
-            }
+            Place { form: bitmap_form(random, rows), single, length, reuse: random.percent(reuse_percent) }
         })
         .collect();
     let gaps = match random.below(3) {
@@ -322,16 +295,7 @@ pub fn layout(random: &mut Random, groups: &Groups) -> Layout {
         _ => Vec::new(),
     };
     let tail = gap(random);
-    Layout {
-        always_null: random.percent(20),
-        order,
-        blocks,
-        places,
-        bitmap_order,
-        gaps,
-        tail,
-        ..Layout::version(version)
-    }
+    Layout { always_null: random.percent(20), order, blocks, places, bitmap_order, gaps, tail, ..Layout::version(version) }
 }
 
 /// Adds values that no row has, as far as the number of values allows.
@@ -355,9 +319,7 @@ pub fn name(random: &mut Random) -> Vec<u8> {
         3 => "Füllstand 水位".as_bytes().to_vec(),
         4 => Vec::new(),
         5 => b"s".to_vec(),
-        6 => (0..random.between(1, 3))
-            .map(|_| *random.pick(b"ab"))
-            .collect(),
+        6 => (0..random.between(1, 3)).map(|_| *random.pick(b"ab")).collect(),
         _ => {
             let length = random.between(0, 300);
             (0..length).map(|_| *random.pick(b"abcdefgh")).collect()
@@ -367,12 +329,7 @@ pub fn name(random: &mut Random) -> Vec<u8> {
 
 /// An index file in which the asked column and kind stand once with this body, among other columns and kinds whose
 /// starts and lengths may be anything.
-pub fn index_file(
-    random: &mut Random,
-    column: &[u8],
-    kind: &[u8],
-    body: &[u8],
-) -> (Vec<IndexedColumn>, FileLayout) {
+pub fn index_file(random: &mut Random, column: &[u8], kind: &[u8], body: &[u8]) -> (Vec<IndexedColumn>, FileLayout) {
     let mut columns: Vec<IndexedColumn> = (0..*random.pick(&[0, 0, 1, 2, 5]))
         .map(|_| {
             let name = name(random);
@@ -382,34 +339,20 @@ pub fn index_file(
         .collect();
     let mut asked = other_column(random, column.to_vec());
     asked.indexes.retain(|index| index.kind != kind);
-    let index = Index {
-        kind: kind.to_vec(),
-        content: Content::Body(body.to_vec()),
-    };
+    let index = Index { kind: kind.to_vec(), content: Content::Body(body.to_vec()) };
     let at = random.between(0, asked.indexes.len());
     asked.indexes.insert(at, index);
     let at = random.between(0, columns.len());
     columns.insert(at, asked);
 
-    let bodies = columns
-        .iter()
-        .flat_map(|column| &column.indexes)
-        .filter(|index| matches!(index.content, Content::Body(_)))
-        .count();
+    let bodies =
+        columns.iter().flat_map(|column| &column.indexes).filter(|index| matches!(index.content, Content::Body(_))).count();
     let mut body_order: Vec<usize> = (0..bodies).collect();
     random.shuffle(&mut body_order);
     let redundant = gap(random);
     let gaps = (0..bodies).map(|_| gap(random)).collect();
     let tail = gap(random);
-    (
-        columns,
-        FileLayout {
-            redundant,
-            body_order,
-            gaps,
-            tail,
-        },
-    )
+    (columns, FileLayout { redundant, body_order, gaps, tail })
 }
 
 fn other_column(random: &mut Random, name_of: Vec<u8>) -> IndexedColumn {
@@ -420,18 +363,12 @@ fn other_column(random: &mut Random, name_of: Vec<u8>) -> IndexedColumn {
                 let count = random.below(30);
                 Content::Body(random.bytes(count))
             } else {
-                Content::At {
-                    start: random.number() as i32,
-                    length: random.number() as i32,
-                }
+                Content::At { start: random.number() as i32, length: random.number() as i32 }
             };
             Index { kind, content }
         })
         .collect();
-    IndexedColumn {
-        name: name_of,
-        indexes,
-    }
+    IndexedColumn { name: name_of, indexes }
 }
 
 /// Lists the asked column twice, or the asked kind twice in it.
@@ -442,10 +379,7 @@ pub fn list_twice(random: &mut Random, columns: &mut Vec<IndexedColumn>, column:
     let copy = columns[at].clone();
     match random.below(3) {
         0 => columns.push(copy),
-        1 => columns.push(IndexedColumn {
-            name: column.to_vec(),
-            indexes: Vec::new(),
-        }),
+        1 => columns.push(IndexedColumn { name: column.to_vec(), indexes: Vec::new() }),
         _ => {
             let again = random.pick(&copy.indexes).clone();
             columns[at].indexes.push(again);
@@ -457,13 +391,8 @@ pub fn list_twice(random: &mut Random, columns: &mut Vec<IndexedColumn>, column:
 
 /// A deletion file, and the rows of each of its bins, all below `rows`.
 pub fn deletion_file(random: &mut Random, rows: u32) -> (Traced, Vec<Vec<u32>>) {
-    let bins: Vec<Vec<u32>> = (0..*random.pick(&[0, 1, 1, 2, 3, 6]))
-        .map(|_| row_set(random, rows))
-        .collect();
-    let bitmaps: Vec<Traced> = bins
-        .iter()
-        .map(|rows| bitmap_traced(rows, &bitmap_form(random, rows)))
-        .collect();
+    let bins: Vec<Vec<u32>> = (0..*random.pick(&[0, 1, 1, 2, 3, 6])).map(|_| row_set(random, rows)).collect();
+    let bitmaps: Vec<Traced> = bins.iter().map(|rows| bitmap_traced(rows, &bitmap_form(random, rows))).collect();
     (deletion_file_traced(&bitmaps), bins)
 }
 
@@ -533,11 +462,7 @@ pub fn misfit_question(random: &mut Random, groups: &Groups) -> (u32, u32, Vec<u
             }
             6 => {
                 let length = *random.pick(&[65535, 65536, 65537, u32::MAX, 1 << 31, 0x7FFF_FFFF]);
-                let at = if random.percent(50) {
-                    0
-                } else {
-                    literals.len()
-                };
+                let at = if random.percent(50) { 0 } else { literals.len() };
                 let mut string = length.to_be_bytes().to_vec();
                 if length <= 65537 && random.percent(40) {
                     string.resize(4 + length as usize - usize::from(random.percent(30)), b'x');
@@ -636,11 +561,7 @@ fn damage_once(random: &mut Random, bytes: &mut Vec<u8>, fields: &[Field]) {
             // The same of another place, or the two exchanged.
             let like: Vec<&Field> = fields
                 .iter()
-                .filter(|other| {
-                    other.name == field.name
-                        && other.width == field.width
-                        && other.at + other.width <= bytes.len()
-                })
+                .filter(|other| other.name == field.name && other.width == field.width && other.at + other.width <= bytes.len())
                 .collect();
             let other = random.pick(&like).at;
             let here = bytes[at..at + field.width].to_vec();
@@ -666,10 +587,7 @@ fn some_field(random: &mut Random, bytes: &[u8], fields: &[Field]) -> Option<Fie
         return None;
     }
     let name = *random.pick(&names);
-    let named: Vec<&Field> = fields
-        .iter()
-        .filter(|field| field.name == name && field.at + field.width <= bytes.len())
-        .collect();
+    let named: Vec<&Field> = fields.iter().filter(|field| field.name == name && field.at + field.width <= bytes.len()).collect();
     if named.is_empty() {
         return None;
     }

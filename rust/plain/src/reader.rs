@@ -98,9 +98,7 @@ fn within_limit(buffer: &[u8]) -> Result<(), Refusal> {
 
 /// The field for that many rows, cut from a lent buffer.
 fn field_for(rows: u64, buffer: &mut [u8]) -> Result<&mut [u8], Refusal> {
-    buffer
-        .get_mut(..rows.div_ceil(8) as usize)
-        .ok_or(Refusal::Room)
+    buffer.get_mut(..rows.div_ceil(8) as usize).ok_or(Refusal::Room)
 }
 
 // Locate
@@ -144,10 +142,7 @@ type Place = (i32, i32);
 
 /// Walks the whole head and gives the asked entry's start and length if it is listed. Nothing where a rule is broken.
 fn asked_entry(head: &[u8], column: &[u8], kind: &[u8]) -> Option<Option<Place>> {
-    let mut input = Input {
-        bytes: head,
-        at: 16,
-    };
+    let mut input = Input { bytes: head, at: 16 };
     let mut column_seen = false;
     let mut place = None;
     let columns = input.count().ok()?;
@@ -187,13 +182,7 @@ fn try_audit(body: &[u8], ty: u32, buffer: &mut [u8]) -> Result<u64, Refusal> {
     result.map(|_| dictionary.rows)
 }
 
-fn try_ask(
-    body: &[u8],
-    ty: u32,
-    question: u32,
-    literals: &[u8],
-    buffer: &mut [u8],
-) -> Result<u64, Refusal> {
+fn try_ask(body: &[u8], ty: u32, question: u32, literals: &[u8], buffer: &mut [u8]) -> Result<u64, Refusal> {
     within_limit(body)?;
     within_limit(literals)?;
     let width = types::width(ty).ok_or(Refusal::Literal)?;
@@ -223,10 +212,7 @@ fn try_ask(
     for rows in chosen? {
         rows.place(field);
     }
-    if matches!(
-        question,
-        types::NOT_EQUAL | types::NOT_IN | types::IS_NOT_NULL
-    ) {
+    if matches!(question, types::NOT_EQUAL | types::NOT_IN | types::IS_NOT_NULL) {
         flip(field, rows);
     }
     Ok(count_ones(field))
@@ -296,35 +282,19 @@ impl<'a> Dictionary<'a> {
         let mut entries = Vec::new();
         if has_null {
             let offset = input.i32()?;
-            let length = if version == 2 {
-                input.i32()?
-            } else {
-                OPEN_LENGTH
-            };
-            entries.push(Entry {
-                value: None,
-                offset,
-                length,
-            });
+            let length = if version == 2 { input.i32()? } else { OPEN_LENGTH };
+            entries.push(Entry { value: None, offset, length });
         }
         if version == 1 {
             read_entries_v1(&mut input, ty, width, values, &mut entries)?;
         } else {
             read_entries_v2(&mut input, ty, width, values, &mut entries)?;
         }
-        Ok(Dictionary {
-            rows,
-            entries,
-            bitmaps: input.rest(),
-        })
+        Ok(Dictionary { rows, entries, bitmaps: input.rest() })
     }
 
     /// Gives every row its place in the field, and hands back the rows of the entries that were asked for.
-    fn place_all(
-        &self,
-        field: &mut [u8],
-        wanted: impl Fn(&Entry) -> bool,
-    ) -> Result<Vec<EntryRows<'a>>, Refusal> {
+    fn place_all(&self, field: &mut [u8], wanted: impl Fn(&Entry) -> bool) -> Result<Vec<EntryRows<'a>>, Refusal> {
         field.fill(0);
         let mut kept = Vec::new();
         let mut placed = 0;
@@ -411,11 +381,7 @@ fn read_entries_v1<'a>(
         if !seen.insert(value) {
             return Err(Refusal::Dict);
         }
-        entries.push(Entry {
-            value: Some(value),
-            offset: input.i32()?,
-            length: OPEN_LENGTH,
-        });
+        entries.push(Entry { value: Some(value), offset: input.i32()?, length: OPEN_LENGTH });
     }
     Ok(())
 }
@@ -438,8 +404,7 @@ fn read_entries_v2<'a>(
     let bitmaps_offset = input.i32()?;
 
     let blocks_start = input.at;
-    let is_here =
-        |offset: i32, input: &Input| usize::try_from(offset) == Ok(input.at - blocks_start);
+    let is_here = |offset: i32, input: &Input| usize::try_from(offset) == Ok(input.at - blocks_start);
     let mut total = 0;
     let mut previous: Option<&[u8]> = None;
     entries.reserve(values);
@@ -457,17 +422,11 @@ fn read_entries_v2<'a>(
             if i == 0 && value != first {
                 return Err(Refusal::Dict);
             }
-            if previous
-                .is_some_and(|previous| types::compare(ty, previous, value) != Ordering::Less)
-            {
+            if previous.is_some_and(|previous| types::compare(ty, previous, value) != Ordering::Less) {
                 return Err(Refusal::Dict);
             }
             previous = Some(value);
-            entries.push(Entry {
-                value: Some(value),
-                offset: input.i32()?,
-                length: input.i32()?,
-            });
+            entries.push(Entry { value: Some(value), offset: input.i32()?, length: input.i32()? });
         }
     }
     if !is_here(bitmaps_offset, input) || total != values {
@@ -486,10 +445,7 @@ fn try_read_deletions(file: &[u8], bin: u64, rows: u64, buffer: &mut [u8]) -> Re
     let field = field_for(rows, buffer)?;
     field.fill(0);
     let bitmap = bin_bitmap(file, bin)?;
-    if bitmap
-        .last_row()
-        .is_some_and(|last| u64::from(last) >= rows)
-    {
+    if bitmap.last_row().is_some_and(|last| u64::from(last) >= rows) {
         return Err(Refusal::Range);
     }
     bitmap.place(field);
@@ -524,9 +480,7 @@ fn bin_bitmap(file: &[u8], asked: u64) -> Result<Bitmap<'_>, Refusal> {
     if crc32(bin) != checksum {
         return Err(Refusal::Checksum);
     }
-    Bitmap::parse(bitmap)
-        .filter(|parsed| parsed.size() == bitmap.len())
-        .ok_or(Refusal::Bitmap)
+    Bitmap::parse(bitmap).filter(|parsed| parsed.size() == bitmap.len()).ok_or(Refusal::Bitmap)
 }
 
 // Subtract
@@ -558,11 +512,7 @@ fn try_subtract(first: &mut [u8], second: &[u8], rows: u64) -> Result<(u64, u64)
         *first &= !(second & of);
         left += u64::from((*first & of).count_ones());
     };
-    for (first, second) in first_words
-        .into_remainder()
-        .iter_mut()
-        .zip(second_words.remainder())
-    {
+    for (first, second) in first_words.into_remainder().iter_mut().zip(second_words.remainder()) {
         clear(first, *second, 0xFF);
     }
     if let ([first], [second]) = (first_end, second_end) {

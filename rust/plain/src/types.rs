@@ -89,7 +89,5 @@ fn signed(bytes: &[u8]) -> i64 {
         Some(first) if *first >= 0x80 => -1,
         _ => 0,
     };
-    bytes
-        .iter()
-        .fold(start, |number, byte| (number << 8) | i64::from(*byte))
+    bytes.iter().fold(start, |number, byte| (number << 8) | i64::from(*byte))
 }

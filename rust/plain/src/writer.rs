@@ -24,10 +24,7 @@ impl Column {
 
     /// A column of strings.
     pub fn strings(cells: &[Option<&str>]) -> Column {
-        let cells = cells
-            .iter()
-            .map(|cell| cell.map(|text| text.as_bytes().to_vec()))
-            .collect();
+        let cells = cells.iter().map(|cell| cell.map(|text| text.as_bytes().to_vec())).collect();
         Column::new(types::STRING, cells)
     }
 
@@ -42,17 +39,9 @@ impl Column {
                 Some(value) => rows_of.entry(value).or_default().push(row),
             }
         }
-        let mut values: Vec<(Vec<u8>, Vec<u32>)> = rows_of
-            .into_iter()
-            .map(|(value, rows)| (value.to_vec(), rows))
-            .collect();
+        let mut values: Vec<(Vec<u8>, Vec<u32>)> = rows_of.into_iter().map(|(value, rows)| (value.to_vec(), rows)).collect();
         values.sort_by(|(a, _), (b, _)| types::compare(self.ty, a, b));
-        Groups {
-            ty: self.ty,
-            rows: self.cells.len() as u32,
-            nulls,
-            values,
-        }
+        Groups { ty: self.ty, rows: self.cells.len() as u32, nulls, values }
     }
 }
 
@@ -70,10 +59,7 @@ impl Groups {
     /// Adds a value that no row has, unless it is there already.
     pub fn add_unused(&mut self, value: Vec<u8>) {
         let ty = self.ty;
-        if let Err(at) = self
-            .values
-            .binary_search_by(|(other, _)| types::compare(ty, other, &value))
-        {
+        if let Err(at) = self.values.binary_search_by(|(other, _)| types::compare(ty, other, &value)) {
             self.values.insert(at, (value, Vec::new()));
         }
     }
@@ -118,11 +104,8 @@ pub fn bitmap_traced(rows: &[u32], form: &BitmapForm) -> Traced {
             ((rows[0] >> 16) as u16, lows)
         })
         .collect();
-    let runs: Vec<Option<Vec<(u16, u16)>>> = containers
-        .iter()
-        .enumerate()
-        .map(|(i, (_, lows))| container_runs(lows, i, form))
-        .collect();
+    let runs: Vec<Option<Vec<(u16, u16)>>> =
+        containers.iter().enumerate().map(|(i, (_, lows))| container_runs(lows, i, form)).collect();
     let with_runs = match form {
         BitmapForm::WithoutRuns => false,
         BitmapForm::WithRuns(_) => !containers.is_empty(),
@@ -161,10 +144,8 @@ pub fn bitmap_traced(rows: &[u32], form: &BitmapForm) -> Traced {
     for (i, (_, lows)) in containers.iter().enumerate() {
         if let Some(runs) = &runs[i] {
             out.little("run number", 2, runs.len() as u64);
-            let stored: Vec<u8> = runs
-                .iter()
-                .flat_map(|(start, more)| [start.to_le_bytes(), more.to_le_bytes()].concat())
-                .collect();
+            let stored: Vec<u8> =
+                runs.iter().flat_map(|(start, more)| [start.to_le_bytes(), more.to_le_bytes()].concat()).collect();
             out.raw("runs", &stored);
         } else if lows.len() <= 4096 {
             let stored: Vec<u8> = lows.iter().flat_map(|low| low.to_le_bytes()).collect();
@@ -196,11 +177,7 @@ fn container_runs(lows: &[u16], i: usize, form: &BitmapForm) -> Option<Vec<(u16,
             Some(ContainerForm::Runs { cuts }) => {
                 let runs = cut_runs(lows, cuts);
                 // The number of runs has 2 bytes, so 65,536 of one row each can't be stored.
-                Some(if runs.len() > 65535 {
-                    cut_runs(lows, &[])
-                } else {
-                    runs
-                })
+                Some(if runs.len() > 65535 { cut_runs(lows, &[]) } else { runs })
             }
             _ => None,
         },
@@ -212,9 +189,7 @@ fn container_runs(lows: &[u16], i: usize, form: &BitmapForm) -> Option<Vec<(u16,
 }
 
 fn cut_runs(lows: &[u16], cuts: &[u16]) -> Vec<(u16, u16)> {
-    lows.chunk_by(|a, b| *b == a + 1 && cuts.binary_search(b).is_err())
-        .map(|run| (run[0], (run.len() - 1) as u16))
-        .collect()
+    lows.chunk_by(|a, b| *b == a + 1 && cuts.binary_search(b).is_err()).map(|run| (run[0], (run.len() - 1) as u16)).collect()
 }
 
 // Bodies
@@ -251,14 +226,7 @@ impl Layout {
             order: Vec::new(),
             blocks: Vec::new(),
             places: Vec::new(),
-            default_place: Place {
-                length: if version == 2 {
-                    Length::Exact
-                } else {
-                    Length::Open
-                },
-                ..Place::default()
-            },
+            default_place: Place { length: if version == 2 { Length::Exact } else { Length::Open }, ..Place::default() },
             bitmap_order: Vec::new(),
             gaps: Vec::new(),
             tail: Vec::new(),
@@ -292,12 +260,7 @@ pub struct Place {
 
 impl Default for Place {
     fn default() -> Place {
-        Place {
-            form: BitmapForm::WithoutRuns,
-            single: true,
-            length: Length::Open,
-            reuse: false,
-        }
+        Place { form: BitmapForm::WithoutRuns, single: true, length: Length::Open, reuse: false }
     }
 }
 
@@ -342,11 +305,7 @@ pub fn body_traced(groups: &Groups, layout: &Layout) -> Traced {
         write_blocks(groups, layout, &places, &mut out);
     } else {
         let in_order: Vec<usize> = (0..groups.values.len()).collect();
-        let order = if layout.order.is_empty() {
-            &in_order
-        } else {
-            &layout.order
-        };
+        let order = if layout.order.is_empty() { &in_order } else { &layout.order };
         for i in order {
             out.value(groups.ty, &groups.values[*i].0);
             out.signed("bitmap offset", places[i + 1].0);
@@ -494,10 +453,7 @@ pub fn index_file(indexes: &[(&str, &str, &[u8])]) -> Vec<u8> {
             name: indexes[0].0.as_bytes().to_vec(),
             indexes: indexes
                 .iter()
-                .map(|(_, kind, body)| Index {
-                    kind: kind.as_bytes().to_vec(),
-                    content: Content::Body(body.to_vec()),
-                })
+                .map(|(_, kind, body)| Index { kind: kind.as_bytes().to_vec(), content: Content::Body(body.to_vec()) })
                 .collect(),
         })
         .collect();
@@ -509,11 +465,7 @@ pub fn index_file_traced(columns: &[IndexedColumn], layout: &FileLayout) -> Trac
     let names: usize = columns
         .iter()
         .map(|column| {
-            let indexes: usize = column
-                .indexes
-                .iter()
-                .map(|index| 2 + index.kind.len() + 8)
-                .sum();
+            let indexes: usize = column.indexes.iter().map(|index| 2 + index.kind.len() + 8).sum();
             2 + column.name.len() + 4 + indexes
         })
         .sum();
@@ -553,9 +505,7 @@ pub fn index_file_traced(columns: &[IndexedColumn], layout: &FileLayout) -> Trac
         for index in &column.indexes {
             out.name(&index.kind);
             let (start, length) = match &index.content {
-                Content::Body(body) => {
-                    (starts.next().expect("a start per body"), body.len() as i32)
-                }
+                Content::Body(body) => (starts.next().expect("a start per body"), body.len() as i32),
                 Content::At { start, length } => (*start, *length),
             };
             out.signed("start", start);
@@ -572,13 +522,7 @@ pub fn index_file_traced(columns: &[IndexedColumn], layout: &FileLayout) -> Trac
 
 /// A deletion file with a bin for each bitmap.
 pub fn deletion_file(bitmaps: &[Vec<u8>]) -> Vec<u8> {
-    let bitmaps: Vec<Traced> = bitmaps
-        .iter()
-        .map(|bitmap| Traced {
-            bytes: bitmap.clone(),
-            fields: Vec::new(),
-        })
-        .collect();
+    let bitmaps: Vec<Traced> = bitmaps.iter().map(|bitmap| Traced { bytes: bitmap.clone(), fields: Vec::new() }).collect();
     deletion_file_traced(&bitmaps).bytes
 }
 
@@ -645,19 +589,13 @@ pub enum ByteOrder {
 impl Traced {
     fn field(&mut self, name: &'static str, width: usize, order: ByteOrder) {
         if width > 0 {
-            self.fields.push(Field {
-                name,
-                at: self.bytes.len(),
-                width,
-                order,
-            });
+            self.fields.push(Field { name, at: self.bytes.len(), width, order });
         }
     }
 
     fn big(&mut self, name: &'static str, width: usize, number: u64) {
         self.field(name, width, ByteOrder::Big);
-        self.bytes
-            .extend_from_slice(&number.to_be_bytes()[8 - width..]);
+        self.bytes.extend_from_slice(&number.to_be_bytes()[8 - width..]);
     }
 
     fn little(&mut self, name: &'static str, width: usize, number: u64) {
@@ -692,10 +630,7 @@ impl Traced {
 
     fn append(&mut self, other: &Traced) {
         let shift = self.bytes.len();
-        self.fields.extend(other.fields.iter().map(|field| Field {
-            at: field.at + shift,
-            ..*field
-        }));
+        self.fields.extend(other.fields.iter().map(|field| Field { at: field.at + shift, ..*field }));
         self.bytes.extend_from_slice(&other.bytes);
     }
 }

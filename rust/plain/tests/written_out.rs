@@ -2,21 +2,16 @@
 
 use plain::reader::{ask, audit, locate, read_deletions, subtract};
 use plain::types::*;
-use plain::writer::{
-    bitmap, body_of, deletion_file, index_file, BitmapForm, Column, ContainerForm, Layout,
-};
+use plain::writer::{bitmap, body_of, deletion_file, index_file, BitmapForm, Column, ContainerForm, Layout};
 
 fn hex(text: &str) -> Vec<u8> {
-    text.split_whitespace()
-        .map(|byte| u8::from_str_radix(byte, 16).unwrap())
-        .collect()
+    text.split_whitespace().map(|byte| u8::from_str_radix(byte, 16).unwrap()).collect()
 }
 
 const HEAD: &str = "00 05 4E 4E D0 1A 35 AE 00 00 00 01 00 00 00 2F 00 00 00 01 00 01 73 00 00 00 01 00 06 62 69 74 \
     6D 61 70 00 00 00 2F 00 00 00 18 00 00 00 00";
 const VERSION_1: &str = "01 00 00 00 03 00 00 00 02 01 FF FF FF FD 07 FF FF FF FF 09 FF FF FF FE";
-const VERSION_2: &str =
-    "02 00 00 00 03 00 00 00 02 01 FF FF FF FD FF FF FF FF 00 00 00 02 07 00 00 00 00 09 00 00 00 \
+const VERSION_2: &str = "02 00 00 00 03 00 00 00 02 01 FF FF FF FD FF FF FF FF 00 00 00 02 07 00 00 00 00 09 00 00 00 \
     0D 00 00 00 1A 00 00 00 01 07 FF FF FF FF FF FF FF FF 00 00 00 01 09 FF FF FF FE FF FF FF FF";
 
 /// TINYINT column s = 7, 9, null.
@@ -62,10 +57,7 @@ fn small_questions() {
             (IS_NOT_NULL, vec![], 0x03, 2),
         ] {
             let mut field = [0xAA, 0xBB];
-            assert_eq!(
-                ask(&body, TINYINT, question, &literals, &mut field),
-                (0, count)
-            );
+            assert_eq!(ask(&body, TINYINT, question, &literals, &mut field), (0, count));
             assert_eq!(field, [bits, 0xBB]);
         }
         let mut none = [];
@@ -79,15 +71,9 @@ fn small_bitmaps() {
     let run = hex("3B 30 00 00 01 00 00 03 00 01 00 01 00 03 00");
     assert_eq!(bitmap(&[0, 2, 5], &BitmapForm::WithoutRuns), array);
     let runs = ContainerForm::Runs { cuts: Vec::new() };
-    assert_eq!(
-        bitmap(&[1, 2, 3, 4], &BitmapForm::WithRuns(vec![runs])),
-        run
-    );
+    assert_eq!(bitmap(&[1, 2, 3, 4], &BitmapForm::WithRuns(vec![runs])), run);
     // Three runs of one row each take more bytes than an array of three.
-    assert_eq!(
-        bitmap(&[0, 2, 5], &BitmapForm::Smallest),
-        bitmap(&[0, 2, 5], &BitmapForm::WithoutRuns)
-    );
+    assert_eq!(bitmap(&[0, 2, 5], &BitmapForm::Smallest), bitmap(&[0, 2, 5], &BitmapForm::WithoutRuns));
 
     let file = deletion_file(&[array, run]);
     let mut field = [0xFF, 0xFF];
