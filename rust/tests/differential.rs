@@ -2,14 +2,8 @@
 //! refusal, field and bytes behind the field.
 //!
 //! The environment variables PODDURANCE_SEED (where the seeds start) and PODDURANCE_CASES (how many calls at least) ask
-//! for other or more cases; PODDURANCE_HEAP lends buffers from the heap instead of between guards. Under valgrind:
-//!
-//! ```text
-//! cargo test --test differential --no-run
-//! PODDURANCE_HEAP=1 PODDURANCE_CASES=5000 valgrind --error-exitcode=1 target/debug/deps/differential-<hash>
-//! ```
-//!
-//! or `tests/valgrind`, which does both.
+//! for other or more cases; PODDURANCE_HEAP lends buffers from the heap instead of between guards, so that valgrind sees
+//! their ends. `tests/valgrind` runs the test so.
 
 mod support;
 
@@ -581,7 +575,7 @@ fn most_rows(all: &mut Comparison) {
     let bytes = MAX.div_ceil(8) as usize;
     let file = deletion_file(&[all_rows]);
 
-    let mut field = Lender::new();
+    let mut field = Lender::guarded();
     let field = field.lend_anything(bytes);
     let mut plain_field = vec![0; bytes];
     let compare = |tally: &mut Tally, call: usize, found: (u8, u64), expected: (u8, u64), sound: (u8, u64), same: bool| {
@@ -608,7 +602,7 @@ fn most_rows(all: &mut Comparison) {
 
 /// Buffers past the limit are refused before anything else; they are only mapped, not filled.
 fn buffers_past_the_limit(all: &mut Comparison) {
-    let mut long = Lender::new();
+    let mut long = Lender::guarded();
     let long = &*long.lend_anything(MAX as usize + 1);
     let mut field = [0xA5; 2];
     let small = body_of(&Column::new(TINYINT, vec![Some(vec![7])]), &Layout::version(1));

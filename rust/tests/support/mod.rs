@@ -83,12 +83,16 @@ enum Memory {
 impl Lender {
     /// Guarded unless the environment variable PODDURANCE_HEAP is set.
     pub fn new() -> Lender {
-        let memory = if std::env::var_os("PODDURANCE_HEAP").is_some() {
-            Memory::Heap { block: Box::default() }
+        if std::env::var_os("PODDURANCE_HEAP").is_some() {
+            Lender { memory: Memory::Heap { block: Box::default() } }
         } else {
-            Memory::Guarded { mapping: Mapping::new(0), at_end: false }
-        };
-        Lender { memory }
+            Lender::guarded()
+        }
+    }
+
+    /// Guarded always, for buffers too large for the heap.
+    pub fn guarded() -> Lender {
+        Lender { memory: Memory::Guarded { mapping: Mapping::new(0), at_end: false } }
     }
 
     /// A buffer with these bytes.
