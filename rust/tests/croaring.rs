@@ -82,7 +82,7 @@ fn row_set(random: &mut Random) -> (Vec<u32>, u32) {
         // The same shape over containers that are far apart.
         let step = random.between(1, 7) as u32;
         for row in &mut rows {
-            *row += (*row >> 9) * step << 16 & 0x003F_0000;
+            *row += (((*row >> 9) * step) << 16) & 0x003F_0000;
         }
         rows.sort_unstable();
         rows.dedup();

@@ -13,7 +13,7 @@ use plain::scan::scan;
 use plain::types::{self, BIGINT, BOOLEAN, EQUAL, IN, INT, IS_NULL, NOT_EQUAL, NOT_IN, STRING, TINYINT};
 use plain::writer::{
     bitmap, body, body_of, body_traced, deletion_file, fix_checksums, index_file, index_file_traced, BitmapForm, Column,
-    ContainerForm, Groups, Layout, Place,
+    ContainerForm, Content, FileLayout, Groups, Index, IndexedColumn, Layout, Place,
 };
 use poddurance::raw;
 use support::{hex, number_from_environment, say, Lender, Tally, CALLS};
@@ -34,7 +34,7 @@ const POSSIBLE: [&[u8]; CALLS.len()] = [
 ];
 
 const DEFAULT_SEED: u64 = 20_240_101;
-const DEFAULT_CASES: u64 = 200_000;
+const DEFAULT_CASES: u64 = 300_000;
 
 const MAX: u64 = 2_147_483_647;
 
@@ -321,8 +321,11 @@ fn index_files(all: &mut Comparison, random: &mut Random) {
     let length = random.below(40);
     let body = random.bytes(length);
     let (mut columns, layout) = random::index_file(random, &name, &kind, &body);
-    if random.percent(15) {
-        random::list_twice(random, &mut columns, &name);
+    match random.below(20) {
+        0..=2 => random::list_twice(random, &mut columns, &name),
+        3 => columns.retain(|column| column.name != name),
+        4 => columns.clear(),
+        _ => {}
     }
     let traced = index_file_traced(&columns, &layout);
     for _ in 0..10 {
@@ -425,6 +428,172 @@ fn every_cut_and_flip(all: &mut Comparison) {
         all.read_deletions(&file, 1, 7, &[0x5A; 2]);
         all.read_deletions(&file, 0, 7, &[0x5A; 2]);
     }
+}
+
+/// Inputs that break two rules, or keep one narrowly: which answer goes first.
+fn orders(all: &mut Comparison) {
+    let mut audit = |body: &[&[u8]], ty: u32, rows: usize, answer: u8| {
+        let body = body.concat();
+        let found = all.audit(&body, ty, &vec![0xA5; rows.div_ceil(8)]);
+        assert_eq!(found.0, answer, "Audit of {}", hex(&body));
+    };
+    let (none, one) = (int(0), int(1));
+    audit(&[], 12, 0, 11);
+    audit(&[], TINYINT, 0, 1);
+    // Version 2, no rows: value number, has-null, block number, and then the end.
+    audit(&[&[2], &none, &one, &[0], &none], TINYINT, 0, 5);
+    audit(&[&[2], &none, &none, &[0], &one], TINYINT, 0, 5);
+    audit(&[&[2], &none, &none, &[0], &none], TINYINT, 0, 1);
+    audit(&[&[2], &none, &none, &[0], &none, &none], TINYINT, 0, 0);
+    audit(&[&[2], &none, &none, &[0], &none, &one], TINYINT, 0, 5);
+    audit(&[&[2], &int(-1), &none], TINYINT, 0, 5);
+    audit(&[&[2], &none, &int(i32::MIN), &[0]], TINYINT, 0, 5);
+    audit(&[&[2], &none, &none, &[2]], TINYINT, 0, 5);
+    // The directory's values are compared with their blocks' alone: 9, 7 and then the end.
+    audit(&[&[2], &none, &int(2), &[0], &int(2), &[9], &none, &[7], &int(13)], TINYINT, 0, 1);
+    // A block's offset, right and wrong, where the bytes end.
+    audit(&[&[2], &none, &one, &[0], &one, &[9], &none, &int(13)], TINYINT, 0, 1);
+    audit(&[&[2], &none, &one, &[0], &one, &[9], &one, &int(13)], TINYINT, 0, 5);
+    audit(&[&[2], &none, &one, &[0], &one, &[9], &int(-1), &int(13)], TINYINT, 0, 5);
+    let block = |count: i32, value: u8| [&int(count)[..], &[value], &int(-1), &int(7)].concat();
+    audit(&[&[2], &one, &one, &[0], &one, &[9], &none, &int(13), &block(1, 9)], TINYINT, 1, 0);
+    audit(&[&[2], &one, &one, &[0], &one, &[9], &none, &int(12), &block(1, 9)], TINYINT, 1, 5);
+    audit(&[&[2], &one, &one, &[0], &one, &[9], &none, &int(13), &block(i32::MAX, 9)], TINYINT, 1, 1);
+    audit(&[&[2], &one, &one, &[0], &one, &[9], &none, &int(13), &block(1, 8)], TINYINT, 1, 5);
+    audit(&[&[2], &one, &one, &[0], &one, &[9], &none, &int(13), &int(1), &[8]], TINYINT, 1, 5);
+    audit(&[&[2], &one, &one, &[0], &one, &[9], &none, &int(13), &int(0)], TINYINT, 1, 5);
+    audit(&[&[2], &one, &int(2), &[0], &one, &[9], &none, &int(13), &block(1, 9)], TINYINT, 1, 5);
+    // A block without entries, though all offsets and the sum are right.
+    audit(&[&[2], &one, &one, &[0], &int(2), &[9], &none, &[9], &int(4), &int(17), &none, &block(1, 9)], TINYINT, 1, 5);
+    // ROOM goes before every bitmap.
+    audit(&[&[1], &int(9), &one, &[0], &[9], &int(99)], TINYINT, 8, 10);
+    audit(&[&[1], &int(9), &one, &[0], &[9], &int(99)], TINYINT, 9, 6);
+
+    // Bitmaps of one value of 3 rows, their offset and length as stored in version 2.
+    let of = |rows: &[u32], form: BitmapForm| bitmap(rows, &form);
+    let three = of(&[0, 1, 2], BitmapForm::WithoutRuns);
+    let size = three.len() as i32;
+    let values = BitmapForm::WithRuns(Vec::new());
+    let mut high_half = three.clone();
+    high_half[2] = 1;
+    let two_keys = of(&[0, 1, 2, 3, 65536], BitmapForm::WithoutRuns);
+    let mut bad_second = two_keys.clone();
+    let cut = bad_second.len() - 1;
+    bad_second.truncate(cut);
+    for (offset, length, bitmap, answer) in [
+        (0, -1, three.clone(), 0),
+        (0, size, three.clone(), 0),
+        (0, size - 1, three.clone(), 6),
+        (0, size + 1, [&three[..], &[0]].concat(), 6),
+        (0, 0, three.clone(), 6),
+        (0, -2, three.clone(), 6),
+        (0, i32::MIN, three.clone(), 6),
+        (size, -1, three.clone(), 6),
+        (i32::MAX, -1, three.clone(), 6),
+        (0, -1, Vec::new(), 6),
+        (0, -1, of(&[0, 1, 2], values), 0),
+        (0, -1, high_half, 6),
+        (0, -1, of(&[0, 1, 2, 3], BitmapForm::WithoutRuns), 7),
+        (0, -1, two_keys, 7),
+        (0, -1, bad_second, 6),
+        (0, -1, of(&[0, 2], BitmapForm::WithoutRuns), 9),
+        (0, -1, of(&[], BitmapForm::WithoutRuns), 9),
+        (-1, 5, three.clone(), 9),
+        (i32::MIN, 5, three, 7),
+    ] {
+        let entry = [&one[..], &[9], &int(offset), &int(length)].concat();
+        audit(&[&[2], &int(3), &one, &[0], &one, &[9], &none, &int(13), &entry, &bitmap], TINYINT, 3, answer);
+    }
+    // Null's bitmap comes first: its fault goes before the value's, and a row of both is TWICE.
+    audit(&[&[1], &int(3), &one, &[1], &int(-9), &[9], &int(99)], TINYINT, 3, 7);
+    audit(&[&[1], &int(3), &one, &[1], &int(-3), &[9], &int(99)], TINYINT, 3, 6);
+    audit(&[&[1], &int(3), &one, &[1], &int(-3), &[9], &int(-3)], TINYINT, 3, 8);
+
+    let string = |length: i32| [&int(length)[..], b"ab"].concat();
+    for (length, answer) in [(2, 1), (3, 1), (65535, 1), (65536, 12), (i32::MAX, 12), (-1, 5), (i32::MIN, 5)] {
+        let body = [&[1][..], &none, &one, &[0], &string(length)].concat();
+        assert_eq!(all.audit(&body, STRING, &[]).0, answer, "a value of length {length}");
+    }
+    for (length, answer) in [(2, 1), (3, 11), (65535, 11), (65536, 12), (i32::MAX, 12), (-1, 11), (i32::MIN, 11), (1, 11)] {
+        assert_eq!(all.ask(&[], STRING, EQUAL, &string(length), &[]).0, answer, "a literal of length {length}");
+    }
+
+    locate_orders(all);
+    deletion_orders(all);
+}
+
+fn locate_orders(all: &mut Comparison) {
+    assert_eq!(all.locate(&[], &[], b"s", b"bitmap").0, 1);
+    let none = index_file(&[]);
+    assert_eq!(none.len(), 24);
+    assert_eq!(all.locate(&[], &none, b"s", b"bitmap").0, 255);
+    for length in 0..24 {
+        assert_eq!(all.locate(&[], &none[..length], b"s", b"bitmap").0, if length < 16 { 1 } else { 4 });
+    }
+    let at = |kind: &[u8], start: i32, length: i32| Index { kind: kind.to_vec(), content: Content::At { start, length } };
+    let column = |name: &[u8], indexes: &[Index]| IndexedColumn { name: name.to_vec(), indexes: indexes.to_vec() };
+    // A head of 47 bytes and 5 more.
+    let mut small = |start: i32, length: i32, answer: u8| {
+        let layout = FileLayout { tail: vec![1; 5], ..FileLayout::default() };
+        let file = index_file_traced(&[column(b"s", &[at(b"bitmap", start, length)])], &layout).bytes;
+        assert_eq!(all.locate(&[], &file, b"s", b"bitmap").0, answer, "start {start}, length {length}");
+    };
+    for (start, length, answer) in [(47, 5, 0), (47, 0, 0), (52, 0, 0), (46, 1, 4), (46, 0, 4), (53, 0, 4), (47, 6, 4)] {
+        small(start, length, answer);
+    }
+    for (start, length) in
+        [(-1, 0), (-1, 5), (i32::MIN, 0), (47, -1), (52, -5), (i32::MAX, i32::MAX), (47, i32::MIN), (47, i32::MAX)]
+    {
+        small(start, length, 4);
+    }
+    let index = at(b"bitmap", 0, 0);
+    let mut answers = |columns: &[IndexedColumn], answer: u8| {
+        let file = index_file_traced(columns, &FileLayout::default()).bytes;
+        assert_eq!(all.locate(&[], &file, b"s", b"bitmap").0, answer);
+    };
+    answers(&[column(b"s", &[]), column(b"s", &[])], 4);
+    answers(&[column(b"t", &[index.clone()]), column(b"t", &[index.clone()])], 255);
+    answers(&[column(b"t", &[index.clone(), index.clone()])], 255);
+    answers(&[column(b"s", &[at(b"bsi", -1, -1), at(b"bsi", -1, -1)])], 255);
+    answers(&[column(b"s", &[at(b"bitmap", 200, 0), index])], 4);
+}
+
+fn deletion_orders(all: &mut Comparison) {
+    let one = deletion_file(&[bitmap(&[1], &BitmapForm::WithoutRuns)]);
+    let with = |more: &[u8]| [&one[..], more].concat();
+    let mut wrong_magic = one.clone();
+    wrong_magic[5] ^= 1;
+    for (file, bin, rows, length, answer) in [
+        (one.clone(), 0, 2, 1, 0),
+        (one.clone(), 0, 1, 1, 7),
+        (one.clone(), 0, 0, 0, 7),
+        (one.clone(), 1, 2, 1, 14),
+        (one.clone(), u64::MAX, 2, 1, 14),
+        (one.clone(), 0, 9, 1, 10),
+        (one.clone(), 0, MAX + 1, 1, 12),
+        (Vec::new(), 0, 9, 1, 10),
+        (Vec::new(), 0, 9, 2, 1),
+        (vec![2], 0, 9, 2, 3),
+        (vec![1], 0, 9, 2, 14),
+        (with(&[0]), 0, 2, 1, 1),
+        (with(&int(3)), 0, 2, 1, 1),
+        (with(&int(3)), 7, 2, 1, 1),
+        (with(&[&int(3)[..], &[0; 7]].concat()), 0, 2, 1, 1),
+        (with(&[&int(4)[..], &[0; 8]].concat()), 0, 2, 1, 0),
+        (with(&[&int(4)[..], &[0; 8]].concat()), 1, 2, 1, 2),
+        (with(&[&int(4)[..], &[0; 7]].concat()), 0, 2, 1, 1),
+        (with(&int(-1)), 0, 2, 1, 1),
+        (wrong_magic, 0, 2, 1, 2),
+        (one[..one.len() - 1].to_vec(), 0, 2, 1, 1),
+    ] {
+        let found = all.read_deletions(&file, bin, rows, &vec![0xA5; length]);
+        assert_eq!(found.0, answer, "bin {bin} for {rows} rows of {}", hex(&file));
+    }
+    // A bin of its magic alone has no bitmap; one with a byte behind its bitmap isn't filled by it.
+    let bare = deletion_file(&[Vec::new()]);
+    assert_eq!(all.read_deletions(&bare, 0, 2, &[0xA5]).0, 6);
+    let longer = deletion_file(&[[&bitmap(&[1], &BitmapForm::WithoutRuns)[..], &[0]].concat()]);
+    assert_eq!(all.read_deletions(&longer, 0, 2, &[0xA5]).0, 6);
 }
 
 /// Numbers of values, blocks, literals and bytes of strings and names at and past their limits.
@@ -655,6 +824,7 @@ fn library_and_plain_reader_agree() {
     if !alone {
         let random = &mut Random::new(first_seed);
         every_cut_and_flip(&mut all);
+        orders(&mut all);
         limits(&mut all, random);
         containers(&mut all, random);
         bitmap_inside_bits(&mut all, random);

@@ -557,7 +557,12 @@ fn damage_once(random: &mut Random, bytes: &mut Vec<u8>, fields: &[Field]) {
             let flipped = random.below(bytes.len());
             bytes[flipped] ^= 1 << random.below(8);
         }
-        4..=6 => {
+        4 => {
+            // A field's rule goes before the next field's being there.
+            change_field(random, &mut bytes[at..at + field.width], &field);
+            bytes.truncate(at + field.width);
+        }
+        5..=7 => {
             // The same of another place, or the two exchanged.
             let like: Vec<&Field> = fields
                 .iter()

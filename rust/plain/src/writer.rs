@@ -347,12 +347,7 @@ fn write_blocks(groups: &Groups, layout: &Layout, places: &[(i32, i32)], out: &m
 /// Lays the bitmaps down one after another; per entry, null's first, its offset and length.
 fn lay_bitmaps(groups: &Groups, layout: &Layout, has_null: bool) -> (Traced, Vec<(i32, i32)>) {
     let number = groups.values.len() + 1;
-    let mut listed = vec![false; number];
-    for i in &layout.bitmap_order {
-        listed[*i] = true;
-    }
-    let others = (0..number).filter(|i| !listed[*i]);
-    let order: Vec<usize> = layout.bitmap_order.iter().copied().chain(others).collect();
+    let order = full_order(&layout.bitmap_order, number);
 
     let mut out = Traced::default();
     let mut places = vec![(0, 0); number];
@@ -398,6 +393,19 @@ fn lay_bitmaps(groups: &Groups, layout: &Layout, has_null: bool) -> (Traced, Vec
     }
     out.raw("gap", &layout.tail);
     (out, places)
+}
+
+/// All numbers below `number`: first the wanted ones, then the others in order.
+fn full_order(wanted: &[usize], number: usize) -> Vec<usize> {
+    let mut listed = vec![false; number];
+    let mut order = Vec::with_capacity(number);
+    for i in wanted.iter().copied().chain(0..number) {
+        if i < number && !listed[i] {
+            listed[i] = true;
+            order.push(i);
+        }
+    }
+    order
 }
 
 /// The first place where the bytes `new` stand in `old` or run out of its end, and how many of them are there.
@@ -479,8 +487,7 @@ pub fn index_file_traced(columns: &[IndexedColumn], layout: &FileLayout) -> Trac
             Content::At { .. } => None,
         })
         .collect();
-    let others = (0..bodies.len()).filter(|i| !layout.body_order.contains(i));
-    let order: Vec<usize> = layout.body_order.iter().copied().chain(others).collect();
+    let order = full_order(&layout.body_order, bodies.len());
     let mut behind = Traced::default();
     let mut starts = vec![0; bodies.len()];
     let mut gaps = layout.gaps.iter();
