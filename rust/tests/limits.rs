@@ -1,5 +1,5 @@
-//! Buffers over document 01's limit are LIMIT before anything else is looked at. The memory is zeroed by the system when it is first
-//! touched, which none of these calls does, so that it takes no room.
+//! Buffers over document 01's limit are LIMIT before anything else is looked at. The memory is zeroed by the system when it is
+//! first touched, which none of these calls does, so that it takes no room.
 
 use poddurance::{raw, Literals, Refusal, RowField, Type, LIMIT};
 

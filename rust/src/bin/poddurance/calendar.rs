@@ -105,8 +105,8 @@ fn digits(text: &str, number: usize) -> Option<i64> {
 
 /// The days from 1970-01-01 to the first of January of a year from 0 to 9999.
 fn days_before_year(year: i64) -> i64 {
-    // A year has 365 days and one more for each leap year. The leap years before this one are counted from 400 years earlier, where the
-    // Gregorian rule began anew, so that no number is negative, which a division would round the other way.
+    // A year has 365 days and one more for each leap year. The leap years before this one are counted from 400 years earlier,
+    // where the Gregorian rule began anew, so that no number is negative, which a division would round the other way.
     let days = |years: i64| years * 365 + years / 4 - years / 100 + years / 400;
     days(year + 399) - days(1_970 + 399)
 }

@@ -129,7 +129,9 @@ fn without(mut field: RowField, deletions: &Deletions) -> Result<Outcome, String
 fn refusal_of(error: Error) -> Refusal {
     match error {
         Error::Refused(refusal) => refusal,
-        Error::RowsDiffer { .. } => unreachable!("each field was made for the row count it is used with"),
+        Error::RowsDiffer { .. } => {
+            unreachable!("each field was made for the row count it is used with")
+        }
     }
 }
 
