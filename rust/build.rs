@@ -63,12 +63,11 @@ fn sources(root: &Path) -> Result<Vec<PathBuf>, String> {
     Ok(paths)
 }
 
-/// The latest change of a file, or of any file in a folder.
+/// The latest change of a file, or of anything in a folder. The folder's own change counts too: a file that is removed or moved
+/// there changes nothing else.
 fn newest_in(path: &Path) -> Option<SystemTime> {
-    match fs::read_dir(path) {
-        Ok(entries) => entries.flatten().filter_map(|entry| newest_in(&entry.path())).max(),
-        Err(_) => changed(path),
-    }
+    let inside = fs::read_dir(path).into_iter().flatten().flatten().filter_map(|entry| newest_in(&entry.path()));
+    inside.chain(changed(path)).max()
 }
 
 fn changed(path: &Path) -> Option<SystemTime> {

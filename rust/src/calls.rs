@@ -11,7 +11,7 @@ use crate::{raw, Literals, Question, Refusal, RowField, Type};
 /// // The data file has 5 rows and its index 3: of the last two the index knows nothing.
 /// let error = audit(&body, Type::TinyInt, RowField::for_rows(5)?).unwrap_err();
 /// assert_eq!(error, Error::RowsDiffer { expected: 5, found: 3 });
-/// assert_eq!(error.to_string(), "for 5 rows, but found 3");
+/// assert_eq!(error.to_string(), "5 rows expected, 3 found");
 /// # Ok::<(), Error>(())
 /// ```
 #[derive(Clone, Copy, Debug, PartialEq, Eq, Hash)]
@@ -37,15 +37,17 @@ impl fmt::Display for Error {
     fn fmt(&self, f: &mut fmt::Formatter<'_>) -> fmt::Result {
         match self {
             Error::Refused(refusal) => refusal.fmt(f),
-            Error::RowsDiffer { expected, found } => write!(f, "for {expected} rows, but found {found}"),
+            Error::RowsDiffer { expected, found } => {
+                write!(f, "{expected} rows expected, {found} found")
+            }
         }
     }
 }
 
 impl std::error::Error for Error {}
 
-/// Finds the body of the index of kind `kind` (`"bitmap"`) on column `column`: in `embedded`, the index bytes in the manifest, if there
-/// are any, else in `file`, the bytes of the index file. The other buffer isn't looked at.
+/// Finds the body of the index of kind `kind` (`"bitmap"`) on column `column`: in `embedded`, the index bytes in the manifest, if
+/// there are any, else in `file`, the bytes of the index file. The other buffer isn't looked at.
 ///
 /// The body is a part of the buffer, not a copy. None says that there is no such index, so that all rows are to be read.
 ///
@@ -75,7 +77,8 @@ pub fn locate<'a>(embedded: &'a [u8], file: &'a [u8], column: &str, kind: &str) 
 ///
 /// Gives the field back with no row set; its [`rows`](RowField::rows) are the row count of the body, now checked.
 ///
-/// A body with another row count than the field's is [`Error::RowsDiffer`], or [`Refusal::Room`] where it needs more bytes than the field has.
+/// A body with another row count than the field's is [`Error::RowsDiffer`], or [`Refusal::Room`] where it needs more bytes than
+/// the field has.
 ///
 /// ```
 /// use poddurance::{audit, Error, Refusal, RowField, Type};
@@ -96,8 +99,8 @@ pub fn audit(body: &[u8], ty: Type, mut field: RowField) -> Result<RowField, Err
 
 /// Checks the whole body of an index as [`audit`] does, then answers a question: which rows does it choose?
 ///
-/// The type is that of the literals. A body with another row count than the field's is [`Error::RowsDiffer`], or [`Refusal::Room`] where
-/// it needs more bytes than the field has.
+/// The type is that of the literals. A body with another row count than the field's is [`Error::RowsDiffer`], or
+/// [`Refusal::Room`] where it needs more bytes than the field has.
 ///
 /// ```
 /// use poddurance::{ask, Literals, Question, RowField, Type};

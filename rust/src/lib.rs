@@ -1,22 +1,25 @@
-//! Reads Apache Paimon's bitmap file indexes and deletion files so that **a lost row is a refusal, never a silently wrong graph**.
+//! Reads Apache Paimon's bitmap file indexes and deletion files so that **a lost row is a refusal, never a silently wrong
+//! graph**.
 //!
-//! A thin layer over an archive that is written and proved in Rattle. Document 01, the rules and scope of the library, decides what each
-//! call answers and which [`Refusal`] it gives. There are five calls: [`locate`], [`audit`], [`ask`], [`read_deletions`] and [`subtract`].
+//! A thin layer over an archive that is written and proved in Rattle. Document 01, the rules and scope of the library, decides
+//! what each call answers and which [`Refusal`] it gives. There are five calls: [`locate`], [`audit`], [`ask`],
+//! [`read_deletions`] and [`subtract`].
 //!
-//! Which rows of a data file hold 7, without the deleted ones?
+//! Which rows of a data file don't hold 7, without the deleted ones?
 //!
 //! ```
 //! use poddurance::{ask, locate, read_deletions, subtract, Literals, Question, RowField, Type};
 //!
 //! // The TINYINT column s with the rows 7, 9, null.
 //! let index_file = [
-//!     0, 5, 0x4E, 0x4E, 0xD0, 0x1A, 0x35, 0xAE, 0, 0, 0, 1, 0, 0, 0, 47, 0, 0, 0, 1, 0, 1, b's', 0, 0, 0, 1, 0, 6, b'b', b'i', b't',
-//!     b'm', b'a', b'p', 0, 0, 0, 47, 0, 0, 0, 24, 0, 0, 0, 0, 1, 0, 0, 0, 3, 0, 0, 0, 2, 1, 255, 255, 255, 253, 7, 255, 255,
-//!     255, 255, 9, 255, 255, 255, 254,
+//!     0, 5, 0x4E, 0x4E, 0xD0, 0x1A, 0x35, 0xAE, 0, 0, 0, 1, 0, 0, 0, 47, 0, 0, 0, 1, 0, 1, b's', 0, 0, 0, 1, 0, 6,
+//!     b'b', b'i', b't', b'm', b'a', b'p', 0, 0, 0, 47, 0, 0, 0, 24, 0, 0, 0, 0, // the head ends here
+//!     1, 0, 0, 0, 3, 0, 0, 0, 2, 1, 255, 255, 255, 253, 7, 255, 255, 255, 255, 9, 255, 255, 255, 254,
 //! ];
 //! // One bin that lists row 1.
 //! let deletion_file = [
-//!     1, 0, 0, 0, 22, 0x5E, 0x43, 0xF2, 0xD0, 0x3A, 0x30, 0, 0, 1, 0, 0, 0, 0, 0, 0, 0, 0x10, 0, 0, 0, 1, 0, 0xFA, 0x2B, 0x51, 0x92,
+//!     1, 0, 0, 0, 22, 0x5E, 0x43, 0xF2, 0xD0, 0x3A, 0x30, 0, 0, 1, 0, 0, 0, 0, 0, 0, 0, 0x10, 0, 0, 0, 1, 0,
+//!     0xFA, 0x2B, 0x51, 0x92,
 //! ];
 //! let row_count = 3; // as the table's metadata has it
 //!
@@ -31,7 +34,8 @@
 //! # Ok::<(), poddurance::Error>(())
 //! ```
 //!
-//! The crate is of the standard library alone. The [`raw`] calls, over buffers that the caller keeps, hold its only `unsafe` blocks.
+//! The crate is of the standard library alone. The [`raw`] calls, over buffers that the caller keeps, hold its only `unsafe`
+//! blocks.
 
 #![deny(missing_docs)]
 #![deny(unsafe_code)]

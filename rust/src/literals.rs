@@ -75,8 +75,8 @@ impl<'a> From<&'a [u8]> for Value<'a> {
 
 /// The literals of a question, in the stored form of one type.
 ///
-/// They carry the type to [`ask`](crate::ask): literals read as another type than they were written for could fit it by chance and
-/// choose wrong rows. A value that doesn't fit is [`Refusal::Literal`] here already, as it would be there, and what passes
+/// They carry the type to [`ask`](crate::ask): literals read as another type than they were written for could fit it by chance
+/// and choose wrong rows. A value that doesn't fit is [`Refusal::Literal`] here already, as it would be there, and what passes
 /// document 01's limits is [`Refusal::Limit`].
 ///
 /// ```

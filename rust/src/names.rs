@@ -132,8 +132,8 @@ impl FromStr for Type {
     }
 }
 
-/// What is asked of a column. How many [`Literals`](crate::Literals) go with it: one with EQUAL and NOT EQUAL, any number with
-/// IN and NOT IN, none with IS NULL and IS NOT NULL.
+/// What is asked of a column. How many [`Literals`](crate::Literals) go with it: one with EQUAL and NOT EQUAL, any number with IN
+/// and NOT IN, none with IS NULL and IS NOT NULL.
 ///
 /// NOT EQUAL and NOT IN choose null rows too. Parsing takes document 01's names in either case, with `_` or `-` for a space.
 ///

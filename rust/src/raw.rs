@@ -1,12 +1,26 @@
 //! The five calls as the archive has them: numbers in, numbers out, over buffers that the caller keeps.
 //!
-//! Each call answers [`ACCEPTED`], [`ABSENT`] ([`locate`] alone) or the number of a [`Refusal`](crate::Refusal), and then
-//! its counts, which are 0 unless the call accepts. These functions are for callers that reuse their own buffers; the
-//! functions at the top of the crate keep a field and its row count together and are harder to use wrongly.
+//! Each call answers [`ACCEPTED`], [`ABSENT`] ([`locate`] alone) or the number of a [`Refusal`](crate::Refusal), and then its
+//! counts, which are 0 unless the call accepts. These functions are for callers that reuse their own buffers; the functions at
+//! the top of the crate keep a field and its row count together and are harder to use wrongly.
 //!
 //! A row field for n rows is the first ceil(n/8) bytes of the lent buffer. **Bytes behind it never change**, so that a buffer
-//! longer than that may hold rows of an earlier call behind the field: read no more than ceil(n/8) bytes of it. LIMIT,
-//! ROOM and the refusals before ROOM leave the whole buffer as it was, with the rows of an earlier call.
+//! longer than that may hold rows of an earlier call behind the field: read no more than ceil(n/8) bytes of it. LIMIT, ROOM and
+//! the refusals before ROOM leave the whole buffer as it was, with the rows of an earlier call.
+//!
+//! ```
+//! use poddurance::raw;
+//!
+//! // TINYINT (0) with the rows 7, 9, null; the buffer has room for more, and bits of an earlier call.
+//! let body = [1, 0, 0, 0, 3, 0, 0, 0, 2, 1, 255, 255, 255, 253, 7, 255, 255, 255, 255, 9, 255, 255, 255, 254];
+//! let mut buffer = [0xFF; 100];
+//! let (answer, rows) = raw::audit(&body, 0, &mut buffer);
+//! assert_eq!((answer, rows), (raw::ACCEPTED, 3));
+//! let (answer, count) = raw::ask(&body, 0, 5, &[], &mut buffer); // IS NOT NULL (5)
+//! assert_eq!((answer, count), (raw::ACCEPTED, 2));
+//! let field = &buffer[..rows.div_ceil(8) as usize];
+//! assert_eq!(field, [0b011]);
+//! ```
 
 /// The answer of a call that accepts its bytes.
 ///
@@ -79,8 +93,8 @@ mod c {
     }
 }
 
-/// Locate: the answer, and where the body of the index of kind `kind` on column `column` starts and how long it is, in
-/// `embedded` if that isn't empty, else in `file`. The other buffer isn't looked at.
+/// Locate: the answer, and where the body of the index of kind `kind` on column `column` starts and how long it is, in `embedded`
+/// if that isn't empty, else in `file`. The other buffer isn't looked at.
 ///
 /// ```
 /// let file = [
@@ -95,9 +109,9 @@ mod c {
 #[must_use]
 pub fn locate(embedded: &[u8], file: &[u8], column: &[u8], kind: &[u8]) -> (u8, u64, u64) {
     let (mut start, mut length) = (0, 0);
-    // SAFETY: a slice's pointer is never null and is good for reading its length, the two results are locals good for
-    // writing, all live through the call, and the call keeps none of them. Only the results are written to, and they
-    // overlap nothing; slices that share bytes are read alone.
+    // SAFETY: a slice's pointer is never null and is good for reading its length, the two results are locals good for writing,
+    // all live through the call, and the call keeps none of them. Only the results are written to, and they overlap nothing;
+    // slices that share bytes are read alone.
     let answer = unsafe {
         c::poddurance_locate(
             embedded.as_ptr(),
@@ -126,9 +140,9 @@ pub fn locate(embedded: &[u8], file: &[u8], column: &[u8], kind: &[u8]) -> (u8, 
 #[must_use]
 pub fn audit(body: &[u8], ty: u32, field: &mut [u8]) -> (u8, u64) {
     let mut rows = 0;
-    // SAFETY: a slice's pointer is never null and is good for its length, `field`'s for writing too; the result is a local
-    // good for writing. All live through the call, which keeps none of them. `field` is borrowed mutably, so that it
-    // overlaps no other buffer.
+    // SAFETY: a slice's pointer is never null and is good for its length, `field`'s for writing too; the result is a local good
+    // for writing. All live through the call, which keeps none of them. `field` is borrowed mutably, so that it overlaps no other
+    // buffer.
     let answer = unsafe { c::poddurance_audit(body.as_ptr(), body.len(), ty, field.as_mut_ptr(), field.len(), &mut rows) };
     (answer, rows)
 }
@@ -144,9 +158,9 @@ pub fn audit(body: &[u8], ty: u32, field: &mut [u8]) -> (u8, u64) {
 #[must_use]
 pub fn ask(body: &[u8], ty: u32, question: u32, literals: &[u8], field: &mut [u8]) -> (u8, u64) {
     let mut matched = 0;
-    // SAFETY: a slice's pointer is never null and is good for its length, `field`'s for writing too; the result is a local
-    // good for writing. All live through the call, which keeps none of them. `field` is borrowed mutably, so that it
-    // overlaps no other buffer; `body` and `literals` are read alone.
+    // SAFETY: a slice's pointer is never null and is good for its length, `field`'s for writing too; the result is a local good
+    // for writing. All live through the call, which keeps none of them. `field` is borrowed mutably, so that it overlaps no other
+    // buffer; `body` and `literals` are read alone.
     let answer = unsafe {
         c::poddurance_ask(
             body.as_ptr(),
@@ -163,8 +177,8 @@ pub fn ask(body: &[u8], ty: u32, question: u32, literals: &[u8], field: &mut [u8
     (answer, matched)
 }
 
-/// Read deletions: the answer, and how many rows bin number `bin` of the deletion file lists. Accepted, those rows are set
-/// in the field for `rows` rows.
+/// Read deletions: the answer, and how many rows bin number `bin` of the deletion file lists. Accepted, those rows are set in the
+/// field for `rows` rows.
 ///
 /// ```
 /// let file = [
@@ -179,9 +193,9 @@ pub fn ask(body: &[u8], ty: u32, question: u32, literals: &[u8], field: &mut [u8
 #[must_use]
 pub fn read_deletions(file: &[u8], bin: u64, rows: u64, field: &mut [u8]) -> (u8, u64) {
     let mut deleted = 0;
-    // SAFETY: a slice's pointer is never null and is good for its length, `field`'s for writing too; the result is a local
-    // good for writing. All live through the call, which keeps none of them. `field` is borrowed mutably, so that it
-    // overlaps no other buffer.
+    // SAFETY: a slice's pointer is never null and is good for its length, `field`'s for writing too; the result is a local good
+    // for writing. All live through the call, which keeps none of them. `field` is borrowed mutably, so that it overlaps no other
+    // buffer.
     let answer = unsafe {
         c::poddurance_read_deletions(file.as_ptr(), file.len(), bin, rows, field.as_mut_ptr(), field.len(), &mut deleted)
     };
@@ -198,9 +212,9 @@ pub fn read_deletions(file: &[u8], bin: u64, rows: u64, field: &mut [u8]) -> (u8
 #[must_use]
 pub fn subtract(first: &mut [u8], second: &[u8], rows: u64) -> (u8, u64, u64) {
     let (mut left, mut removed) = (0, 0);
-    // SAFETY: a slice's pointer is never null and is good for its length, `first`'s for writing too; the results are two
-    // locals good for writing. All live through the call, which keeps none of them. `first` is borrowed mutably, so that
-    // it overlaps no other buffer.
+    // SAFETY: a slice's pointer is never null and is good for its length, `first`'s for writing too; the results are two locals
+    // good for writing. All live through the call, which keeps none of them. `first` is borrowed mutably, so that it overlaps no
+    // other buffer.
     let answer = unsafe {
         c::poddurance_subtract(first.as_mut_ptr(), first.len(), second.as_ptr(), second.len(), rows, &mut left, &mut removed)
     };

@@ -6,9 +6,9 @@ use crate::{Refusal, LIMIT};
 
 /// A set of the rows of one data file: row r is the bit of weight 2^(r mod 8) in byte r/8.
 ///
-/// A field knows its row count and has no byte and no bit beyond it, so that what it counts and iterates over are rows of
-/// that file and nothing else. [`ask`](crate::ask), [`audit`](crate::audit) and [`read_deletions`](crate::read_deletions) take a field as
-/// memory to work in and give it back with their answer. A refusal gives none back: there is no field left in which an earlier
+/// A field knows its row count and has no byte and no bit beyond it, so that what it counts and iterates over are rows of that
+/// file and nothing else. [`ask`](crate::ask), [`audit`](crate::audit) and [`read_deletions`](crate::read_deletions) take a field
+/// as memory to work in and give it back with their answer. A refusal gives none back: there is no field left in which an earlier
 /// answer, or nothing at all, could be taken for the answer.
 ///
 /// ```
@@ -33,8 +33,8 @@ pub struct RowField {
 impl RowField {
     /// A field for this many rows, with none set. More than [`LIMIT`] rows is [`Refusal::Limit`].
     ///
-    /// Give the data file's own row count where it is known: an index for another count is then an error, not an answer
-    /// in which the data file's last rows are missing.
+    /// Give the data file's own row count where it is known: an index for another count is then an error, not an answer in which
+    /// the data file's last rows are missing.
     ///
     /// ```
     /// use poddurance::{Refusal, RowField};
@@ -49,9 +49,9 @@ impl RowField {
 
     /// A field for as many rows as the body of an index claims to have, for callers that don't know the row count.
     ///
-    /// The claim is not checked here: only the call that takes the field and accepts the body makes it true. It can ask for up
-    /// to 256 MiB, the field of [`LIMIT`] rows. A body that claims no count, being too short or naming a negative one,
-    /// gets a field for 0 rows; every call refuses such a body.
+    /// The claim is not checked here: only the call that takes the field and accepts the body makes it true. It can ask for up to
+    /// 256 MiB, the field of [`LIMIT`] rows. A body that claims no count, being too short or naming a negative one, gets a field
+    /// for 0 rows; every call refuses such a body.
     ///
     /// ```
     /// use poddurance::RowField;
