@@ -34,7 +34,7 @@ const POSSIBLE: [&[u8]; CALLS.len()] = [
 ];
 
 const DEFAULT_SEED: u64 = 20_240_101;
-const DEFAULT_CASES: u64 = 300_000;
+const DEFAULT_CASES: u64 = 200_000;
 
 const MAX: u64 = 2_147_483_647;
 
@@ -356,7 +356,14 @@ fn deletion_files(all: &mut Comparison, random: &mut Random) {
             all.demand(sound, "Read deletions of a sound file", &[("file", &traced.bytes)]);
         }
     }
-    for _ in 0..10 {
+    for _ in 0..2 {
+        let file = deletion_file(&[random::near_bitmap(random)]);
+        // As many rows as the highest key can need, as a rule.
+        let rows = if random.percent(80) { 16 << 16 } else { random.between(1, 16 << 16) };
+        let before = random::field(random, rows);
+        all.read_deletions(&file, 0, rows as u64, &before);
+    }
+    for _ in 0..8 {
         let mut file = random::damage(random, &traced);
         if random.percent(65) {
             fix_checksums(&mut file);
@@ -552,7 +559,8 @@ fn locate_orders(all: &mut Comparison) {
         assert_eq!(all.locate(&[], &file, b"s", b"bitmap").0, answer);
     };
     answers(&[column(b"s", &[]), column(b"s", &[])], 4);
-    answers(&[column(b"t", &[index.clone()]), column(b"t", &[index.clone()])], 255);
+    let listed_once = column(b"t", std::slice::from_ref(&index));
+    answers(&[listed_once.clone(), listed_once], 255);
     answers(&[column(b"t", &[index.clone(), index.clone()])], 255);
     answers(&[column(b"s", &[at(b"bsi", -1, -1), at(b"bsi", -1, -1)])], 255);
     answers(&[column(b"s", &[at(b"bitmap", 200, 0), index])], 4);
@@ -594,6 +602,41 @@ fn deletion_orders(all: &mut Comparison) {
     assert_eq!(all.read_deletions(&bare, 0, 2, &[0xA5]).0, 6);
     let longer = deletion_file(&[[&bitmap(&[1], &BitmapForm::WithoutRuns)[..], &[0]].concat()]);
     assert_eq!(all.read_deletions(&longer, 0, 2, &[0xA5]).0, 6);
+}
+
+/// Bitmaps that keep all rules but one, or keep one narrowly, without offsets: cookie 12347 and one or two containers.
+fn bitmap_rules(all: &mut Comparison) {
+    let pair = |number: u16| number.to_le_bytes();
+    let numbers = |numbers: &[u16]| numbers.iter().flat_map(|number| pair(*number)).collect::<Vec<u8>>();
+    // Key and cardinality less 1 of each container, flags, and the containers.
+    let cases: [(&[u16], u8, &[u16], u8); 19] = [
+        (&[0, 1], 0, &[3, 4], 0),
+        (&[0, 1], 0, &[3, 3], 6),
+        (&[0, 1], 0, &[4, 3], 6),
+        (&[0, 1], 0, &[3], 6),
+        (&[0, 1], 2, &[3, 4], 6),
+        (&[0, 0], 1, &[1, 65535, 0], 0),
+        (&[0, 1], 1, &[1, 65535, 1], 6),
+        (&[0, 65535], 1, &[1, 0, 65535], 0),
+        (&[0, 65535], 1, &[1, 1, 65535], 6),
+        (&[0, 65535], 1, &[1, 1, 65534], 6),
+        (&[0, 0], 1, &[0], 6),
+        (&[0, 3], 1, &[2, 0, 1, 2, 1], 0),
+        (&[0, 3], 1, &[2, 0, 1, 1, 1], 6),
+        (&[0, 3], 1, &[2, 2, 1, 0, 1], 6),
+        (&[0, 2], 1, &[2, 0, 1, 2, 1], 6),
+        (&[0, 4], 1, &[2, 0, 1, 2, 1], 6),
+        (&[0, 0, 1, 0], 0, &[3, 3], 0),
+        (&[0, 0, 0, 0], 0, &[3, 4], 6),
+        (&[1, 0, 0, 0], 0, &[3, 4], 6),
+    ];
+    for (headers, flags, containers, answer) in cases {
+        let count = headers.len() as u16 / 2;
+        let bitmap = [&pair(12347)[..], &pair(count - 1), &[flags], &numbers(headers), &numbers(containers)].concat();
+        let file = deletion_file(&[bitmap]);
+        let found = all.read_deletions(&file, 0, 2 << 16, &[0xA5; 16384]);
+        assert_eq!(found.0, answer, "the file {}", hex(&file));
+    }
 }
 
 /// Numbers of values, blocks, literals and bytes of strings and names at and past their limits.
@@ -825,6 +868,7 @@ fn library_and_plain_reader_agree() {
         let random = &mut Random::new(first_seed);
         every_cut_and_flip(&mut all);
         orders(&mut all);
+        bitmap_rules(&mut all);
         limits(&mut all, random);
         containers(&mut all, random);
         bitmap_inside_bits(&mut all, random);

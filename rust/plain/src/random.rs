@@ -387,6 +387,117 @@ pub fn list_twice(random: &mut Random, columns: &mut Vec<IndexedColumn>, column:
     }
 }
 
+// Bitmaps in which at most a little is wrong
+
+/// A bitmap whose counts and offsets fit its containers, as a rule. Keys may be equal, rows out of order, runs overlapping
+/// or too long, cardinalities, offsets and flags wrong, each now and then.
+pub fn near_bitmap(random: &mut Random) -> Vec<u8> {
+    let with_runs = random.percent(60);
+    let count = random.between(1, 6);
+    let fault = *random.pick(&[0, 1, 4]);
+    let mut key = random.below(3) as u16;
+    let mut flags = 0u8;
+    let mut headers: Vec<u8> = Vec::new();
+    let mut containers: Vec<Vec<u8>> = Vec::new();
+    for i in 0..count {
+        let (mut cardinality, bytes) = match random.below(5) {
+            0..=1 if with_runs => {
+                flags |= 1 << i;
+                near_runs(random, fault)
+            }
+            2 => near_bits(random, fault),
+            _ => near_array(random, fault),
+        };
+        if random.percent(fault) {
+            cardinality = *random.pick(&[cardinality.wrapping_add(1), cardinality.wrapping_sub(1), 4096, 4097, 0]);
+        }
+        headers.extend(key.to_le_bytes());
+        headers.extend((cardinality.wrapping_sub(1) as u16).to_le_bytes());
+        containers.push(bytes);
+        key = if random.percent(fault) { key.saturating_sub(random.below(2) as u16) } else { key + random.between(1, 2) as u16 };
+    }
+    if random.percent(fault) {
+        flags |= 1 << random.below(8);
+    }
+
+    let mut out: Vec<u8> = Vec::new();
+    if with_runs {
+        out.extend((12347 | (count as u32 - 1) << 16).to_le_bytes());
+        out.push(flags);
+    } else {
+        out.extend(12346u32.to_le_bytes());
+        out.extend((count as u32).to_le_bytes());
+    }
+    out.extend(&headers);
+    if !with_runs || count >= 4 {
+        let mut at = out.len() + 4 * count;
+        for container in &containers {
+            let wrong = if random.percent(fault) { random.between(1, 2) } else { 0 };
+            out.extend(((at + wrong) as u32).to_le_bytes());
+            at += container.len();
+        }
+    }
+    out.extend(containers.concat());
+    if random.percent(fault) {
+        out.pop();
+    }
+    if random.percent(fault) {
+        out.push(0);
+    }
+    out
+}
+
+/// The cardinality of some runs and the container's bytes.
+fn near_runs(random: &mut Random, fault: usize) -> (u32, Vec<u8>) {
+    let number = if random.percent(fault) { 0 } else { random.between(1, 5) };
+    let mut bytes = (number as u16).to_le_bytes().to_vec();
+    let mut cardinality = 0;
+    let mut next = random.below(3);
+    for i in 0..number {
+        let start = if random.percent(fault) { next.saturating_sub(1) } else { next + *random.pick(&[0, 0, 1, 9000]) };
+        let left = 65536usize.saturating_sub(start).max(1);
+        // The last run may reach the container's end, and with a fault pass it by one row.
+        let length = if i == number - 1 && random.percent(40) {
+            left + usize::from(random.percent(4 * fault))
+        } else {
+            random.between(1, left.min(50))
+        };
+        bytes.extend((start as u16).to_le_bytes());
+        bytes.extend(((length - 1) as u16).to_le_bytes());
+        cardinality += length as u32;
+        next = start + length;
+    }
+    (cardinality, bytes)
+}
+
+fn near_array(random: &mut Random, fault: usize) -> (u32, Vec<u8>) {
+    let number = *random.pick(&[1, 2, 3, 10, 4095, 4096, 4097]);
+    let step = 65535 / number as u32;
+    let mut values: Vec<u16> = (0..number as u32).map(|i| (i * step) as u16 + random.below(step as usize) as u16).collect();
+    if number > 1 && random.percent(4 * fault) {
+        let at = random.below(number - 1);
+        values[at + 1] = values[at];
+    }
+    // An array of more than 4,096 rows is promised as bits by its cardinality, and so is a fault of its own.
+    if number > 4096 && !random.percent(fault) {
+        values.truncate(4096);
+    }
+    (values.len() as u32, values.iter().flat_map(|value| value.to_le_bytes()).collect())
+}
+
+fn near_bits(random: &mut Random, fault: usize) -> (u32, Vec<u8>) {
+    let mut bits = vec![0u8; 8192];
+    let rows = if random.percent(fault) { 4096 } else { random.between(4097, 6000) };
+    let mut cardinality = 0;
+    while cardinality < rows as u32 {
+        let row = random.below(65536);
+        let bit = 1 << (row % 8);
+        cardinality += u32::from(bits[row / 8] & bit == 0);
+        bits[row / 8] |= bit;
+    }
+    (cardinality, bits)
+}
+
 // Deletion files
 
 /// A deletion file, and the rows of each of its bins, all below `rows`.
