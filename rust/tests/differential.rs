@@ -175,57 +175,57 @@ impl Comparison {
 
 // Random rounds
 
-fn round(all: &mut Comparison, random: &mut Random) {
+fn round(both: &mut Comparison, random: &mut Random) {
     // Whether buffers of this round begin or end at a guard doesn't depend on the number of calls before.
-    for lender in [&mut all.first, &mut all.second, &mut all.third, &mut all.fourth] {
+    for lender in [&mut both.first, &mut both.second, &mut both.third, &mut both.fourth] {
         if random.percent(50) {
             lender.turn();
         }
     }
     match random.below(100) {
-        0..=39 => sound_column(all, random),
-        40..=64 => damaged_body(all, random),
-        65..=67 => misfit_questions(all, random),
-        68..=79 => index_files(all, random),
-        80..=94 => deletion_files(all, random),
-        _ => subtractions(all, random),
+        0..=39 => sound_column(both, random),
+        40..=64 => damaged_body(both, random),
+        65..=67 => misfit_questions(both, random),
+        68..=79 => index_files(both, random),
+        80..=94 => deletion_files(both, random),
+        _ => subtractions(both, random),
     }
 }
 
 /// From a column to a file in any layout, and back to the scan's answers.
-fn sound_column(all: &mut Comparison, random: &mut Random) {
+fn sound_column(both: &mut Comparison, random: &mut Random) {
     let column = random::column(random);
     let mut groups = column.groups();
     random::add_unused_values(random, &mut groups);
     let layout = random::layout(random, &groups);
     let body = body(&groups, &layout);
-    check_column(all, random, &column, &groups, &body);
+    check_column(both, random, &column, &groups, &body);
 }
 
 /// A body of the column is found, accepted, and answers as the scan does.
-fn check_column(all: &mut Comparison, random: &mut Random, column: &Column, groups: &Groups, body: &[u8]) {
+fn check_column(both: &mut Comparison, random: &mut Random, column: &Column, groups: &Groups, body: &[u8]) {
     let rows = column.cells.len();
     let (name, kind) = (random::name(random), random::name(random));
     let (columns, file_layout) = random::index_file(random, &name, &kind, body);
     let file = index_file_traced(&columns, &file_layout).bytes;
     let (answer, start, length) = if random.percent(50) {
         let other = random.bytes(7);
-        all.locate(&file, &other, &name, &kind)
+        both.locate(&file, &other, &name, &kind)
     } else {
-        all.locate(&[], &file, &name, &kind)
+        both.locate(&[], &file, &name, &kind)
     };
-    all.demand(answer == 0, "Locate of a sound file", &[("file", &file), ("column", &name), ("kind", &kind)]);
+    both.demand(answer == 0, "Locate of a sound file", &[("file", &file), ("column", &name), ("kind", &kind)]);
     let part = &file[start as usize..][..length as usize];
-    all.demand(part == body, "the part that Locate hands back", &[("file", &file), ("body", body)]);
+    both.demand(part == body, "the part that Locate hands back", &[("file", &file), ("body", body)]);
 
     let needed = rows.div_ceil(8);
     let before = random::field(random, rows);
-    let (answer, count, after) = all.audit(part, column.ty, &before);
+    let (answer, count, after) = both.audit(part, column.ty, &before);
     let sound = answer == 0
         && count == rows as u64
         && after[..needed].iter().all(|byte| *byte == 0)
         && after[needed..] == before[needed..];
-    all.demand(sound, "Audit of a sound body", &[("body", body)]);
+    both.demand(sound, "Audit of a sound body", &[("body", body)]);
 
     let mut last = after;
     for _ in 0..random.between(3, 8) {
@@ -233,10 +233,10 @@ fn check_column(all: &mut Comparison, random: &mut Random, column: &Column, grou
         let literals = types::literals(column.ty, &values);
         let (expected, expected_count) = scan(column, question, &values);
         let before = random::field(random, rows);
-        let (answer, count, after) = all.ask(part, column.ty, question, &literals, &before);
+        let (answer, count, after) = both.ask(part, column.ty, question, &literals, &before);
         let sound =
             answer == 0 && count == expected_count && after[..needed] == expected[..] && after[needed..] == before[needed..];
-        all.demand(sound, &format!("Ask {question} of a sound body"), &[("body", body), ("literals", &literals)]);
+        both.demand(sound, &format!("Ask {question} of a sound body"), &[("body", body), ("literals", &literals)]);
         last = after;
     }
 
@@ -244,15 +244,15 @@ fn check_column(all: &mut Comparison, random: &mut Random, column: &Column, grou
     let (file, bins) = random::deletion_file(random, rows as u32);
     if let Some(bin) = bins.len().checked_sub(1) {
         let before = random::field(random, rows);
-        let (answer, count, deleted) = all.read_deletions(&file.bytes, bin as u64, rows as u64, &before);
+        let (answer, count, deleted) = both.read_deletions(&file.bytes, bin as u64, rows as u64, &before);
         let expected = field_of(&bins[bin], needed);
         let sound = answer == 0
             && count == bins[bin].len() as u64
             && deleted[..needed] == expected[..]
             && deleted[needed..] == before[needed..];
-        all.demand(sound, "Read deletions of a sound file", &[("file", &file.bytes)]);
+        both.demand(sound, "Read deletions of a sound file", &[("file", &file.bytes)]);
 
-        let (answer, left, removed, after) = all.subtract(&last, &deleted, rows as u64);
+        let (answer, left, removed, after) = both.subtract(&last, &deleted, rows as u64);
         let expected: Vec<u8> = last[..needed].iter().zip(&deleted).map(|(first, second)| first & !second).collect();
         let ones = |bytes: &[u8]| bytes.iter().map(|byte| u64::from(byte.count_ones())).sum::<u64>();
         let sound = answer == 0
@@ -260,7 +260,7 @@ fn check_column(all: &mut Comparison, random: &mut Random, column: &Column, grou
             && after[needed..] == last[needed..]
             && left == ones(&expected)
             && left + removed == ones(&last[..needed]);
-        all.demand(sound, "Subtract", &[("first", &last), ("second", &deleted)]);
+        both.demand(sound, "Subtract", &[("first", &last), ("second", &deleted)]);
     }
 }
 
@@ -279,7 +279,7 @@ fn small_column(random: &mut Random) -> Column {
     random::column_of(random, ty, rows)
 }
 
-fn damaged_body(all: &mut Comparison, random: &mut Random) {
+fn damaged_body(both: &mut Comparison, random: &mut Random) {
     let column = small_column(random);
     let rows = column.cells.len();
     let mut groups = column.groups();
@@ -296,14 +296,14 @@ fn damaged_body(all: &mut Comparison, random: &mut Random) {
         let ty = if random.percent(3) { random.below(14) as u32 } else { column.ty };
         let near = rows + random.below(9);
         let before = random::field_or_short(random, near);
-        all.audit(&body, ty, &before);
+        both.audit(&body, ty, &before);
         let before = random::field_or_short(random, near);
         let (question, values) = random::question(random, &groups);
-        all.ask(&body, ty, question, &types::literals(column.ty, &values), &before);
+        both.ask(&body, ty, question, &types::literals(column.ty, &values), &before);
     }
 }
 
-fn misfit_questions(all: &mut Comparison, random: &mut Random) {
+fn misfit_questions(both: &mut Comparison, random: &mut Random) {
     let column = small_column(random);
     let groups = column.groups();
     let traced = body_traced(&groups, &random::layout(random, &groups));
@@ -311,12 +311,12 @@ fn misfit_questions(all: &mut Comparison, random: &mut Random) {
         let (ty, question, literals) = random::misfit_question(random, &groups);
         let body = if random.percent(70) { traced.bytes.clone() } else { random::damage(random, &traced) };
         let before = random::field_or_short(random, column.cells.len());
-        all.ask(&body, ty, question, &literals, &before);
-        all.audit(&body, ty, &before);
+        both.ask(&body, ty, question, &literals, &before);
+        both.audit(&body, ty, &before);
     }
 }
 
-fn index_files(all: &mut Comparison, random: &mut Random) {
+fn index_files(both: &mut Comparison, random: &mut Random) {
     let (name, kind) = (random::name(random), random::name(random));
     let length = random.below(40);
     let body = random.bytes(length);
@@ -334,26 +334,26 @@ fn index_files(all: &mut Comparison, random: &mut Random) {
         let kind = if random.percent(85) { kind.clone() } else { random::name(random) };
         if random.percent(20) {
             let other = random.bytes(length);
-            all.locate(&file, &other, &name, &kind);
+            both.locate(&file, &other, &name, &kind);
         } else {
-            all.locate(&[], &file, &name, &kind);
+            both.locate(&[], &file, &name, &kind);
         }
     }
 }
 
-fn deletion_files(all: &mut Comparison, random: &mut Random) {
+fn deletion_files(both: &mut Comparison, random: &mut Random) {
     let rows = if random.percent(80) { random.below(300) } else { random::row_count(random) } as u32;
     let (traced, bins) = random::deletion_file(random, rows);
     for bin in 0..=bins.len() {
         let before = random::field_or_short(random, rows as usize);
-        let (answer, count, after) = all.read_deletions(&traced.bytes, bin as u64, u64::from(rows), &before);
+        let (answer, count, after) = both.read_deletions(&traced.bytes, bin as u64, u64::from(rows), &before);
         let needed = rows.div_ceil(8) as usize;
         if let (Some(deleted), true) = (bins.get(bin), before.len() >= needed) {
             let sound = answer == 0
                 && count == deleted.len() as u64
                 && after[..needed] == field_of(deleted, needed)[..]
                 && after[needed..] == before[needed..];
-            all.demand(sound, "Read deletions of a sound file", &[("file", &traced.bytes)]);
+            both.demand(sound, "Read deletions of a sound file", &[("file", &traced.bytes)]);
         }
     }
     for _ in 0..2 {
@@ -361,7 +361,7 @@ fn deletion_files(all: &mut Comparison, random: &mut Random) {
         // As many rows as the highest key can need, as a rule.
         let rows = if random.percent(80) { 16 << 16 } else { random.between(1, 16 << 16) };
         let before = random::field(random, rows);
-        all.read_deletions(&file, 0, rows as u64, &before);
+        both.read_deletions(&file, 0, rows as u64, &before);
     }
     for _ in 0..8 {
         let mut file = random::damage(random, &traced);
@@ -381,11 +381,11 @@ fn deletion_files(all: &mut Comparison, random: &mut Random) {
             _ => u64::from(rows) + random.below(3) as u64,
         };
         let before = random::field_or_short(random, rows as usize + 2);
-        all.read_deletions(&file, bin, asked_rows, &before);
+        both.read_deletions(&file, bin, asked_rows, &before);
     }
 }
 
-fn subtractions(all: &mut Comparison, random: &mut Random) {
+fn subtractions(both: &mut Comparison, random: &mut Random) {
     for _ in 0..6 {
         let rows = random::row_count(random).min(9000);
         let first = random::field_or_short(random, rows);
@@ -395,7 +395,7 @@ fn subtractions(all: &mut Comparison, random: &mut Random) {
             1 => *random.pick(&[MAX, MAX + 1, u64::MAX, u64::MAX - 6, 1 << 32]),
             _ => rows as u64,
         };
-        all.subtract(&first, &second, asked_rows);
+        both.subtract(&first, &second, asked_rows);
     }
 }
 
@@ -406,7 +406,7 @@ fn int(number: i32) -> Vec<u8> {
 }
 
 /// Every cut and every flipped bit of small files of each kind.
-fn every_cut_and_flip(all: &mut Comparison) {
+fn every_cut_and_flip(both: &mut Comparison) {
     let changed = |bytes: &[u8]| {
         let mut all: Vec<Vec<u8>> = (0..=bytes.len()).map(|end| bytes[..end].to_vec()).collect();
         for bit in 0..8 * bytes.len() {
@@ -421,27 +421,27 @@ fn every_cut_and_flip(all: &mut Comparison) {
     for layout in [Layout::version(1), Layout::version(2).with_blocks_of(1), Layout::version(2).with_form(runs)] {
         let whole = body_of(&column, &layout);
         for body in changed(&whole) {
-            all.audit(&body, TINYINT, &[0xA5; 2]);
-            all.ask(&body, TINYINT, NOT_EQUAL, &[7], &[0xA5; 2]);
+            both.audit(&body, TINYINT, &[0xA5; 2]);
+            both.ask(&body, TINYINT, NOT_EQUAL, &[7], &[0xA5; 2]);
         }
         for file in changed(&index_file(&[("s", "bitmap", &whole)])) {
-            all.locate(&[], &file, b"s", b"bitmap");
+            both.locate(&[], &file, b"s", b"bitmap");
         }
     }
     let bitmaps = [bitmap(&[0, 2, 5], &BitmapForm::WithoutRuns), bitmap(&[1, 2, 3, 4, 5, 6], &BitmapForm::Smallest)];
     for mut file in changed(&deletion_file(&bitmaps)) {
-        all.read_deletions(&file, 1, 7, &[0x5A; 2]);
+        both.read_deletions(&file, 1, 7, &[0x5A; 2]);
         fix_checksums(&mut file);
-        all.read_deletions(&file, 1, 7, &[0x5A; 2]);
-        all.read_deletions(&file, 0, 7, &[0x5A; 2]);
+        both.read_deletions(&file, 1, 7, &[0x5A; 2]);
+        both.read_deletions(&file, 0, 7, &[0x5A; 2]);
     }
 }
 
 /// Inputs that break two rules, or keep one narrowly: which answer goes first.
-fn orders(all: &mut Comparison) {
+fn orders(both: &mut Comparison) {
     let mut audit = |body: &[&[u8]], ty: u32, rows: usize, answer: u8| {
         let body = body.concat();
-        let found = all.audit(&body, ty, &vec![0xA5; rows.div_ceil(8)]);
+        let found = both.audit(&body, ty, &vec![0xA5; rows.div_ceil(8)]);
         assert_eq!(found.0, answer, "Audit of {}", hex(&body));
     };
     let (none, one) = (int(0), int(1));
@@ -519,23 +519,23 @@ fn orders(all: &mut Comparison) {
     let string = |length: i32| [&int(length)[..], b"ab"].concat();
     for (length, answer) in [(2, 1), (3, 1), (65535, 1), (65536, 12), (i32::MAX, 12), (-1, 5), (i32::MIN, 5)] {
         let body = [&[1][..], &none, &one, &[0], &string(length)].concat();
-        assert_eq!(all.audit(&body, STRING, &[]).0, answer, "a value of length {length}");
+        assert_eq!(both.audit(&body, STRING, &[]).0, answer, "a value of length {length}");
     }
     for (length, answer) in [(2, 1), (3, 11), (65535, 11), (65536, 12), (i32::MAX, 12), (-1, 11), (i32::MIN, 11), (1, 11)] {
-        assert_eq!(all.ask(&[], STRING, EQUAL, &string(length), &[]).0, answer, "a literal of length {length}");
+        assert_eq!(both.ask(&[], STRING, EQUAL, &string(length), &[]).0, answer, "a literal of length {length}");
     }
 
-    locate_orders(all);
-    deletion_orders(all);
+    locate_orders(both);
+    deletion_orders(both);
 }
 
-fn locate_orders(all: &mut Comparison) {
-    assert_eq!(all.locate(&[], &[], b"s", b"bitmap").0, 1);
+fn locate_orders(both: &mut Comparison) {
+    assert_eq!(both.locate(&[], &[], b"s", b"bitmap").0, 1);
     let none = index_file(&[]);
     assert_eq!(none.len(), 24);
-    assert_eq!(all.locate(&[], &none, b"s", b"bitmap").0, 255);
+    assert_eq!(both.locate(&[], &none, b"s", b"bitmap").0, 255);
     for length in 0..24 {
-        assert_eq!(all.locate(&[], &none[..length], b"s", b"bitmap").0, if length < 16 { 1 } else { 4 });
+        assert_eq!(both.locate(&[], &none[..length], b"s", b"bitmap").0, if length < 16 { 1 } else { 4 });
     }
     let at = |kind: &[u8], start: i32, length: i32| Index { kind: kind.to_vec(), content: Content::At { start, length } };
     let column = |name: &[u8], indexes: &[Index]| IndexedColumn { name: name.to_vec(), indexes: indexes.to_vec() };
@@ -543,7 +543,7 @@ fn locate_orders(all: &mut Comparison) {
     let mut small = |start: i32, length: i32, answer: u8| {
         let layout = FileLayout { tail: vec![1; 5], ..FileLayout::default() };
         let file = index_file_traced(&[column(b"s", &[at(b"bitmap", start, length)])], &layout).bytes;
-        assert_eq!(all.locate(&[], &file, b"s", b"bitmap").0, answer, "start {start}, length {length}");
+        assert_eq!(both.locate(&[], &file, b"s", b"bitmap").0, answer, "start {start}, length {length}");
     };
     for (start, length, answer) in [(47, 5, 0), (47, 0, 0), (52, 0, 0), (46, 1, 4), (46, 0, 4), (53, 0, 4), (47, 6, 4)] {
         small(start, length, answer);
@@ -556,7 +556,7 @@ fn locate_orders(all: &mut Comparison) {
     let index = at(b"bitmap", 0, 0);
     let mut answers = |columns: &[IndexedColumn], answer: u8| {
         let file = index_file_traced(columns, &FileLayout::default()).bytes;
-        assert_eq!(all.locate(&[], &file, b"s", b"bitmap").0, answer);
+        assert_eq!(both.locate(&[], &file, b"s", b"bitmap").0, answer);
     };
     answers(&[column(b"s", &[]), column(b"s", &[])], 4);
     let listed_once = column(b"t", std::slice::from_ref(&index));
@@ -566,7 +566,7 @@ fn locate_orders(all: &mut Comparison) {
     answers(&[column(b"s", &[at(b"bitmap", 200, 0), index])], 4);
 }
 
-fn deletion_orders(all: &mut Comparison) {
+fn deletion_orders(both: &mut Comparison) {
     let one = deletion_file(&[bitmap(&[1], &BitmapForm::WithoutRuns)]);
     let with = |more: &[u8]| [&one[..], more].concat();
     let mut wrong_magic = one.clone();
@@ -594,18 +594,18 @@ fn deletion_orders(all: &mut Comparison) {
         (wrong_magic, 0, 2, 1, 2),
         (one[..one.len() - 1].to_vec(), 0, 2, 1, 1),
     ] {
-        let found = all.read_deletions(&file, bin, rows, &vec![0xA5; length]);
+        let found = both.read_deletions(&file, bin, rows, &vec![0xA5; length]);
         assert_eq!(found.0, answer, "bin {bin} for {rows} rows of {}", hex(&file));
     }
     // A bin of its magic alone has no bitmap; one with a byte behind its bitmap isn't filled by it.
     let bare = deletion_file(&[Vec::new()]);
-    assert_eq!(all.read_deletions(&bare, 0, 2, &[0xA5]).0, 6);
+    assert_eq!(both.read_deletions(&bare, 0, 2, &[0xA5]).0, 6);
     let longer = deletion_file(&[[&bitmap(&[1], &BitmapForm::WithoutRuns)[..], &[0]].concat()]);
-    assert_eq!(all.read_deletions(&longer, 0, 2, &[0xA5]).0, 6);
+    assert_eq!(both.read_deletions(&longer, 0, 2, &[0xA5]).0, 6);
 }
 
 /// Bitmaps that keep all rules but one, or keep one narrowly, without offsets: cookie 12347 and one or two containers.
-fn bitmap_rules(all: &mut Comparison) {
+fn bitmap_rules(both: &mut Comparison) {
     let pair = |number: u16| number.to_le_bytes();
     let numbers = |numbers: &[u16]| numbers.iter().flat_map(|number| pair(*number)).collect::<Vec<u8>>();
     // Key and cardinality less 1 of each container, flags, and the containers.
@@ -634,13 +634,13 @@ fn bitmap_rules(all: &mut Comparison) {
         let count = headers.len() as u16 / 2;
         let bitmap = [&pair(12347)[..], &pair(count - 1), &[flags], &numbers(headers), &numbers(containers)].concat();
         let file = deletion_file(&[bitmap]);
-        let found = all.read_deletions(&file, 0, 2 << 16, &[0xA5; 16384]);
+        let found = both.read_deletions(&file, 0, 2 << 16, &[0xA5; 16384]);
         assert_eq!(found.0, answer, "the file {}", hex(&file));
     }
 }
 
 /// Numbers of values, blocks, literals and bytes of strings and names at and past their limits.
-fn limits(all: &mut Comparison, random: &mut Random) {
+fn limits(both: &mut Comparison, random: &mut Random) {
     let numbers = |count: i32| Column::new(INT, (0..count).map(|number| Some(int(7 * number - 100_000))).collect());
     for (version, most) in [(1, 4096), (2, 65536)] {
         let column = numbers(most);
@@ -651,15 +651,15 @@ fn limits(all: &mut Comparison, random: &mut Random) {
             for question in [EQUAL, NOT_EQUAL] {
                 let literal = &groups.values[most as usize - 1].0;
                 let (expected, count) = scan(&column, question, &[literal]);
-                let found = all.ask(&body, INT, question, literal, &field);
+                let found = both.ask(&body, INT, question, literal, &field);
                 let sound = found.0 == 0 && found.1 == count && found.2[..expected.len()] == expected[..];
-                all.demand(sound, "Ask of the most values", &[("body", &body)]);
+                both.demand(sound, "Ask of the most values", &[("body", &body)]);
             }
-            assert_eq!(all.audit(&body, INT, &field).0, 0);
+            assert_eq!(both.audit(&body, INT, &field).0, 0);
         }
         let body = body_of(&numbers(most + 1), &Layout::version(version).with_blocks_of(3));
         let field = random::field(random, most as usize + 1);
-        assert_eq!(all.audit(&body, INT, &field).0, 12);
+        assert_eq!(both.audit(&body, INT, &field).0, 12);
     }
     // 65,537 blocks; LIMIT goes before DICT, so the value number may be wrong too.
     for values in [0, 1, 65536] {
@@ -667,7 +667,7 @@ fn limits(all: &mut Comparison, random: &mut Random) {
         body.extend(int(values));
         body.push(0);
         body.extend(int(65537));
-        assert_eq!(all.audit(&body, INT, &[]).0, 12);
+        assert_eq!(both.audit(&body, INT, &[]).0, 12);
     }
 
     for (length, answer) in [(65535, 0), (65536, 12)] {
@@ -675,9 +675,9 @@ fn limits(all: &mut Comparison, random: &mut Random) {
         let column = Column::new(STRING, vec![Some(text.clone()), None]);
         for version in [1, 2] {
             let body = body_of(&column, &Layout::version(version));
-            assert_eq!(all.audit(&body, STRING, &[0xFF]).0, answer);
+            assert_eq!(both.audit(&body, STRING, &[0xFF]).0, answer);
             let literals = types::literals(STRING, &[&text]);
-            assert_eq!(all.ask(&body, STRING, EQUAL, &literals, &[0xFF]).0, answer);
+            assert_eq!(both.ask(&body, STRING, EQUAL, &literals, &[0xFF]).0, answer);
         }
     }
 
@@ -685,25 +685,25 @@ fn limits(all: &mut Comparison, random: &mut Random) {
     for (count, question, answer) in
         [(1024, IN, 0), (1024, EQUAL, 11), (1025, IN, 12), (1025, EQUAL, 12), (1025, IS_NULL, 12), (1024, IS_NULL, 11)]
     {
-        assert_eq!(all.ask(&body, BOOLEAN, question, &vec![1; count], &[0xFF]).0, answer);
+        assert_eq!(both.ask(&body, BOOLEAN, question, &vec![1; count], &[0xFF]).0, answer);
     }
     let mut literals = vec![1; 1024];
     literals.push(9);
-    assert_eq!(all.ask(&body, BOOLEAN, IN, &literals, &[0xFF]).0, 12);
+    assert_eq!(both.ask(&body, BOOLEAN, IN, &literals, &[0xFF]).0, 12);
     literals[1023] = 9;
-    assert_eq!(all.ask(&body, BOOLEAN, IN, &literals, &[0xFF]).0, 11);
+    assert_eq!(both.ask(&body, BOOLEAN, IN, &literals, &[0xFF]).0, 11);
 
     // A name of the most bytes is found; a longer asked name matches nothing.
     let long = "n".repeat(65535);
     let file = index_file(&[(&long, &long, b"body")]);
-    assert_eq!(all.locate(&[], &file, long.as_bytes(), long.as_bytes()).0, 0);
+    assert_eq!(both.locate(&[], &file, long.as_bytes(), long.as_bytes()).0, 0);
     let longer = "n".repeat(65536);
-    assert_eq!(all.locate(&[], &file, longer.as_bytes(), long.as_bytes()).0, 255);
-    assert_eq!(all.locate(&[], &file, long.as_bytes(), longer.as_bytes()).0, 255);
+    assert_eq!(both.locate(&[], &file, longer.as_bytes(), long.as_bytes()).0, 255);
+    assert_eq!(both.locate(&[], &file, long.as_bytes(), longer.as_bytes()).0, 255);
 }
 
 /// Bitmaps of 65,536 containers, of 65,535 runs in one, and at the edges of containers.
-fn containers(all: &mut Comparison, random: &mut Random) {
+fn containers(both: &mut Comparison, random: &mut Random) {
     let edges: Vec<u32> = (0..20).flat_map(|key| [key << 16, (key << 16) + 65535]).collect();
     let full: Vec<u32> = (0..65536).collect();
     let nearly_all_cuts: Vec<u16> = (1..=65535).filter(|row| *row != 77).collect();
@@ -720,22 +720,22 @@ fn containers(all: &mut Comparison, random: &mut Random) {
         let last = u64::from(*rows.last().expect("rows"));
         let file = deletion_file(&[bitmap(&rows, &form)]);
         let field = random::field(random, last as usize + 1);
-        let (answer, count, after) = all.read_deletions(&file, 0, last + 1, &field);
+        let (answer, count, after) = both.read_deletions(&file, 0, last + 1, &field);
         let expected = field_of(&rows, (last as usize + 1).div_ceil(8));
         let sound = answer == 0 && count == rows.len() as u64 && after[..expected.len()] == expected[..];
-        all.demand(sound, "Read deletions", &[("file", &file)]);
-        assert_eq!(all.read_deletions(&file, 0, last, &field).0, 7);
+        both.demand(sound, "Read deletions", &[("file", &file)]);
+        assert_eq!(both.read_deletions(&file, 0, last, &field).0, 7);
     }
     // The last key of all holds rows past every row count.
     let every_key: Vec<u32> = (0..65536).map(|key| key << 16).collect();
     for form in [BitmapForm::WithoutRuns, BitmapForm::WithRuns(Vec::new())] {
         let file = deletion_file(&[bitmap(&every_key, &form)]);
-        assert_eq!(all.read_deletions(&file, 0, 100, &[0xFF; 13]).0, 7);
+        assert_eq!(both.read_deletions(&file, 0, 100, &[0xFF; 13]).0, 7);
     }
 }
 
 /// A value without rows whose bitmap lies inside the bits of another value's.
-fn bitmap_inside_bits(all: &mut Comparison, random: &mut Random) {
+fn bitmap_inside_bits(both: &mut Comparison, random: &mut Random) {
     let empty = bitmap(&[], &BitmapForm::WithoutRuns);
     for at in [1, 100, 4097, 8192 - empty.len()] {
         let mut bits = vec![0xFF; 8192];
@@ -753,13 +753,13 @@ fn bitmap_inside_bits(all: &mut Comparison, random: &mut Random) {
             let whole = body(&groups, &layout);
             let apart = body(&groups, &Layout::version(version));
             assert_eq!(whole.len() + empty.len(), apart.len(), "the empty bitmap has bytes of its own");
-            check_column(all, random, &column, &groups, &whole);
+            check_column(both, random, &column, &groups, &whole);
         }
     }
 }
 
 /// The most rows: every row in one run per container.
-fn most_rows(all: &mut Comparison) {
+fn most_rows(both: &mut Comparison) {
     let containers = 32768u32;
     // Written by hand, since a list of the rows would take gigabytes.
     let mut all_rows = (12347 | (containers - 1) << 16).to_le_bytes().to_vec();
@@ -798,22 +798,22 @@ fn most_rows(all: &mut Comparison) {
     };
     let found = raw::audit(&body, INT, field);
     let expected = reader::audit(&body, INT, &mut plain_field);
-    compare(&mut all.tally, AUDIT, found, expected, (0, MAX), *field == *plain_field);
+    compare(&mut both.tally, AUDIT, found, expected, (0, MAX), *field == *plain_field);
     let found = raw::ask(&body, INT, NOT_IN, &int(6), field);
     let expected = reader::ask(&body, INT, NOT_IN, &int(6), &mut plain_field);
-    compare(&mut all.tally, ASK, found, expected, (0, MAX - 1), *field == *plain_field);
+    compare(&mut both.tally, ASK, found, expected, (0, MAX - 1), *field == *plain_field);
     let found = raw::read_deletions(&file, 0, MAX, field);
     let expected = reader::read_deletions(&file, 0, MAX, &mut plain_field);
-    compare(&mut all.tally, READ_DELETIONS, found, expected, (0, MAX - 1), *field == *plain_field);
+    compare(&mut both.tally, READ_DELETIONS, found, expected, (0, MAX - 1), *field == *plain_field);
     // The plain reader's field is the library's second field, so that a third of this size isn't needed.
     let found = raw::subtract(field, &plain_field, MAX);
     assert_eq!(found, (0, 0, MAX - 1));
     assert!(field.iter().all(|byte| *byte == 0));
-    all.tally.add(SUBTRACT, found.0);
+    both.tally.add(SUBTRACT, found.0);
 }
 
 /// Buffers past the limit are refused before anything else; they are only mapped, not filled.
-fn buffers_past_the_limit(all: &mut Comparison) {
+fn buffers_past_the_limit(both: &mut Comparison) {
     let mut long = Lender::guarded();
     let long = &*long.lend_anything(MAX as usize + 1);
     let mut field = [0xA5; 2];
@@ -834,26 +834,26 @@ fn buffers_past_the_limit(all: &mut Comparison) {
         let found: Triple = raw::locate(embedded, file, column, kind);
         assert_eq!(found, reader::locate(embedded, file, column, kind));
         assert_eq!(found.0, if i == 5 { 0 } else { 12 });
-        all.tally.add(LOCATE, found.0);
+        both.tally.add(LOCATE, found.0);
     }
     for ty in [TINYINT, 99] {
         assert_eq!(raw::audit(long, ty, &mut field), (12, 0));
         assert_eq!(reader::audit(long, ty, &mut field), (12, 0));
-        all.tally.add(AUDIT, 12);
+        both.tally.add(AUDIT, 12);
         for (body, literals) in [(long, &[7][..]), (&small, long), (&[], long)] {
             assert_eq!(raw::ask(body, ty, 99, literals, &mut field), (12, 0));
             assert_eq!(reader::ask(body, ty, 99, literals, &mut field), (12, 0));
-            all.tally.add(ASK, 12);
+            both.tally.add(ASK, 12);
         }
     }
     assert_eq!(raw::read_deletions(long, 0, 8, &mut field), (12, 0));
     assert_eq!(reader::read_deletions(long, 0, 8, &mut field), (12, 0));
-    all.tally.add(READ_DELETIONS, 12);
+    both.tally.add(READ_DELETIONS, 12);
     assert_eq!(field, [0xA5; 2], "a field was changed by LIMIT");
     // Row fields may be longer than any input buffer.
     assert_eq!(raw::subtract(&mut field, long, 16), (0, 8, 0));
     assert_eq!(reader::subtract(&mut field, long, 16), (0, 8, 0));
-    all.tally.add(SUBTRACT, 0);
+    both.tally.add(SUBTRACT, 0);
 }
 
 #[test]
@@ -862,42 +862,42 @@ fn library_and_plain_reader_agree() {
     let first_seed = asked_seed.unwrap_or(DEFAULT_SEED);
     let cases = number_from_environment("PODDURANCE_CASES").unwrap_or(DEFAULT_CASES);
     let alone = cases == 1;
-    let mut all = Comparison::new();
+    let mut both = Comparison::new();
     let mut fixed = 0;
     if !alone {
         let random = &mut Random::new(first_seed);
-        every_cut_and_flip(&mut all);
-        orders(&mut all);
-        bitmap_rules(&mut all);
-        limits(&mut all, random);
-        containers(&mut all, random);
-        bitmap_inside_bits(&mut all, random);
-        most_rows(&mut all);
-        buffers_past_the_limit(&mut all);
-        fixed = all.tally.calls();
+        every_cut_and_flip(&mut both);
+        orders(&mut both);
+        bitmap_rules(&mut both);
+        limits(&mut both, random);
+        containers(&mut both, random);
+        bitmap_inside_bits(&mut both, random);
+        most_rows(&mut both);
+        buffers_past_the_limit(&mut both);
+        fixed = both.tally.calls();
     }
 
     let mut seed = first_seed;
     loop {
-        all.seed = Some(seed);
-        round(&mut all, &mut Random::new(seed));
-        if all.tally.calls() - fixed >= cases {
+        both.seed = Some(seed);
+        round(&mut both, &mut Random::new(seed));
+        if both.tally.calls() - fixed >= cases {
             break;
         }
         seed = seed.wrapping_add(1);
     }
 
-    let calls = all.tally.calls();
-    let accepted = all.tally.accepted();
+    let calls = both.tally.calls();
+    let accepted = both.tally.accepted();
     say(&format!(
         "\n{calls} calls of library and plain reader agree ({fixed} of them fixed); seeds {first_seed} to {seed}; \
          {}% accepted\n{}",
         100 * accepted / calls,
-        all.tally.table()
+        both.tally.table()
     ));
     for (call, possible) in POSSIBLE.iter().enumerate() {
         for answer in 0..=255 {
-            let count = all.tally.of(call, answer);
+            let count = both.tally.of(call, answer);
             let name = CALLS[call];
             assert!(count == 0 || possible.contains(&answer), "{name} can't give the answer {answer}");
             if cases >= DEFAULT_CASES {
