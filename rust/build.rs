@@ -1,0 +1,113 @@
+//! Links the archive that `rt staticlib poddurance` writes, and has it written first if it is missing or older than the sources.
+
+use std::ffi::OsStr;
+use std::fs::{self, OpenOptions};
+use std::io::{self, Write};
+use std::os::fd::AsFd;
+use std::path::{Path, PathBuf};
+use std::process::{exit, Command, Stdio};
+use std::time::SystemTime;
+
+fn main() {
+    if let Err(reason) = run() {
+        eprintln!("poddurance: {reason}");
+        exit(1);
+    }
+}
+
+fn run() -> Result<(), String> {
+    check_target()?;
+    let manifest = std::env::var_os("CARGO_MANIFEST_DIR").ok_or("cargo gives no CARGO_MANIFEST_DIR")?;
+    let root = Path::new(&manifest).parent().ok_or("the crate stands in no repository")?.to_path_buf();
+    let folder = root.join("target").join("staticlib");
+    let archive = folder.join("libpoddurance.a");
+
+    let sources = sources(&root)?;
+    for path in sources.iter().chain([&archive]) {
+        println!("cargo:rerun-if-changed={}", path.display());
+    }
+
+    let newest = sources.iter().filter_map(|path| newest_in(path)).max().ok_or("there are no sources under crates/")?;
+    match changed(&archive) {
+        None => make(&root, &archive, "is missing")?,
+        Some(made) if made < newest => make(&root, &archive, "is older than the sources")?,
+        Some(_) => {}
+    }
+
+    println!("cargo:rustc-link-search=native={}", folder.display());
+    println!("cargo:rustc-link-lib=static=poddurance");
+    Ok(())
+}
+
+/// The archive holds machine code for one kind of machine; elsewhere the linker's message would say nothing.
+fn check_target() -> Result<(), String> {
+    let of = |name: &str| std::env::var(name).unwrap_or_default();
+    let (machine, system) = (of("CARGO_CFG_TARGET_ARCH"), of("CARGO_CFG_TARGET_OS"));
+    if (machine.as_str(), system.as_str()) != ("x86_64", "linux") {
+        return Err(format!("rt staticlib makes an archive for x86-64 Linux alone, and this is {machine} {system}"));
+    }
+    Ok(())
+}
+
+/// What the archive is made from: the list of crates, and of each crate what is compiled and proved. Must-fail edits and the
+/// output that programs are held to are not part of it.
+fn sources(root: &Path) -> Result<Vec<PathBuf>, String> {
+    let crates = root.join("crates");
+    let entries = fs::read_dir(&crates).map_err(|e| format!("can't read {}: {e}", crates.display()))?;
+    let mut paths = vec![root.join("crates.txt")];
+    for entry in entries {
+        let one = entry.map_err(|e| format!("can't read {}: {e}", crates.display()))?.path();
+        paths.extend(["src", "specs", "proofs"].map(|part| one.join(part)).into_iter().filter(|path| path.is_dir()));
+    }
+    paths.sort();
+    Ok(paths)
+}
+
+/// The latest change of a file, or of anything in a folder. The folder's own change counts too: a file that is removed or moved
+/// there changes nothing else.
+fn newest_in(path: &Path) -> Option<SystemTime> {
+    let inside = fs::read_dir(path).into_iter().flatten().flatten().filter_map(|entry| newest_in(&entry.path()));
+    inside.chain(changed(path)).max()
+}
+
+fn changed(path: &Path) -> Option<SystemTime> {
+    fs::metadata(path).and_then(|data| data.modified()).ok()
+}
+
+fn make(root: &Path, archive: &Path, why: &str) -> Result<(), String> {
+    say(&format!(
+        "target/staticlib/libpoddurance.a {why}: running 'rt staticlib poddurance', which proves every crate and takes minutes"
+    ));
+    // Cargo reads this script's standard output for its own words, so what rt prints goes to standard error.
+    let stdout = io::stderr().as_fd().try_clone_to_owned().map_err(|e| format!("can't hand standard error to rt: {e}"))?;
+    let status = Command::new("rt")
+        .args(["staticlib", "poddurance"].map(OsStr::new))
+        .current_dir(root)
+        .stdin(Stdio::null())
+        .stdout(Stdio::from(stdout))
+        .status()
+        .map_err(|e| match e.kind() {
+            io::ErrorKind::NotFound => format!(
+                "target/staticlib/libpoddurance.a {why}, and 'rt', which makes it, is not on the path; \
+                 install the Rattle kit and put its folder with 'rt' on PATH"
+            ),
+            _ => format!("can't run rt: {e}"),
+        })?;
+    if !status.success() {
+        return Err(format!("'rt staticlib poddurance' failed: {status}; its output is above"));
+    }
+    if !archive.is_file() {
+        return Err("'rt staticlib poddurance' ended well but wrote no target/staticlib/libpoddurance.a".to_string());
+    }
+    say("the archive is made");
+    Ok(())
+}
+
+/// Cargo hides what a build script prints until it ends, so the line goes to the terminal too, if there is one.
+fn say(line: &str) {
+    println!("cargo:warning={line}");
+    if let Ok(mut terminal) = OpenOptions::new().write(true).open("/dev/tty") {
+        // A terminal that takes no line is no reason to stop the build.
+        let _ = writeln!(terminal, "poddurance: {line}");
+    }
+}

@@ -1,0 +1,605 @@
+//! The five calls: Locate, Audit, Ask, Read deletions and Subtract.
+//!
+//! Each answers a number first: 0 accepted, 255 ABSENT (Locate alone), otherwise a refusal's number. Counts, start and
+//! length are 0 with any answer but 0.
+
+use std::cmp::Ordering;
+use std::collections::HashSet;
+
+use crate::crc32::crc32;
+use crate::roaring::{count_ones, Bitmap};
+use crate::types::{self, Width};
+
+pub const ACCEPTED: u8 = 0;
+pub const ABSENT: u8 = 255;
+
+/// Why a call refused, with its number.
+#[derive(Clone, Copy, Debug, PartialEq, Eq)]
+#[repr(u8)]
+pub enum Refusal {
+    Short = 1,
+    Magic = 2,
+    Version = 3,
+    Head = 4,
+    Dict = 5,
+    Bitmap = 6,
+    Range = 7,
+    Twice = 8,
+    Missing = 9,
+    Room = 10,
+    Literal = 11,
+    Limit = 12,
+    Checksum = 13,
+    NoBin = 14,
+}
+
+/// The most bytes of an input buffer, and the most rows.
+const MAX: u64 = 2_147_483_647;
+const MAX_VALUES_V1: i32 = 4_096;
+const MAX_VALUES_V2: i32 = 65_536;
+const MAX_BLOCKS: i32 = 65_536;
+const MAX_STRING: i32 = 65_535;
+const MAX_LITERALS: usize = 1_024;
+
+const INDEX_MAGIC: u64 = 1_493_475_289_347_502;
+const INDEX_VERSION: u32 = 1;
+/// Magic, version, head length, column number and redundant length.
+const SHORTEST_HEAD: usize = 24;
+
+const DELETION_VERSION: u8 = 1;
+const BIN_MAGIC: u32 = 1_581_511_376;
+
+/// Finds the index of kind `kind` on column `column`: answer, start and length in the buffer that was looked at.
+pub fn locate(embedded: &[u8], file: &[u8], column: &[u8], kind: &[u8]) -> (u8, u64, u64) {
+    let file = if embedded.is_empty() { file } else { embedded };
+    match locate_in(file, column, kind) {
+        Ok(Some((start, length))) => (ACCEPTED, start as u64, length as u64),
+        Ok(None) => (ABSENT, 0, 0),
+        Err(refusal) => (refusal as u8, 0, 0),
+    }
+}
+
+/// Whether the body gives every row exactly one place: answer and row count. The field is left zero from ROOM on.
+pub fn audit(body: &[u8], ty: u32, field: &mut [u8]) -> (u8, u64) {
+    counted(try_audit(body, ty, field))
+}
+
+/// Audits the body and sets the rows that the question chooses: answer and their count.
+pub fn ask(body: &[u8], ty: u32, question: u32, literals: &[u8], field: &mut [u8]) -> (u8, u64) {
+    counted(try_ask(body, ty, question, literals, field))
+}
+
+/// Sets the rows of one bin of a deletion file: answer and their count.
+pub fn read_deletions(file: &[u8], bin: u64, rows: u64, field: &mut [u8]) -> (u8, u64) {
+    counted(try_read_deletions(file, bin, rows, field))
+}
+
+/// Clears in `first` each row below `rows` set in `second`: answer, rows left and rows removed.
+pub fn subtract(first: &mut [u8], second: &[u8], rows: u64) -> (u8, u64, u64) {
+    match try_subtract(first, second, rows) {
+        Ok((left, removed)) => (ACCEPTED, left, removed),
+        Err(refusal) => (refusal as u8, 0, 0),
+    }
+}
+
+fn counted(result: Result<u64, Refusal>) -> (u8, u64) {
+    match result {
+        Ok(count) => (ACCEPTED, count),
+        Err(refusal) => (refusal as u8, 0),
+    }
+}
+
+fn within_limit(buffer: &[u8]) -> Result<(), Refusal> {
+    if buffer.len() as u64 > MAX {
+        return Err(Refusal::Limit);
+    }
+    Ok(())
+}
+
+/// The field for that many rows, cut from a lent buffer.
+fn field_for(rows: u64, buffer: &mut [u8]) -> Result<&mut [u8], Refusal> {
+    buffer.get_mut(..rows.div_ceil(8) as usize).ok_or(Refusal::Room)
+}
+
+// Locate
+
+fn locate_in(file: &[u8], column: &[u8], kind: &[u8]) -> Result<Option<(usize, usize)>, Refusal> {
+    for buffer in [file, column, kind] {
+        within_limit(buffer)?;
+    }
+    if file.len() < 16 {
+        return Err(Refusal::Short);
+    }
+    let mut input = Input::new(file);
+    if input.u64()? != INDEX_MAGIC {
+        return Err(Refusal::Magic);
+    }
+    if input.u32()? != INDEX_VERSION {
+        return Err(Refusal::Version);
+    }
+    let head_length = input.i32()?;
+    let head = usize::try_from(head_length)
+        .ok()
+        .filter(|length| *length >= SHORTEST_HEAD)
+        .and_then(|length| file.get(..length))
+        .ok_or(Refusal::Head)?;
+    let asked = asked_entry(head, column, kind).ok_or(Refusal::Head)?;
+
+    // The whole head is right; only now the asked entry's place counts.
+    let Some((start, length)) = asked else {
+        return Ok(None);
+    };
+    let (Ok(start), Ok(length)) = (usize::try_from(start), usize::try_from(length)) else {
+        return Err(Refusal::Head);
+    };
+    if start < head.len() || start + length > file.len() {
+        return Err(Refusal::Head);
+    }
+    Ok(Some((start, length)))
+}
+
+type Place = (i32, i32);
+
+/// Walks the whole head and gives the asked entry's start and length if it is listed. Nothing where a rule is broken.
+fn asked_entry(head: &[u8], column: &[u8], kind: &[u8]) -> Option<Option<Place>> {
+    let mut input = Input { bytes: head, at: 16 };
+    let mut column_seen = false;
+    let mut place = None;
+    let columns = input.count().ok()?;
+    for _ in 0..columns {
+        let is_column = input.name().ok()? == column;
+        if is_column && column_seen {
+            return None;
+        }
+        column_seen |= is_column;
+        let indexes = input.count().ok()?;
+        for _ in 0..indexes {
+            let is_kind = input.name().ok()? == kind;
+            let start = input.i32().ok()?;
+            let length = input.i32().ok()?;
+            if is_column && is_kind {
+                if place.is_some() {
+                    return None;
+                }
+                place = Some((start, length));
+            }
+        }
+    }
+    let redundant = input.count().ok()?;
+    input.take(redundant).ok()?;
+    (input.at == head.len()).then_some(place)
+}
+
+// Audit and Ask
+
+fn try_audit(body: &[u8], ty: u32, buffer: &mut [u8]) -> Result<u64, Refusal> {
+    within_limit(body)?;
+    let width = types::width(ty).ok_or(Refusal::Literal)?;
+    let dictionary = Dictionary::read(body, ty, width)?;
+    let field = field_for(dictionary.rows, buffer)?;
+    let result = dictionary.place_all(field, |_| false);
+    field.fill(0);
+    result.map(|_| dictionary.rows)
+}
+
+fn try_ask(body: &[u8], ty: u32, question: u32, literals: &[u8], buffer: &mut [u8]) -> Result<u64, Refusal> {
+    within_limit(body)?;
+    within_limit(literals)?;
+    let width = types::width(ty).ok_or(Refusal::Literal)?;
+    if question > types::IS_NOT_NULL {
+        return Err(Refusal::Literal);
+    }
+    let literals = read_literals(literals, ty, width)?;
+    let fits = match question {
+        types::EQUAL | types::NOT_EQUAL => literals.len() == 1,
+        types::IN | types::NOT_IN => true,
+        _ => literals.is_empty(),
+    };
+    if !fits {
+        return Err(Refusal::Literal);
+    }
+
+    let dictionary = Dictionary::read(body, ty, width)?;
+    let rows = dictionary.rows;
+    let field = field_for(rows, buffer)?;
+    let about_null = matches!(question, types::IS_NULL | types::IS_NOT_NULL);
+    let literals: HashSet<&[u8]> = literals.into_iter().collect();
+    let chosen = dictionary.place_all(field, |entry| match entry.value {
+        None => about_null,
+        Some(value) => !about_null && literals.contains(value),
+    });
+    field.fill(0);
+    for rows in chosen? {
+        rows.place(field);
+    }
+    if matches!(question, types::NOT_EQUAL | types::NOT_IN | types::IS_NOT_NULL) {
+        flip(field, rows);
+    }
+    Ok(count_ones(field))
+}
+
+/// Flips every row and leaves the spare bits of the last byte 0.
+fn flip(field: &mut [u8], rows: u64) {
+    for byte in field.iter_mut() {
+        *byte = !*byte;
+    }
+    let used = rows % 8;
+    if let (1.., Some(last)) = (used, field.last_mut()) {
+        *last &= 0xFF >> (8 - used);
+    }
+}
+
+fn read_literals(bytes: &[u8], ty: u32, width: Width) -> Result<Vec<&[u8]>, Refusal> {
+    let mut input = Input::new(bytes);
+    let mut literals = Vec::new();
+    while !input.is_empty() {
+        if literals.len() == MAX_LITERALS {
+            return Err(Refusal::Limit);
+        }
+        let literal = input.value(ty, width).map_err(|refusal| match refusal {
+            Refusal::Limit => Refusal::Limit,
+            _ => Refusal::Literal,
+        })?;
+        literals.push(literal);
+    }
+    Ok(literals)
+}
+
+/// What a body says before its bitmaps.
+struct Dictionary<'a> {
+    rows: u64,
+    /// Null's entry first, if there is one, then the values in stored order.
+    entries: Vec<Entry<'a>>,
+    bitmaps: &'a [u8],
+}
+
+struct Entry<'a> {
+    /// Nothing for null.
+    value: Option<&'a [u8]>,
+    offset: i32,
+    length: i32,
+}
+
+/// A stored length that says: as long as the bitmap is.
+const OPEN_LENGTH: i32 = -1;
+
+impl<'a> Dictionary<'a> {
+    fn read(body: &'a [u8], ty: u32, width: Width) -> Result<Dictionary<'a>, Refusal> {
+        let mut input = Input::new(body);
+        let version = input.u8()?;
+        let max_values = match version {
+            1 => MAX_VALUES_V1,
+            2 => MAX_VALUES_V2,
+            _ => return Err(Refusal::Version),
+        };
+        let rows = input.count()? as u64;
+        let values = input.count_up_to(max_values)?;
+        let has_null = match input.u8()? {
+            0 => false,
+            1 => true,
+            _ => return Err(Refusal::Dict),
+        };
+        let mut entries = Vec::new();
+        if has_null {
+            let offset = input.i32()?;
+            let length = if version == 2 { input.i32()? } else { OPEN_LENGTH };
+            entries.push(Entry { value: None, offset, length });
+        }
+        if version == 1 {
+            read_entries_v1(&mut input, ty, width, values, &mut entries)?;
+        } else {
+            read_entries_v2(&mut input, ty, width, values, &mut entries)?;
+        }
+        Ok(Dictionary { rows, entries, bitmaps: input.rest() })
+    }
+
+    /// Gives every row its place in the field, and hands back the rows of the entries that were asked for.
+    fn place_all(&self, field: &mut [u8], wanted: impl Fn(&Entry) -> bool) -> Result<Vec<EntryRows<'a>>, Refusal> {
+        field.fill(0);
+        let mut kept = Vec::new();
+        let mut placed = 0;
+        for entry in &self.entries {
+            let rows = self.entry_rows(entry)?;
+            if rows.last().is_some_and(|last| u64::from(last) >= self.rows) {
+                return Err(Refusal::Range);
+            }
+            if !rows.place(field) {
+                return Err(Refusal::Twice);
+            }
+            placed += rows.count();
+            if wanted(entry) {
+                kept.push(rows);
+            }
+        }
+        // No row is outside the field and none is there twice, so the number tells whether one is missing.
+        if placed != self.rows {
+            return Err(Refusal::Missing);
+        }
+        Ok(kept)
+    }
+
+    fn entry_rows(&self, entry: &Entry) -> Result<EntryRows<'a>, Refusal> {
+        let Ok(offset) = usize::try_from(entry.offset) else {
+            return Ok(EntryRows::One((-1 - entry.offset) as u32));
+        };
+        let bytes = self.bitmaps.get(offset..).ok_or(Refusal::Bitmap)?;
+        let bitmap = Bitmap::parse(bytes).ok_or(Refusal::Bitmap)?;
+        if entry.length != OPEN_LENGTH && usize::try_from(entry.length) != Ok(bitmap.size()) {
+            return Err(Refusal::Bitmap);
+        }
+        Ok(EntryRows::Many(bitmap))
+    }
+}
+
+/// The rows of one entry.
+enum EntryRows<'a> {
+    One(u32),
+    Many(Bitmap<'a>),
+}
+
+impl EntryRows<'_> {
+    fn last(&self) -> Option<u32> {
+        match self {
+            EntryRows::One(row) => Some(*row),
+            EntryRows::Many(bitmap) => bitmap.last_row(),
+        }
+    }
+
+    fn count(&self) -> u64 {
+        match self {
+            EntryRows::One(_) => 1,
+            EntryRows::Many(bitmap) => bitmap.cardinality(),
+        }
+    }
+
+    /// Sets the rows in the field and answers whether none of them was set before.
+    fn place(&self, field: &mut [u8]) -> bool {
+        match self {
+            EntryRows::One(row) => {
+                let byte = &mut field[*row as usize / 8];
+                let bit = 1 << (row % 8);
+                let free = *byte & bit == 0;
+                *byte |= bit;
+                free
+            }
+            EntryRows::Many(bitmap) => bitmap.place(field),
+        }
+    }
+}
+
+fn read_entries_v1<'a>(
+    input: &mut Input<'a>,
+    ty: u32,
+    width: Width,
+    values: usize,
+    entries: &mut Vec<Entry<'a>>,
+) -> Result<(), Refusal> {
+    let mut seen = HashSet::with_capacity(values);
+    entries.reserve(values);
+    for _ in 0..values {
+        let value = input.value(ty, width)?;
+        if !seen.insert(value) {
+            return Err(Refusal::Dict);
+        }
+        entries.push(Entry { value: Some(value), offset: input.i32()?, length: OPEN_LENGTH });
+    }
+    Ok(())
+}
+
+fn read_entries_v2<'a>(
+    input: &mut Input<'a>,
+    ty: u32,
+    width: Width,
+    values: usize,
+    entries: &mut Vec<Entry<'a>>,
+) -> Result<(), Refusal> {
+    let blocks = input.count_up_to(MAX_BLOCKS)?;
+    if (blocks == 0) != (values == 0) {
+        return Err(Refusal::Dict);
+    }
+    let mut directory = Vec::with_capacity(blocks);
+    for _ in 0..blocks {
+        directory.push((input.value(ty, width)?, input.i32()?));
+    }
+    let bitmaps_offset = input.i32()?;
+
+    let blocks_start = input.at;
+    let is_here = |offset: i32, input: &Input| usize::try_from(offset) == Ok(input.at - blocks_start);
+    let mut total = 0;
+    let mut previous: Option<&[u8]> = None;
+    entries.reserve(values);
+    for (first, offset) in directory {
+        if !is_here(offset, input) {
+            return Err(Refusal::Dict);
+        }
+        let count = input.count()?;
+        if count == 0 {
+            return Err(Refusal::Dict);
+        }
+        total += count;
+        for i in 0..count {
+            let value = input.value(ty, width)?;
+            if i == 0 && value != first {
+                return Err(Refusal::Dict);
+            }
+            if previous.is_some_and(|previous| types::compare(ty, previous, value) != Ordering::Less) {
+                return Err(Refusal::Dict);
+            }
+            previous = Some(value);
+            entries.push(Entry { value: Some(value), offset: input.i32()?, length: input.i32()? });
+        }
+    }
+    if !is_here(bitmaps_offset, input) || total != values {
+        return Err(Refusal::Dict);
+    }
+    Ok(())
+}
+
+// Read deletions
+
+fn try_read_deletions(file: &[u8], bin: u64, rows: u64, buffer: &mut [u8]) -> Result<u64, Refusal> {
+    within_limit(file)?;
+    if rows > MAX {
+        return Err(Refusal::Limit);
+    }
+    let field = field_for(rows, buffer)?;
+    field.fill(0);
+    let bitmap = bin_bitmap(file, bin)?;
+    if bitmap.last_row().is_some_and(|last| u64::from(last) >= rows) {
+        return Err(Refusal::Range);
+    }
+    bitmap.place(field);
+    Ok(bitmap.cardinality())
+}
+
+/// The bitmap of the asked bin, after every size to the end of the file has been walked.
+fn bin_bitmap(file: &[u8], asked: u64) -> Result<Bitmap<'_>, Refusal> {
+    let mut input = Input::new(file);
+    if input.u8()? != DELETION_VERSION {
+        return Err(Refusal::Version);
+    }
+    let mut found = None;
+    let mut number = 0;
+    while !input.is_empty() {
+        let size = input.count().map_err(|_| Refusal::Short)?;
+        if size < 4 {
+            return Err(Refusal::Short);
+        }
+        let bin = input.take(size)?;
+        let checksum = input.u32()?;
+        if number == asked {
+            found = Some((bin, checksum));
+        }
+        number += 1;
+    }
+    let (bin, checksum) = found.ok_or(Refusal::NoBin)?;
+    let (magic, bitmap) = bin.split_at(4);
+    if magic != BIN_MAGIC.to_be_bytes() {
+        return Err(Refusal::Magic);
+    }
+    if crc32(bin) != checksum {
+        return Err(Refusal::Checksum);
+    }
+    Bitmap::parse(bitmap).filter(|parsed| parsed.size() == bitmap.len()).ok_or(Refusal::Bitmap)
+}
+
+// Subtract
+
+fn try_subtract(first: &mut [u8], second: &[u8], rows: u64) -> Result<(u64, u64), Refusal> {
+    if rows > MAX {
+        return Err(Refusal::Limit);
+    }
+    let first = field_for(rows, first)?;
+    let second = second.get(..first.len()).ok_or(Refusal::Room)?;
+
+    // Bits of the last byte that stand for no row stay as they are and aren't counted.
+    let whole = (rows / 8) as usize;
+    let (first, first_end) = first.split_at_mut(whole);
+    let (second, second_end) = second.split_at(whole);
+    let mut left = 0;
+    let mut removed = 0;
+    let mut first_words = first.chunks_exact_mut(8);
+    let mut second_words = second.chunks_exact(8);
+    for (first, second) in first_words.by_ref().zip(second_words.by_ref()) {
+        let a = u64::from_le_bytes((&*first).try_into().expect("chunks of 8 bytes"));
+        let b = u64::from_le_bytes(second.try_into().expect("chunks of 8 bytes"));
+        left += u64::from((a & !b).count_ones());
+        removed += u64::from((a & b).count_ones());
+        first.copy_from_slice(&(a & !b).to_le_bytes());
+    }
+    let mut clear = |first: &mut u8, second: u8, of: u8| {
+        removed += u64::from((*first & second & of).count_ones());
+        *first &= !(second & of);
+        left += u64::from((*first & of).count_ones());
+    };
+    for (first, second) in first_words.into_remainder().iter_mut().zip(second_words.remainder()) {
+        clear(first, *second, 0xFF);
+    }
+    if let ([first], [second]) = (first_end, second_end) {
+        clear(first, *second, 0xFF >> (8 - rows % 8));
+    }
+    Ok((left, removed))
+}
+
+/// Bytes read from the front; every read past the end is SHORT.
+struct Input<'a> {
+    bytes: &'a [u8],
+    at: usize,
+}
+
+impl<'a> Input<'a> {
+    fn new(bytes: &'a [u8]) -> Input<'a> {
+        Input { bytes, at: 0 }
+    }
+
+    fn is_empty(&self) -> bool {
+        self.at == self.bytes.len()
+    }
+
+    fn rest(&self) -> &'a [u8] {
+        &self.bytes[self.at..]
+    }
+
+    fn take(&mut self, count: usize) -> Result<&'a [u8], Refusal> {
+        let taken = self.rest().get(..count).ok_or(Refusal::Short)?;
+        self.at += count;
+        Ok(taken)
+    }
+
+    fn array<const N: usize>(&mut self) -> Result<[u8; N], Refusal> {
+        Ok(self.take(N)?.try_into().expect("N bytes were taken"))
+    }
+
+    fn u8(&mut self) -> Result<u8, Refusal> {
+        Ok(u8::from_be_bytes(self.array()?))
+    }
+
+    fn u32(&mut self) -> Result<u32, Refusal> {
+        Ok(u32::from_be_bytes(self.array()?))
+    }
+
+    fn u64(&mut self) -> Result<u64, Refusal> {
+        Ok(u64::from_be_bytes(self.array()?))
+    }
+
+    fn i32(&mut self) -> Result<i32, Refusal> {
+        Ok(i32::from_be_bytes(self.array()?))
+    }
+
+    /// A number that may not be negative.
+    fn count(&mut self) -> Result<usize, Refusal> {
+        usize::try_from(self.i32()?).map_err(|_| Refusal::Dict)
+    }
+
+    /// A number that may neither pass its limit nor be negative.
+    fn count_up_to(&mut self, limit: i32) -> Result<usize, Refusal> {
+        let number = self.i32()?;
+        if number > limit {
+            return Err(Refusal::Limit);
+        }
+        usize::try_from(number).map_err(|_| Refusal::Dict)
+    }
+
+    /// A name of an index file's head: 2 bytes of length and its bytes.
+    fn name(&mut self) -> Result<&'a [u8], Refusal> {
+        let length = u16::from_be_bytes(self.array()?);
+        self.take(usize::from(length))
+    }
+
+    /// A value in stored form. A string is handed back without its length.
+    fn value(&mut self, ty: u32, width: Width) -> Result<&'a [u8], Refusal> {
+        match width {
+            Width::Counted => {
+                let length = self.count_up_to(MAX_STRING)?;
+                self.take(length)
+            }
+            Width::Fixed(bytes) => {
+                let value = self.take(bytes)?;
+                if ty == types::BOOLEAN && value[0] > 1 {
+                    return Err(Refusal::Dict);
+                }
+                Ok(value)
+            }
+        }
+    }
+}

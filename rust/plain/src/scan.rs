@@ -1,0 +1,29 @@
+//! The plain scan of a column for a question: the answer that an index must give, from the column alone.
+
+use crate::types;
+use crate::writer::Column;
+
+/// The row field that the question chooses and the number of its rows; 0 says skip. Literals are values as in a
+/// column's cells.
+pub fn scan<V: AsRef<[u8]>>(column: &Column, question: u32, literals: &[V]) -> (Vec<u8>, u64) {
+    let mut field = vec![0; column.cells.len().div_ceil(8)];
+    let mut count = 0;
+    for (row, cell) in column.cells.iter().enumerate() {
+        let listed = match cell {
+            None => false,
+            Some(value) => literals.iter().any(|literal| literal.as_ref() == value),
+        };
+        let chosen = match question {
+            types::EQUAL | types::IN => listed,
+            types::NOT_EQUAL | types::NOT_IN => !listed,
+            types::IS_NULL => cell.is_none(),
+            types::IS_NOT_NULL => cell.is_some(),
+            _ => panic!("an unknown question has no answer"),
+        };
+        if chosen {
+            field[row / 8] |= 1 << (row % 8);
+            count += 1;
+        }
+    }
+    (field, count)
+}

@@ -1,0 +1,158 @@
+//! The files that document 01 writes out.
+
+use plain::reader::{ask, audit, locate, read_deletions, subtract};
+use plain::types::*;
+use plain::writer::{bitmap, body_of, deletion_file, index_file, BitmapForm, Column, ContainerForm, Layout};
+
+fn hex(text: &str) -> Vec<u8> {
+    text.split_whitespace().map(|byte| u8::from_str_radix(byte, 16).unwrap()).collect()
+}
+
+const HEAD: &str = "00 05 4E 4E D0 1A 35 AE 00 00 00 01 00 00 00 2F 00 00 00 01 00 01 73 00 00 00 01 00 06 62 69 74 \
+    6D 61 70 00 00 00 2F 00 00 00 18 00 00 00 00";
+const VERSION_1: &str = "01 00 00 00 03 00 00 00 02 01 FF FF FF FD 07 FF FF FF FF 09 FF FF FF FE";
+const VERSION_2: &str = "02 00 00 00 03 00 00 00 02 01 FF FF FF FD FF FF FF FF 00 00 00 02 07 00 00 00 00 09 00 00 00 \
+    0D 00 00 00 1A 00 00 00 01 07 FF FF FF FF FF FF FF FF 00 00 00 01 09 FF FF FF FE FF FF FF FF";
+
+/// TINYINT column s = 7, 9, null.
+fn small_column() -> Column {
+    Column::new(TINYINT, vec![Some(vec![7]), Some(vec![9]), None])
+}
+
+#[test]
+fn small_file_is_found_and_written() {
+    let body = hex(VERSION_1);
+    let file = [hex(HEAD), body.clone()].concat();
+    assert_eq!(file.len(), 71);
+    assert_eq!(locate(&[], &file, b"s", b"bitmap"), (0, 47, 24));
+    assert_eq!(locate(&file, &[], b"s", b"bitmap"), (0, 47, 24));
+    assert_eq!(locate(&[], &file, b"t", b"bitmap"), (255, 0, 0));
+    assert_eq!(locate(&[], &file, b"s", b"bsi"), (255, 0, 0));
+    assert_eq!(locate(&[], &[], b"s", b"bitmap"), (1, 0, 0));
+    assert_eq!(locate(&[], &file[..23], b"s", b"bitmap"), (4, 0, 0));
+    assert_eq!(index_file(&[("s", "bitmap", &body)]), file);
+    assert_eq!(body_of(&small_column(), &Layout::version(1)), body);
+}
+
+#[test]
+fn small_version_2_is_written() {
+    let layout = Layout::version(2).with_blocks_of(1);
+    assert_eq!(body_of(&small_column(), &layout), hex(VERSION_2));
+}
+
+#[test]
+fn small_questions() {
+    for body in [hex(VERSION_1), hex(VERSION_2)] {
+        let mut field = [0xAA, 0xBB];
+        assert_eq!(audit(&body, TINYINT, &mut field), (0, 3));
+        assert_eq!(field, [0x00, 0xBB]);
+        for (question, literals, bits, count) in [
+            (EQUAL, vec![7], 0x01, 1),
+            (NOT_EQUAL, vec![7], 0x06, 2),
+            (EQUAL, vec![8], 0x00, 0),
+            (IN, vec![9, 7, 9], 0x03, 2),
+            (IN, vec![], 0x00, 0),
+            (NOT_IN, vec![], 0x07, 3),
+            (IS_NULL, vec![], 0x04, 1),
+            (IS_NOT_NULL, vec![], 0x03, 2),
+        ] {
+            let mut field = [0xAA, 0xBB];
+            assert_eq!(ask(&body, TINYINT, question, &literals, &mut field), (0, count));
+            assert_eq!(field, [bits, 0xBB]);
+        }
+        let mut none = [];
+        assert_eq!(audit(&body, TINYINT, &mut none), (10, 0));
+    }
+}
+
+#[test]
+fn small_bitmaps() {
+    let array = hex("3A 30 00 00 01 00 00 00 00 00 02 00 10 00 00 00 00 00 02 00 05 00");
+    let run = hex("3B 30 00 00 01 00 00 03 00 01 00 01 00 03 00");
+    assert_eq!(bitmap(&[0, 2, 5], &BitmapForm::WithoutRuns), array);
+    let runs = ContainerForm::Runs { cuts: Vec::new() };
+    assert_eq!(bitmap(&[1, 2, 3, 4], &BitmapForm::WithRuns(vec![runs])), run);
+    // Three runs of one row each take more bytes than an array of three.
+    assert_eq!(bitmap(&[0, 2, 5], &BitmapForm::Smallest), bitmap(&[0, 2, 5], &BitmapForm::WithoutRuns));
+
+    let file = deletion_file(&[array, run]);
+    let mut field = [0xFF, 0xFF];
+    assert_eq!(read_deletions(&file, 0, 6, &mut field), (0, 3));
+    assert_eq!(field, [0x25, 0xFF]);
+    assert_eq!(read_deletions(&file, 1, 6, &mut field), (0, 4));
+    assert_eq!(field, [0x1E, 0xFF]);
+    assert_eq!(read_deletions(&file, 1, 4, &mut field), (7, 0));
+    assert_eq!(field, [0x00, 0xFF]);
+    assert_eq!(read_deletions(&file, 2, 6, &mut field), (14, 0));
+    assert_eq!(read_deletions(&[], 0, 6, &mut field), (1, 0));
+}
+
+#[test]
+fn single_rows() {
+    let body = hex("01 00 00 00 01 00 00 00 01 00 07 FF FF FF FF");
+    let mut field = [0xFF];
+    assert_eq!(ask(&body, TINYINT, EQUAL, &[7], &mut field), (0, 1));
+    assert_eq!(field, [0x01]);
+    let body = hex("01 00 00 00 01 00 00 00 01 00 07 80 00 00 00");
+    assert_eq!(audit(&body, TINYINT, &mut field), (7, 0));
+    assert_eq!(field, [0x00]);
+}
+
+#[test]
+fn events() {
+    let cells = ["login", "click", "login", "purchase", "click", "login"];
+    let column = Column::strings(&cells.map(Some));
+    for version in [1, 2] {
+        let body = body_of(&column, &Layout::version(version));
+        let mut field = [0xFF];
+        let asked = literals(STRING, &["login", "purchase"]);
+        assert_eq!(ask(&body, STRING, IN, &asked, &mut field), (0, 4));
+        assert_eq!(field, [0b10_1101]);
+        let asked = literals(STRING, &["login"]);
+        assert_eq!(ask(&body, STRING, NOT_IN, &asked, &mut field), (0, 3));
+        assert_eq!(field, [0b01_1010]);
+    }
+}
+
+#[test]
+fn zero_rows() {
+    for version in [1, 2] {
+        let body = body_of(&Column::new(INT, Vec::new()), &Layout::version(version));
+        let mut field = [0x5A];
+        assert_eq!(audit(&body, INT, &mut field), (0, 0));
+        assert_eq!(ask(&body, INT, NOT_IN, &[], &mut field), (0, 0));
+        assert_eq!(field, [0x5A]);
+    }
+}
+
+#[test]
+fn array_up_to_4096_rows() {
+    let rows: Vec<u32> = (0..4096).map(|row| 2 * row).collect();
+    let stored = bitmap(&rows, &BitmapForm::WithoutRuns);
+    assert_eq!(stored.len(), 16 + 2 * 4096);
+    let mut field = [0; 1025];
+    let file = deletion_file(&[stored]);
+    assert_eq!(read_deletions(&file, 0, 8193, &mut field), (0, 4096));
+
+    let rows: Vec<u32> = (0..4097).map(|row| 2 * row).collect();
+    let stored = bitmap(&rows, &BitmapForm::WithoutRuns);
+    assert_eq!(stored.len(), 16 + 8192);
+    let file = deletion_file(&[stored]);
+    assert_eq!(read_deletions(&file, 0, 8193, &mut field), (0, 4097));
+
+    // 4,097 rows as an array: the header's cardinality promises bits.
+    let mut stored = hex("3A 30 00 00 01 00 00 00 00 00 00 10 10 00 00 00");
+    stored.extend(rows.iter().flat_map(|row| (*row as u16).to_le_bytes()));
+    let file = deletion_file(&[stored]);
+    assert_eq!(read_deletions(&file, 0, 8193, &mut field), (6, 0));
+}
+
+#[test]
+fn subtraction() {
+    let mut first = [0xFF, 0xFF, 0x77];
+    assert_eq!(subtract(&mut first, &[0x0F, 0xFF], 12), (0, 4, 8));
+    assert_eq!(first, [0xF0, 0xF0, 0x77]);
+    assert_eq!(subtract(&mut first, &[0xFF], 12), (10, 0, 0));
+    assert_eq!(subtract(&mut first, &[0xFF; 2], 1 << 31), (12, 0, 0));
+    assert_eq!(first, [0xF0, 0xF0, 0x77]);
+}

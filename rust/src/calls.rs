@@ -1,0 +1,294 @@
+use std::fmt;
+
+use crate::{raw, Literals, Question, Refusal, RowField, Type};
+
+/// Why a call gives no answer: a refusal, or fields and indexes of different row counts.
+///
+/// ```
+/// use poddurance::{audit, Error, Refusal, RowField, Type};
+///
+/// let body = [1, 0, 0, 0, 3, 0, 0, 0, 2, 1, 255, 255, 255, 253, 7, 255, 255, 255, 255, 9, 255, 255, 255, 254];
+/// // The data file has 5 rows and its index 3: of the last two the index knows nothing.
+/// let error = audit(&body, Type::TinyInt, RowField::for_rows(5)?).unwrap_err();
+/// assert_eq!(error, Error::RowsDiffer { expected: 5, found: 3 });
+/// assert_eq!(error.to_string(), "5 rows expected, 3 found");
+/// # Ok::<(), Error>(())
+/// ```
+#[derive(Clone, Copy, Debug, PartialEq, Eq, Hash)]
+pub enum Error {
+    /// The library refused the bytes.
+    Refused(Refusal),
+    /// The row counts differ.
+    RowsDiffer {
+        /// The row count of the field that the call was given, the first one for [`subtract`].
+        expected: u64,
+        /// The row count of the index, or of the second field.
+        found: u64,
+    },
+}
+
+impl From<Refusal> for Error {
+    fn from(refusal: Refusal) -> Error {
+        Error::Refused(refusal)
+    }
+}
+
+impl fmt::Display for Error {
+    fn fmt(&self, f: &mut fmt::Formatter<'_>) -> fmt::Result {
+        match self {
+            Error::Refused(refusal) => refusal.fmt(f),
+            Error::RowsDiffer { expected, found } => {
+                write!(f, "{expected} rows expected, {found} found")
+            }
+        }
+    }
+}
+
+impl std::error::Error for Error {}
+
+/// Finds the body of the index of kind `kind` (`"bitmap"`) on column `column`: in `embedded`, the index bytes in the manifest, if
+/// there are any, else in `file`, the bytes of the index file. The other buffer isn't looked at.
+///
+/// The body is a part of the buffer, not a copy. None says that there is no such index, so that all rows are to be read.
+///
+/// ```
+/// use poddurance::{locate, Refusal};
+///
+/// let file = [
+///     0, 5, 0x4E, 0x4E, 0xD0, 0x1A, 0x35, 0xAE, 0, 0, 0, 1, 0, 0, 0, 47, 0, 0, 0, 1, // head up to the column number
+///     0, 1, b's', 0, 0, 0, 1, 0, 6, b'b', b'i', b't', b'm', b'a', b'p', 0, 0, 0, 47, 0, 0, 0, 24, 0, 0, 0, 0,
+///     1, 0, 0, 0, 3, 0, 0, 0, 2, 1, 255, 255, 255, 253, 7, 255, 255, 255, 255, 9, 255, 255, 255, 254, // body
+/// ];
+/// assert_eq!(locate(&[], &file, "s", "bitmap"), Ok(Some(&file[47..])));
+/// assert_eq!(locate(&[], &file, "t", "bitmap"), Ok(None));
+/// assert_eq!(locate(&[], &file[..70], "s", "bitmap"), Err(Refusal::Head));
+/// ```
+pub fn locate<'a>(embedded: &'a [u8], file: &'a [u8], column: &str, kind: &str) -> Result<Option<&'a [u8]>, Refusal> {
+    let (answer, start, length) = raw::locate(embedded, file, column.as_bytes(), kind.as_bytes());
+    if answer == raw::ABSENT {
+        return Ok(None);
+    }
+    accepted(answer)?;
+    let looked_at = if embedded.is_empty() { file } else { embedded };
+    Ok(Some(&looked_at[start as usize..(start + length) as usize]))
+}
+
+/// Checks the whole body of an index: that each of its rows has exactly one place.
+///
+/// Gives the field back with no row set; its [`rows`](RowField::rows) are the row count of the body, now checked.
+///
+/// A body with another row count than the field's is [`Error::RowsDiffer`], or [`Refusal::Room`] where it needs more bytes than
+/// the field has.
+///
+/// ```
+/// use poddurance::{audit, Error, Refusal, RowField, Type};
+///
+/// let mut body = [1, 0, 0, 0, 3, 0, 0, 0, 2, 1, 255, 255, 255, 253, 7, 255, 255, 255, 255, 9, 255, 255, 255, 254];
+/// assert_eq!(audit(&body, Type::TinyInt, RowField::for_body(&body))?.rows(), 3);
+///
+/// body[23] = 255; // 9 is now at row 0, where 7 is, and no longer at row 1
+/// assert_eq!(audit(&body, Type::TinyInt, RowField::for_body(&body)), Err(Error::Refused(Refusal::Twice)));
+/// # Ok::<(), Error>(())
+/// ```
+pub fn audit(body: &[u8], ty: Type, mut field: RowField) -> Result<RowField, Error> {
+    let (answer, rows) = raw::audit(body, ty.number(), field.bytes_mut());
+    accepted(answer)?;
+    same_rows(&field, rows)?;
+    Ok(field)
+}
+
+/// Checks the whole body of an index as [`audit`] does, then answers a question: which rows does it choose?
+///
+/// The type is that of the literals. A body with another row count than the field's is [`Error::RowsDiffer`], or
+/// [`Refusal::Room`] where it needs more bytes than the field has.
+///
+/// ```
+/// use poddurance::{ask, Literals, Question, RowField, Type};
+///
+/// let body = [1, 0, 0, 0, 3, 0, 0, 0, 2, 1, 255, 255, 255, 253, 7, 255, 255, 255, 255, 9, 255, 255, 255, 254];
+/// let seven = Literals::of(Type::TinyInt, [7])?;
+///
+/// let answer = ask(&body, Question::NotEqual, &seven, RowField::for_body(&body))?;
+/// assert_eq!(answer.count(), 2);
+/// assert!(answer.field().iter().eq([1, 2])); // 9 and null
+///
+/// let eight = Literals::of(Type::TinyInt, [8])?;
+/// assert!(ask(&body, Question::Equal, &eight, RowField::for_body(&body))?.is_skip());
+/// # Ok::<(), poddurance::Error>(())
+/// ```
+pub fn ask(body: &[u8], question: Question, literals: &Literals, mut field: RowField) -> Result<Answer, Error> {
+    let (ty, bytes) = (literals.ty().number(), literals.as_bytes());
+    let (answer, count) = raw::ask(body, ty, question.number(), bytes, field.bytes_mut());
+    accepted(answer)?;
+    // An accepted body has the row count that stands in its bytes.
+    same_rows(&field, RowField::claim(body))?;
+    Ok(Answer { field, count })
+}
+
+/// The answer to a question: the rows it chooses.
+///
+/// ```
+/// use poddurance::{ask, Literals, Question, RowField, Type};
+///
+/// let body = [1, 0, 0, 0, 3, 0, 0, 0, 2, 1, 255, 255, 255, 253, 7, 255, 255, 255, 255, 9, 255, 255, 255, 254];
+/// let answer = ask(&body, Question::IsNull, &Literals::none(Type::TinyInt), RowField::for_body(&body))?;
+/// if !answer.is_skip() {
+///     for row in answer.field() {
+///         assert_eq!(row, 2);
+///     }
+/// }
+/// # Ok::<(), poddurance::Error>(())
+/// ```
+#[derive(Clone, Debug, PartialEq, Eq)]
+pub struct Answer {
+    field: RowField,
+    count: u64,
+}
+
+impl Answer {
+    /// Whether no row is chosen, so that the data file needn't be read.
+    ///
+    /// ```
+    /// # use poddurance::{ask, Literals, Question, RowField, Type};
+    /// // No rows and no values.
+    /// let body = [1, 0, 0, 0, 0, 0, 0, 0, 0, 0];
+    /// let answer = ask(&body, Question::IsNull, &Literals::none(Type::Int), RowField::for_body(&body))?;
+    /// assert!(answer.is_skip());
+    /// # Ok::<(), poddurance::Error>(())
+    /// ```
+    #[must_use]
+    pub fn is_skip(&self) -> bool {
+        self.count == 0
+    }
+
+    /// How many rows are chosen.
+    ///
+    /// ```
+    /// # use poddurance::{ask, Literals, Question, RowField, Type};
+    /// // One row, null.
+    /// let body = [1, 0, 0, 0, 1, 0, 0, 0, 0, 1, 255, 255, 255, 255];
+    /// let answer = ask(&body, Question::IsNull, &Literals::none(Type::Int), RowField::for_body(&body))?;
+    /// assert_eq!(answer.count(), 1);
+    /// # Ok::<(), poddurance::Error>(())
+    /// ```
+    #[must_use]
+    pub fn count(&self) -> u64 {
+        self.count
+    }
+
+    /// The rows that are chosen, of all rows of the body.
+    ///
+    /// ```
+    /// # use poddurance::{ask, Literals, Question, RowField, Type};
+    /// // One row, null.
+    /// let body = [1, 0, 0, 0, 1, 0, 0, 0, 0, 1, 255, 255, 255, 255];
+    /// let answer = ask(&body, Question::IsNull, &Literals::none(Type::Int), RowField::for_body(&body))?;
+    /// assert!(answer.field().contains(0));
+    /// # Ok::<(), poddurance::Error>(())
+    /// ```
+    #[must_use]
+    pub fn field(&self) -> &RowField {
+        &self.field
+    }
+
+    /// The rows that are chosen, to [`subtract`] from, or to lend to the next call.
+    ///
+    /// ```
+    /// # use poddurance::{ask, Literals, Question, RowField, Type};
+    /// // One row, null.
+    /// let body = [1, 0, 0, 0, 1, 0, 0, 0, 0, 1, 255, 255, 255, 255];
+    /// let none = Literals::none(Type::Int);
+    /// let field = ask(&body, Question::IsNull, &none, RowField::for_body(&body))?.into_field();
+    /// assert!(ask(&body, Question::IsNotNull, &none, field)?.is_skip());
+    /// # Ok::<(), poddurance::Error>(())
+    /// ```
+    #[must_use]
+    pub fn into_field(self) -> RowField {
+        self.field
+    }
+}
+
+/// Reads the deleted rows that bin number `bin`, from 0, of a deletion file lists, and gives the field back with those rows set.
+///
+/// The data file's row count is the field's; a deleted row at or above it is [`Refusal::Range`].
+///
+/// ```
+/// use poddurance::{read_deletions, Refusal, RowField};
+///
+/// let mut file = [
+///     1, 0, 0, 0, 26, 0x5E, 0x43, 0xF2, 0xD0, 0x3A, 0x30, 0, 0, 1, 0, 0, 0, 0, 0, 2, 0, 0x10, 0, 0, 0, 0, 0, 2, 0, 5, 0,
+///     0x80, 0x72, 0x25, 0x2B,
+/// ];
+/// assert!(read_deletions(&file, 0, RowField::for_rows(6)?)?.iter().eq([0, 2, 5]));
+/// assert_eq!(read_deletions(&file, 0, RowField::for_rows(5)?), Err(Refusal::Range));
+/// assert_eq!(read_deletions(&file, 1, RowField::for_rows(6)?), Err(Refusal::NoBin));
+///
+/// file[34] = 0;
+/// assert_eq!(read_deletions(&file, 0, RowField::for_rows(6)?), Err(Refusal::Checksum));
+/// # Ok::<(), Refusal>(())
+/// ```
+pub fn read_deletions(file: &[u8], bin: u64, mut field: RowField) -> Result<RowField, Refusal> {
+    let rows = field.rows();
+    let (answer, _) = raw::read_deletions(file, bin, rows, field.bytes_mut());
+    accepted(answer)?;
+    Ok(field)
+}
+
+/// Clears in `first` each row that is set in `second`.
+///
+/// Both must be for the same number of rows: a field of another data file is [`Error::RowsDiffer`] and changes nothing.
+///
+/// ```
+/// use poddurance::{subtract, Error, RowField, Subtracted};
+///
+/// let mut rows = RowField::all_of(6)?;
+/// let none = RowField::for_rows(6)?;
+/// assert_eq!(subtract(&mut rows, &none)?, Subtracted { left: 6, removed: 0 });
+///
+/// let other = RowField::all_of(7)?;
+/// assert_eq!(subtract(&mut rows, &other), Err(Error::RowsDiffer { expected: 6, found: 7 }));
+/// assert_eq!(rows.count(), 6);
+/// # Ok::<(), Error>(())
+/// ```
+pub fn subtract(first: &mut RowField, second: &RowField) -> Result<Subtracted, Error> {
+    same_rows(first, second.rows())?;
+    let rows = first.rows();
+    let (answer, left, removed) = raw::subtract(first.bytes_mut(), second.as_bytes(), rows);
+    accepted(answer)?;
+    Ok(Subtracted { left, removed })
+}
+
+/// What [`subtract`] did.
+///
+/// ```
+/// use poddurance::{subtract, RowField};
+///
+/// let mut rows = RowField::all_of(6)?;
+/// let all = rows.clone();
+/// let counts = subtract(&mut rows, &all)?;
+/// assert_eq!((counts.left, counts.removed), (0, 6));
+/// # Ok::<(), poddurance::Error>(())
+/// ```
+#[derive(Clone, Copy, Debug, PartialEq, Eq, Hash)]
+pub struct Subtracted {
+    /// How many rows are left.
+    pub left: u64,
+    /// How many rows were removed.
+    pub removed: u64,
+}
+
+fn accepted(answer: u8) -> Result<(), Refusal> {
+    if answer == raw::ACCEPTED {
+        return Ok(());
+    }
+    // The header lists no other numbers. Were there one, then going on with the field would be worse than to stop.
+    Err(Refusal::from_number(answer).unwrap_or_else(|| panic!("{answer} is no answer of the library")))
+}
+
+fn same_rows(field: &RowField, found: u64) -> Result<(), Error> {
+    let expected = field.rows();
+    if found != expected {
+        return Err(Error::RowsDiffer { expected, found });
+    }
+    Ok(())
+}

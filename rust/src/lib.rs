@@ -1,0 +1,64 @@
+//! Reads Apache Paimon's bitmap file indexes and deletion files so that **a lost row is a refusal, never a silently wrong
+//! graph**.
+//!
+//! A thin layer over an archive that is written and proved in Rattle. Document 01, the rules and scope of the library, decides
+//! what each call answers and which [`Refusal`] it gives. There are five calls: [`locate`], [`audit`], [`ask`],
+//! [`read_deletions`] and [`subtract`].
+//!
+//! Which rows of a data file don't hold 7, without the deleted ones?
+//!
+//! ```
+//! use poddurance::{ask, locate, read_deletions, subtract, Literals, Question, RowField, Type};
+//!
+//! // The TINYINT column s with the rows 7, 9, null.
+//! let index_file = [
+//!     0, 5, 0x4E, 0x4E, 0xD0, 0x1A, 0x35, 0xAE, 0, 0, 0, 1, 0, 0, 0, 47, 0, 0, 0, 1, 0, 1, b's', 0, 0, 0, 1, 0, 6,
+//!     b'b', b'i', b't', b'm', b'a', b'p', 0, 0, 0, 47, 0, 0, 0, 24, 0, 0, 0, 0, // the head ends here
+//!     1, 0, 0, 0, 3, 0, 0, 0, 2, 1, 255, 255, 255, 253, 7, 255, 255, 255, 255, 9, 255, 255, 255, 254,
+//! ];
+//! // One bin that lists row 1.
+//! let deletion_file = [
+//!     1, 0, 0, 0, 22, 0x5E, 0x43, 0xF2, 0xD0, 0x3A, 0x30, 0, 0, 1, 0, 0, 0, 0, 0, 0, 0, 0x10, 0, 0, 0, 1, 0,
+//!     0xFA, 0x2B, 0x51, 0x92,
+//! ];
+//! let row_count = 3; // as the table's metadata has it
+//!
+//! let body = locate(&[], &index_file, "s", "bitmap")?.expect("s has a bitmap index");
+//! let seven = Literals::of(Type::TinyInt, [7])?;
+//! let mut rows = ask(body, Question::NotEqual, &seven, RowField::for_rows(row_count)?)?.into_field();
+//! assert!(rows.iter().eq([1, 2]));
+//!
+//! let deleted = read_deletions(&deletion_file, 0, RowField::for_rows(row_count)?)?;
+//! assert_eq!(subtract(&mut rows, &deleted)?.left, 1);
+//! assert!(rows.iter().eq([2]));
+//! # Ok::<(), poddurance::Error>(())
+//! ```
+//!
+//! The crate is of the standard library alone. The [`raw`] calls, over buffers that the caller keeps, hold its only `unsafe`
+//! blocks.
+
+#![deny(missing_docs)]
+#![deny(unsafe_code)]
+
+mod calls;
+mod literals;
+mod names;
+#[allow(unsafe_code)]
+pub mod raw;
+mod refusal;
+mod row_field;
+
+pub use calls::{ask, audit, locate, read_deletions, subtract, Answer, Error, Subtracted};
+pub use literals::{Literals, Value};
+pub use names::{Question, Type, UnknownName};
+pub use refusal::Refusal;
+pub use row_field::{Ranges, RowField, Rows};
+
+/// The most bytes that an input buffer may have, and the most rows; more is [`Refusal::Limit`]. Document 01 sets it.
+///
+/// ```
+/// use poddurance::{Refusal, RowField, LIMIT};
+///
+/// assert_eq!(RowField::for_rows(LIMIT + 1), Err(Refusal::Limit));
+/// ```
+pub const LIMIT: u64 = 2_147_483_647;

@@ -1,0 +1,220 @@
+use crate::{Refusal, Type};
+
+/// Document 01's limit of literals in one question.
+const MOST_LITERALS: usize = 1_024;
+
+/// Document 01's limit of a stored string's bytes.
+const MOST_STRING_BYTES: usize = 65_535;
+
+/// One value to ask for, before it has the form in which its type is stored.
+///
+/// ```
+/// use poddurance::Value;
+///
+/// assert_eq!(Value::from(7), Value::Number(7));
+/// assert_eq!(Value::from(true), Value::Boolean(true));
+/// assert_eq!(Value::from("login"), Value::String(b"login"));
+/// ```
+#[derive(Clone, Copy, Debug, PartialEq, Eq, Hash)]
+pub enum Value<'a> {
+    /// A number of TINYINT, SMALLINT, INT, BIGINT, or the stored number of DATE, TIME and the TIMESTAMP types.
+    Number(i64),
+    /// A BOOLEAN.
+    Boolean(bool),
+    /// The bytes of CHAR, VARCHAR or STRING.
+    String(&'a [u8]),
+}
+
+impl From<i8> for Value<'_> {
+    fn from(number: i8) -> Self {
+        Value::Number(number.into())
+    }
+}
+
+impl From<i16> for Value<'_> {
+    fn from(number: i16) -> Self {
+        Value::Number(number.into())
+    }
+}
+
+impl From<i32> for Value<'_> {
+    fn from(number: i32) -> Self {
+        Value::Number(number.into())
+    }
+}
+
+impl From<i64> for Value<'_> {
+    fn from(number: i64) -> Self {
+        Value::Number(number)
+    }
+}
+
+impl From<bool> for Value<'_> {
+    fn from(boolean: bool) -> Self {
+        Value::Boolean(boolean)
+    }
+}
+
+impl<'a> From<&'a str> for Value<'a> {
+    fn from(text: &'a str) -> Self {
+        Value::String(text.as_bytes())
+    }
+}
+
+impl<'a> From<&'a String> for Value<'a> {
+    fn from(text: &'a String) -> Self {
+        Value::String(text.as_bytes())
+    }
+}
+
+impl<'a> From<&'a [u8]> for Value<'a> {
+    fn from(bytes: &'a [u8]) -> Self {
+        Value::String(bytes)
+    }
+}
+
+/// The literals of a question, in the stored form of one type.
+///
+/// They carry the type to [`ask`](crate::ask): literals read as another type than they were written for could fit it by chance
+/// and choose wrong rows. A value that doesn't fit is [`Refusal::Literal`] here already, as it would be there, and what passes
+/// document 01's limits is [`Refusal::Limit`].
+///
+/// ```
+/// use poddurance::{Literals, Refusal, Type};
+///
+/// let states = Literals::of(Type::String, ["login", "purchase"])?;
+/// assert_eq!(states.as_bytes(), b"\0\0\0\x05login\0\0\0\x08purchase");
+///
+/// assert_eq!(Literals::of(Type::TinyInt, [300]), Err(Refusal::Literal));
+/// assert_eq!(Literals::of(Type::TinyInt, ["7"]), Err(Refusal::Literal));
+/// # Ok::<(), Refusal>(())
+/// ```
+#[derive(Clone, Debug, PartialEq, Eq, Hash)]
+pub struct Literals {
+    ty: Type,
+    bytes: Vec<u8>,
+    number: usize,
+}
+
+impl Literals {
+    /// No literal, for IS NULL and IS NOT NULL, or to push to.
+    ///
+    /// ```
+    /// use poddurance::{Literals, Type};
+    ///
+    /// assert!(Literals::none(Type::Int).is_empty());
+    /// ```
+    #[must_use]
+    pub fn none(ty: Type) -> Literals {
+        Literals { ty, bytes: Vec::new(), number: 0 }
+    }
+
+    /// These values.
+    ///
+    /// ```
+    /// use poddurance::{Literals, Type};
+    ///
+    /// assert_eq!(Literals::of(Type::SmallInt, [7, -3])?.as_bytes(), [0, 7, 0xFF, 0xFD]);
+    /// # Ok::<(), poddurance::Refusal>(())
+    /// ```
+    pub fn of<'a, V: Into<Value<'a>>>(ty: Type, values: impl IntoIterator<Item = V>) -> Result<Literals, Refusal> {
+        let mut literals = Literals::none(ty);
+        for value in values {
+            literals.push(value)?;
+        }
+        Ok(literals)
+    }
+
+    /// Puts one more value behind the others. A refusal changes nothing.
+    ///
+    /// ```
+    /// use poddurance::{Literals, Refusal, Type};
+    ///
+    /// let mut alarms = Literals::none(Type::Boolean);
+    /// alarms.push(true)?;
+    /// assert_eq!(alarms.push(1), Err(Refusal::Literal));
+    /// assert_eq!(alarms.as_bytes(), [1]);
+    /// # Ok::<(), Refusal>(())
+    /// ```
+    pub fn push<'a>(&mut self, value: impl Into<Value<'a>>) -> Result<(), Refusal> {
+        if self.number == MOST_LITERALS {
+            return Err(Refusal::Limit);
+        }
+        match (self.ty, value.into()) {
+            (Type::Boolean, Value::Boolean(boolean)) => self.bytes.push(boolean.into()),
+            (Type::Char | Type::VarChar | Type::String, Value::String(bytes)) => {
+                if bytes.len() > MOST_STRING_BYTES {
+                    return Err(Refusal::Limit);
+                }
+                let length = u32::try_from(bytes.len()).map_err(|_| Refusal::Limit)?;
+                self.bytes.extend(length.to_be_bytes());
+                self.bytes.extend(bytes);
+            }
+            (Type::TinyInt, Value::Number(n)) => self.extend(i8::try_from(n).map(i8::to_be_bytes))?,
+            (Type::SmallInt, Value::Number(n)) => self.extend(i16::try_from(n).map(i16::to_be_bytes))?,
+            (Type::Int | Type::Date | Type::Time, Value::Number(n)) => self.extend(i32::try_from(n).map(i32::to_be_bytes))?,
+            (Type::BigInt | Type::Timestamp | Type::LocalZonedTimestamp, Value::Number(n)) => {
+                self.bytes.extend(n.to_be_bytes());
+            }
+            _ => return Err(Refusal::Literal),
+        }
+        self.number += 1;
+        Ok(())
+    }
+
+    fn extend<const N: usize, E>(&mut self, bytes: Result<[u8; N], E>) -> Result<(), Refusal> {
+        self.bytes.extend(bytes.map_err(|_| Refusal::Literal)?);
+        Ok(())
+    }
+
+    /// The type they are stored as.
+    ///
+    /// ```
+    /// use poddurance::{Literals, Type};
+    ///
+    /// assert_eq!(Literals::none(Type::Date).ty(), Type::Date);
+    /// ```
+    #[must_use]
+    pub fn ty(&self) -> Type {
+        self.ty
+    }
+
+    /// How many there are.
+    ///
+    /// ```
+    /// use poddurance::{Literals, Type};
+    ///
+    /// assert_eq!(Literals::of(Type::String, ["login", "purchase"])?.len(), 2);
+    /// # Ok::<(), poddurance::Refusal>(())
+    /// ```
+    #[must_use]
+    pub fn len(&self) -> usize {
+        self.number
+    }
+
+    /// Whether there is none.
+    ///
+    /// ```
+    /// use poddurance::{Literals, Type};
+    ///
+    /// assert!(!Literals::of(Type::String, [""])?.is_empty()); // the empty string is a literal
+    /// # Ok::<(), poddurance::Refusal>(())
+    /// ```
+    #[must_use]
+    pub fn is_empty(&self) -> bool {
+        self.number == 0
+    }
+
+    /// Their bytes, one literal after another, as [`raw::ask`](crate::raw::ask) takes them.
+    ///
+    /// ```
+    /// use poddurance::{Literals, Type};
+    ///
+    /// assert_eq!(Literals::of(Type::Int, [-1])?.as_bytes(), [255, 255, 255, 255]);
+    /// # Ok::<(), poddurance::Refusal>(())
+    /// ```
+    #[must_use]
+    pub fn as_bytes(&self) -> &[u8] {
+        &self.bytes
+    }
+}

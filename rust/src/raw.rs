@@ -1,0 +1,222 @@
+//! The five calls as the archive has them: numbers in, numbers out, over buffers that the caller keeps.
+//!
+//! Each call answers [`ACCEPTED`], [`ABSENT`] ([`locate`] alone) or the number of a [`Refusal`](crate::Refusal), and then its
+//! counts, which are 0 unless the call accepts. These functions are for callers that reuse their own buffers; the functions at
+//! the top of the crate keep a field and its row count together and are harder to use wrongly.
+//!
+//! A row field for n rows is the first ceil(n/8) bytes of the lent buffer. **Bytes behind it never change**, so that a buffer
+//! longer than that may hold rows of an earlier call behind the field: read no more than ceil(n/8) bytes of it. LIMIT, ROOM and
+//! the refusals before ROOM leave the whole buffer as it was, with the rows of an earlier call.
+//!
+//! ```
+//! use poddurance::raw;
+//!
+//! // TINYINT (0) with the rows 7, 9, null; the buffer has room for more, and bits of an earlier call.
+//! let body = [1, 0, 0, 0, 3, 0, 0, 0, 2, 1, 255, 255, 255, 253, 7, 255, 255, 255, 255, 9, 255, 255, 255, 254];
+//! let mut buffer = [0xFF; 100];
+//! let (answer, rows) = raw::audit(&body, 0, &mut buffer);
+//! assert_eq!((answer, rows), (raw::ACCEPTED, 3));
+//! let (answer, count) = raw::ask(&body, 0, 5, &[], &mut buffer); // IS NOT NULL (5)
+//! assert_eq!((answer, count), (raw::ACCEPTED, 2));
+//! let field = &buffer[..rows.div_ceil(8) as usize];
+//! assert_eq!(field, [0b011]);
+//! ```
+
+/// The answer of a call that accepts its bytes.
+///
+/// ```
+/// assert_eq!(poddurance::raw::subtract(&mut [], &[], 0).0, poddurance::raw::ACCEPTED);
+/// ```
+pub const ACCEPTED: u8 = 0;
+
+/// The answer of [`locate`] when the column, or the kind in it, is not listed.
+///
+/// ```
+/// // A head without columns.
+/// let file = [0, 5, 0x4E, 0x4E, 0xD0, 0x1A, 0x35, 0xAE, 0, 0, 0, 1, 0, 0, 0, 24, 0, 0, 0, 0, 0, 0, 0, 0];
+/// assert_eq!(poddurance::raw::locate(&[], &file, b"s", b"bitmap"), (poddurance::raw::ABSENT, 0, 0));
+/// ```
+pub const ABSENT: u8 = 255;
+
+/// The functions of the archive, as include/poddurance.h declares them.
+mod c {
+    extern "C" {
+        pub fn poddurance_locate(
+            embedded: *const u8,
+            embedded_len: usize,
+            file: *const u8,
+            file_len: usize,
+            column: *const u8,
+            column_len: usize,
+            kind: *const u8,
+            kind_len: usize,
+            start: *mut u64,
+            length: *mut u64,
+        ) -> u8;
+        pub fn poddurance_audit(
+            body: *const u8,
+            body_len: usize,
+            ty: u32,
+            field: *mut u8,
+            field_len: usize,
+            rows: *mut u64,
+        ) -> u8;
+        pub fn poddurance_ask(
+            body: *const u8,
+            body_len: usize,
+            ty: u32,
+            question: u32,
+            literals: *const u8,
+            literals_len: usize,
+            field: *mut u8,
+            field_len: usize,
+            matched: *mut u64,
+        ) -> u8;
+        pub fn poddurance_read_deletions(
+            file: *const u8,
+            file_len: usize,
+            bin: u64,
+            rows: u64,
+            field: *mut u8,
+            field_len: usize,
+            deleted: *mut u64,
+        ) -> u8;
+        pub fn poddurance_subtract(
+            first: *mut u8,
+            first_len: usize,
+            second: *const u8,
+            second_len: usize,
+            rows: u64,
+            left: *mut u64,
+            removed: *mut u64,
+        ) -> u8;
+    }
+}
+
+/// Locate: the answer, and where the body of the index of kind `kind` on column `column` starts and how long it is, in `embedded`
+/// if that isn't empty, else in `file`. The other buffer isn't looked at.
+///
+/// ```
+/// let file = [
+///     0, 5, 0x4E, 0x4E, 0xD0, 0x1A, 0x35, 0xAE, 0, 0, 0, 1, 0, 0, 0, 47, 0, 0, 0, 1, // head up to the column number
+///     0, 1, b's', 0, 0, 0, 1, 0, 6, b'b', b'i', b't', b'm', b'a', b'p', 0, 0, 0, 47, 0, 0, 0, 24, 0, 0, 0, 0,
+///     1, 0, 0, 0, 3, 0, 0, 0, 2, 1, 255, 255, 255, 253, 7, 255, 255, 255, 255, 9, 255, 255, 255, 254, // body
+/// ];
+/// assert_eq!(poddurance::raw::locate(&[], &file, b"s", b"bitmap"), (0, 47, 24));
+/// assert_eq!(poddurance::raw::locate(&[], &file, b"t", b"bitmap"), (255, 0, 0));
+/// assert_eq!(poddurance::raw::locate(&[], &file[..70], b"s", b"bitmap"), (4, 0, 0));
+/// ```
+#[must_use]
+pub fn locate(embedded: &[u8], file: &[u8], column: &[u8], kind: &[u8]) -> (u8, u64, u64) {
+    let (mut start, mut length) = (0, 0);
+    // SAFETY: a slice's pointer is never null and is good for reading its length, the two results are locals good for writing,
+    // all live through the call, and the call keeps none of them. Only the results are written to, and they overlap nothing;
+    // slices that share bytes are read alone.
+    let answer = unsafe {
+        c::poddurance_locate(
+            embedded.as_ptr(),
+            embedded.len(),
+            file.as_ptr(),
+            file.len(),
+            column.as_ptr(),
+            column.len(),
+            kind.as_ptr(),
+            kind.len(),
+            &mut start,
+            &mut length,
+        )
+    };
+    (answer, start, length)
+}
+
+/// Audit: the answer, and the row count of the body. Accepted, the field's bytes are zero.
+///
+/// ```
+/// let body = [1, 0, 0, 0, 3, 0, 0, 0, 2, 1, 255, 255, 255, 253, 7, 255, 255, 255, 255, 9, 255, 255, 255, 254];
+/// let mut field = [0xAA; 2];
+/// assert_eq!(poddurance::raw::audit(&body, 0, &mut field), (0, 3));
+/// assert_eq!(field, [0, 0xAA]); // the byte behind the field is as it was
+/// ```
+#[must_use]
+pub fn audit(body: &[u8], ty: u32, field: &mut [u8]) -> (u8, u64) {
+    let mut rows = 0;
+    // SAFETY: a slice's pointer is never null and is good for its length, `field`'s for writing too; the result is a local good
+    // for writing. All live through the call, which keeps none of them. `field` is borrowed mutably, so that it overlaps no other
+    // buffer.
+    let answer = unsafe { c::poddurance_audit(body.as_ptr(), body.len(), ty, field.as_mut_ptr(), field.len(), &mut rows) };
+    (answer, rows)
+}
+
+/// Ask: the answer, and how many rows the question chooses. Accepted, those rows are set in the field; 0 says skip.
+///
+/// ```
+/// let body = [1, 0, 0, 0, 3, 0, 0, 0, 2, 1, 255, 255, 255, 253, 7, 255, 255, 255, 255, 9, 255, 255, 255, 254];
+/// let mut field = [0];
+/// assert_eq!(poddurance::raw::ask(&body, 0, 1, &[7], &mut field), (0, 2)); // TINYINT, NOT EQUAL 7
+/// assert_eq!(field, [0b110]);
+/// ```
+#[must_use]
+pub fn ask(body: &[u8], ty: u32, question: u32, literals: &[u8], field: &mut [u8]) -> (u8, u64) {
+    let mut matched = 0;
+    // SAFETY: a slice's pointer is never null and is good for its length, `field`'s for writing too; the result is a local good
+    // for writing. All live through the call, which keeps none of them. `field` is borrowed mutably, so that it overlaps no other
+    // buffer; `body` and `literals` are read alone.
+    let answer = unsafe {
+        c::poddurance_ask(
+            body.as_ptr(),
+            body.len(),
+            ty,
+            question,
+            literals.as_ptr(),
+            literals.len(),
+            field.as_mut_ptr(),
+            field.len(),
+            &mut matched,
+        )
+    };
+    (answer, matched)
+}
+
+/// Read deletions: the answer, and how many rows bin number `bin` of the deletion file lists. Accepted, those rows are set in the
+/// field for `rows` rows.
+///
+/// ```
+/// let file = [
+///     1, 0, 0, 0, 26, 0x5E, 0x43, 0xF2, 0xD0, 0x3A, 0x30, 0, 0, 1, 0, 0, 0, 0, 0, 2, 0, 0x10, 0, 0, 0, 0, 0, 2, 0, 5, 0,
+///     0x80, 0x72, 0x25, 0x2B,
+/// ];
+/// let mut field = [0];
+/// assert_eq!(poddurance::raw::read_deletions(&file, 0, 6, &mut field), (0, 3));
+/// assert_eq!(field, [0b100101]);
+/// assert_eq!(poddurance::raw::read_deletions(&file, 1, 6, &mut field), (14, 0)); // there is one bin
+/// ```
+#[must_use]
+pub fn read_deletions(file: &[u8], bin: u64, rows: u64, field: &mut [u8]) -> (u8, u64) {
+    let mut deleted = 0;
+    // SAFETY: a slice's pointer is never null and is good for its length, `field`'s for writing too; the result is a local good
+    // for writing. All live through the call, which keeps none of them. `field` is borrowed mutably, so that it overlaps no other
+    // buffer.
+    let answer = unsafe {
+        c::poddurance_read_deletions(file.as_ptr(), file.len(), bin, rows, field.as_mut_ptr(), field.len(), &mut deleted)
+    };
+    (answer, deleted)
+}
+
+/// Subtract: the answer, how many rows below `rows` are left in `first`, and how many were removed from it.
+///
+/// ```
+/// let mut first = [0b111111];
+/// assert_eq!(poddurance::raw::subtract(&mut first, &[0b100101], 6), (0, 3, 3));
+/// assert_eq!(first, [0b011010]);
+/// ```
+#[must_use]
+pub fn subtract(first: &mut [u8], second: &[u8], rows: u64) -> (u8, u64, u64) {
+    let (mut left, mut removed) = (0, 0);
+    // SAFETY: a slice's pointer is never null and is good for its length, `first`'s for writing too; the results are two locals
+    // good for writing. All live through the call, which keeps none of them. `first` is borrowed mutably, so that it overlaps no
+    // other buffer.
+    let answer = unsafe {
+        c::poddurance_subtract(first.as_mut_ptr(), first.len(), second.as_ptr(), second.len(), rows, &mut left, &mut removed)
+    };
+    (answer, left, removed)
+}

@@ -1,0 +1,911 @@
+//! The library and the plain reader answer alike: on sound files with the scan's answer, on damaged ones with the same
+//! refusal, field and bytes behind the field.
+//!
+//! The environment variables PODDURANCE_SEED (where the seeds start) and PODDURANCE_CASES (how many calls at least) ask
+//! for other or more cases; PODDURANCE_HEAP lends buffers from the heap instead of between guards, so that valgrind sees
+//! their ends. `tests/valgrind` runs the test so.
+
+mod support;
+
+use plain::random::{self, Random};
+use plain::reader;
+use plain::scan::scan;
+use plain::types::{self, BIGINT, BOOLEAN, EQUAL, IN, INT, IS_NULL, NOT_EQUAL, NOT_IN, STRING, TINYINT};
+use plain::writer::{
+    bitmap, body, body_of, body_traced, deletion_file, fix_checksums, index_file, index_file_traced, BitmapForm, Column,
+    ContainerForm, Content, FileLayout, Groups, Index, IndexedColumn, Layout, Place,
+};
+use poddurance::raw;
+use support::{hex, number_from_environment, say, Lender, Tally, CALLS};
+
+const LOCATE: usize = 0;
+const AUDIT: usize = 1;
+const ASK: usize = 2;
+const READ_DELETIONS: usize = 3;
+const SUBTRACT: usize = 4;
+
+/// The answers that each call can give, as document 01's orders list them.
+const POSSIBLE: [&[u8]; CALLS.len()] = [
+    &[0, 1, 2, 3, 4, 12, 255],
+    &[0, 1, 3, 5, 6, 7, 8, 9, 10, 11, 12],
+    &[0, 1, 3, 5, 6, 7, 8, 9, 10, 11, 12],
+    &[0, 1, 2, 3, 6, 7, 10, 12, 13, 14],
+    &[0, 10, 12],
+];
+
+const DEFAULT_SEED: u64 = 20_240_101;
+const DEFAULT_CASES: u64 = 200_000;
+
+const MAX: u64 = 2_147_483_647;
+
+/// Makes each call of both, compares, and counts the answers.
+struct Comparison {
+    /// The seed of the round, or nothing for a fixed case.
+    seed: Option<u64>,
+    tally: Tally,
+    first: Lender,
+    second: Lender,
+    third: Lender,
+    fourth: Lender,
+}
+
+impl Comparison {
+    fn new() -> Comparison {
+        let [first, second, third, fourth] = [(); 4].map(|()| Lender::new());
+        Comparison { seed: None, tally: Tally::new(), first, second, third, fourth }
+    }
+
+    fn locate(&mut self, embedded: &[u8], file: &[u8], column: &[u8], kind: &[u8]) -> (u8, u64, u64) {
+        let expected = reader::locate(embedded, file, column, kind);
+        let lent = (self.first.lend(embedded), self.second.lend(file), self.third.lend(column), self.fourth.lend(kind));
+        let found = raw::locate(lent.0, lent.1, lent.2, lent.3);
+        let same = found == expected && lent.0 == embedded && lent.1 == file && lent.2 == column && lent.3 == kind;
+        if !same {
+            let inputs = [("embedded", embedded), ("file", file), ("column", column), ("kind", kind)];
+            self.fail("Locate", &inputs, &format!("library {found:?}, plain reader {expected:?}"));
+        }
+        self.tally.add(LOCATE, found.0);
+        found
+    }
+
+    fn audit(&mut self, body: &[u8], ty: u32, field: &[u8]) -> (u8, u64, Vec<u8>) {
+        let mut expected_field = field.to_vec();
+        let expected = reader::audit(body, ty, &mut expected_field);
+        let (lent_body, lent_field) = (self.first.lend(body), self.second.lend(field));
+        let found = raw::audit(lent_body, ty, lent_field);
+        let same = found == expected && lent_field == expected_field && lent_body == body;
+        if !same {
+            let found_field = lent_field.to_vec();
+            let inputs = [
+                ("body", body),
+                ("field before", field),
+                ("field after, library", &found_field),
+                ("field after, plain reader", &expected_field),
+            ];
+            self.fail("Audit", &inputs, &format!("type {ty}: library {found:?}, plain reader {expected:?}"));
+        }
+        self.tally.add(AUDIT, found.0);
+        (found.0, found.1, expected_field)
+    }
+
+    fn ask(&mut self, body: &[u8], ty: u32, question: u32, literals: &[u8], field: &[u8]) -> (u8, u64, Vec<u8>) {
+        let mut expected_field = field.to_vec();
+        let expected = reader::ask(body, ty, question, literals, &mut expected_field);
+        let (lent_body, lent_literals, lent_field) = (self.first.lend(body), self.second.lend(literals), self.third.lend(field));
+        let found = raw::ask(lent_body, ty, question, lent_literals, lent_field);
+        let same = found == expected && lent_field == expected_field && lent_body == body && lent_literals == literals;
+        if !same {
+            let found_field = lent_field.to_vec();
+            let inputs = [
+                ("body", body),
+                ("literals", literals),
+                ("field before", field),
+                ("field after, library", &found_field),
+                ("field after, plain reader", &expected_field),
+            ];
+            let answers = format!("type {ty}, question {question}: library {found:?}, plain reader {expected:?}");
+            self.fail("Ask", &inputs, &answers);
+        }
+        self.tally.add(ASK, found.0);
+        (found.0, found.1, expected_field)
+    }
+
+    fn read_deletions(&mut self, file: &[u8], bin: u64, rows: u64, field: &[u8]) -> (u8, u64, Vec<u8>) {
+        let mut expected_field = field.to_vec();
+        let expected = reader::read_deletions(file, bin, rows, &mut expected_field);
+        let (lent_file, lent_field) = (self.first.lend(file), self.second.lend(field));
+        let found = raw::read_deletions(lent_file, bin, rows, lent_field);
+        let same = found == expected && lent_field == expected_field && lent_file == file;
+        if !same {
+            let found_field = lent_field.to_vec();
+            let inputs = [
+                ("file", file),
+                ("field before", field),
+                ("field after, library", &found_field),
+                ("field after, plain reader", &expected_field),
+            ];
+            let answers = format!("bin {bin}, rows {rows}: library {found:?}, plain reader {expected:?}");
+            self.fail("Read deletions", &inputs, &answers);
+        }
+        self.tally.add(READ_DELETIONS, found.0);
+        (found.0, found.1, expected_field)
+    }
+
+    fn subtract(&mut self, first: &[u8], second: &[u8], rows: u64) -> (u8, u64, u64, Vec<u8>) {
+        let mut expected_first = first.to_vec();
+        let expected = reader::subtract(&mut expected_first, second, rows);
+        let (lent_first, lent_second) = (self.first.lend(first), self.second.lend(second));
+        let found = raw::subtract(lent_first, lent_second, rows);
+        let same = found == expected && lent_first == expected_first && lent_second == second;
+        if !same {
+            let found_first = lent_first.to_vec();
+            let inputs = [
+                ("first before", first),
+                ("second", second),
+                ("first after, library", &found_first),
+                ("first after, plain reader", &expected_first),
+            ];
+            self.fail("Subtract", &inputs, &format!("rows {rows}: library {found:?}, plain reader {expected:?}"));
+        }
+        self.tally.add(SUBTRACT, found.0);
+        (found.0, found.1, found.2, expected_first)
+    }
+
+    /// Prints the inputs and how to repeat them, and ends the test.
+    fn fail(&self, call: &str, inputs: &[(&str, &[u8])], answers: &str) -> ! {
+        say(&format!("{call} differs: {answers}"));
+        for (name, bytes) in inputs {
+            say(&format!("{name} ({} bytes): {}", bytes.len(), hex(bytes)));
+        }
+        match self.seed {
+            Some(seed) => panic!(
+                "{call} differs; alone again with PODDURANCE_SEED={seed} PODDURANCE_CASES=1 cargo test --test differential"
+            ),
+            None => panic!("{call} differs in a fixed case"),
+        }
+    }
+
+    /// A demand on sound input: where it doesn't hold, both readers may be wrong alike.
+    fn demand(&self, holds: bool, what: &str, inputs: &[(&str, &[u8])]) {
+        if !holds {
+            self.fail(what, inputs, "the answer isn't the one that the column gives");
+        }
+    }
+}
+
+// Random rounds
+
+fn round(both: &mut Comparison, random: &mut Random) {
+    // Whether buffers of this round begin or end at a guard doesn't depend on the number of calls before.
+    for lender in [&mut both.first, &mut both.second, &mut both.third, &mut both.fourth] {
+        if random.percent(50) {
+            lender.turn();
+        }
+    }
+    match random.below(100) {
+        0..=39 => sound_column(both, random),
+        40..=64 => damaged_body(both, random),
+        65..=67 => misfit_questions(both, random),
+        68..=79 => index_files(both, random),
+        80..=94 => deletion_files(both, random),
+        _ => subtractions(both, random),
+    }
+}
+
+/// From a column to a file in any layout, and back to the scan's answers.
+fn sound_column(both: &mut Comparison, random: &mut Random) {
+    let column = random::column(random);
+    let mut groups = column.groups();
+    random::add_unused_values(random, &mut groups);
+    let layout = random::layout(random, &groups);
+    let body = body(&groups, &layout);
+    check_column(both, random, &column, &groups, &body);
+}
+
+/// A body of the column is found, accepted, and answers as the scan does.
+fn check_column(both: &mut Comparison, random: &mut Random, column: &Column, groups: &Groups, body: &[u8]) {
+    let rows = column.cells.len();
+    let (name, kind) = (random::name(random), random::name(random));
+    let (columns, file_layout) = random::index_file(random, &name, &kind, body);
+    let file = index_file_traced(&columns, &file_layout).bytes;
+    let (answer, start, length) = if random.percent(50) {
+        let other = random.bytes(7);
+        both.locate(&file, &other, &name, &kind)
+    } else {
+        both.locate(&[], &file, &name, &kind)
+    };
+    both.demand(answer == 0, "Locate of a sound file", &[("file", &file), ("column", &name), ("kind", &kind)]);
+    let part = &file[start as usize..][..length as usize];
+    both.demand(part == body, "the part that Locate hands back", &[("file", &file), ("body", body)]);
+
+    let needed = rows.div_ceil(8);
+    let before = random::field(random, rows);
+    let (answer, count, after) = both.audit(part, column.ty, &before);
+    let sound = answer == 0
+        && count == rows as u64
+        && after[..needed].iter().all(|byte| *byte == 0)
+        && after[needed..] == before[needed..];
+    both.demand(sound, "Audit of a sound body", &[("body", body)]);
+
+    let mut last = after;
+    for _ in 0..random.between(3, 8) {
+        let (question, values) = random::question(random, groups);
+        let literals = types::literals(column.ty, &values);
+        let (expected, expected_count) = scan(column, question, &values);
+        let before = random::field(random, rows);
+        let (answer, count, after) = both.ask(part, column.ty, question, &literals, &before);
+        let sound =
+            answer == 0 && count == expected_count && after[..needed] == expected[..] && after[needed..] == before[needed..];
+        both.demand(sound, &format!("Ask {question} of a sound body"), &[("body", body), ("literals", &literals)]);
+        last = after;
+    }
+
+    // The question's rows less the deleted ones.
+    let (file, bins) = random::deletion_file(random, rows as u32);
+    if let Some(bin) = bins.len().checked_sub(1) {
+        let before = random::field(random, rows);
+        let (answer, count, deleted) = both.read_deletions(&file.bytes, bin as u64, rows as u64, &before);
+        let expected = field_of(&bins[bin], needed);
+        let sound = answer == 0
+            && count == bins[bin].len() as u64
+            && deleted[..needed] == expected[..]
+            && deleted[needed..] == before[needed..];
+        both.demand(sound, "Read deletions of a sound file", &[("file", &file.bytes)]);
+
+        let (answer, left, removed, after) = both.subtract(&last, &deleted, rows as u64);
+        let expected: Vec<u8> = last[..needed].iter().zip(&deleted).map(|(first, second)| first & !second).collect();
+        let ones = |bytes: &[u8]| bytes.iter().map(|byte| u64::from(byte.count_ones())).sum::<u64>();
+        let sound = answer == 0
+            && after[..needed] == expected[..]
+            && after[needed..] == last[needed..]
+            && left == ones(&expected)
+            && left + removed == ones(&last[..needed]);
+        both.demand(sound, "Subtract", &[("first", &last), ("second", &deleted)]);
+    }
+}
+
+fn field_of(rows: &[u32], bytes: usize) -> Vec<u8> {
+    let mut field = vec![0; bytes];
+    for row in rows {
+        field[*row as usize / 8] |= 1 << (row % 8);
+    }
+    field
+}
+
+/// A column whose body is to be damaged: mostly small, so that the damage matters.
+fn small_column(random: &mut Random) -> Column {
+    let ty = random.below(types::WIDTHS.len()) as u32;
+    let rows = if random.percent(85) { random.below(60) } else { random::row_count(random).min(9000) };
+    random::column_of(random, ty, rows)
+}
+
+fn damaged_body(both: &mut Comparison, random: &mut Random) {
+    let column = small_column(random);
+    let rows = column.cells.len();
+    let mut groups = column.groups();
+    random::add_unused_values(random, &mut groups);
+    for _ in 0..8 {
+        let mut said = groups.clone();
+        let broken = random.percent(40);
+        if broken {
+            random::break_groups(random, &mut said);
+        }
+        let layout = random::layout(random, &said);
+        let traced = body_traced(&said, &layout);
+        let body = if broken && random.percent(80) { traced.bytes } else { random::damage(random, &traced) };
+        let ty = if random.percent(3) { random.below(14) as u32 } else { column.ty };
+        let near = rows + random.below(9);
+        let before = random::field_or_short(random, near);
+        both.audit(&body, ty, &before);
+        let before = random::field_or_short(random, near);
+        let (question, values) = random::question(random, &groups);
+        both.ask(&body, ty, question, &types::literals(column.ty, &values), &before);
+    }
+}
+
+fn misfit_questions(both: &mut Comparison, random: &mut Random) {
+    let column = small_column(random);
+    let groups = column.groups();
+    let traced = body_traced(&groups, &random::layout(random, &groups));
+    for _ in 0..10 {
+        let (ty, question, literals) = random::misfit_question(random, &groups);
+        let body = if random.percent(70) { traced.bytes.clone() } else { random::damage(random, &traced) };
+        let before = random::field_or_short(random, column.cells.len());
+        both.ask(&body, ty, question, &literals, &before);
+        both.audit(&body, ty, &before);
+    }
+}
+
+fn index_files(both: &mut Comparison, random: &mut Random) {
+    let (name, kind) = (random::name(random), random::name(random));
+    let length = random.below(40);
+    let body = random.bytes(length);
+    let (mut columns, layout) = random::index_file(random, &name, &kind, &body);
+    match random.below(20) {
+        0..=2 => random::list_twice(random, &mut columns, &name),
+        3 => columns.retain(|column| column.name != name),
+        4 => columns.clear(),
+        _ => {}
+    }
+    let traced = index_file_traced(&columns, &layout);
+    for _ in 0..10 {
+        let file = if random.percent(20) { traced.bytes.clone() } else { random::damage(random, &traced) };
+        let name = if random.percent(85) { name.clone() } else { random::name(random) };
+        let kind = if random.percent(85) { kind.clone() } else { random::name(random) };
+        if random.percent(20) {
+            let other = random.bytes(length);
+            both.locate(&file, &other, &name, &kind);
+        } else {
+            both.locate(&[], &file, &name, &kind);
+        }
+    }
+}
+
+fn deletion_files(both: &mut Comparison, random: &mut Random) {
+    let rows = if random.percent(80) { random.below(300) } else { random::row_count(random) } as u32;
+    let (traced, bins) = random::deletion_file(random, rows);
+    for bin in 0..=bins.len() {
+        let before = random::field_or_short(random, rows as usize);
+        let (answer, count, after) = both.read_deletions(&traced.bytes, bin as u64, u64::from(rows), &before);
+        let needed = rows.div_ceil(8) as usize;
+        if let (Some(deleted), true) = (bins.get(bin), before.len() >= needed) {
+            let sound = answer == 0
+                && count == deleted.len() as u64
+                && after[..needed] == field_of(deleted, needed)[..]
+                && after[needed..] == before[needed..];
+            both.demand(sound, "Read deletions of a sound file", &[("file", &traced.bytes)]);
+        }
+    }
+    for _ in 0..2 {
+        let file = deletion_file(&[random::near_bitmap(random)]);
+        // As many rows as the highest key can need, as a rule.
+        let rows = if random.percent(80) { 16 << 16 } else { random.between(1, 16 << 16) };
+        let before = random::field(random, rows);
+        both.read_deletions(&file, 0, rows as u64, &before);
+    }
+    for _ in 0..8 {
+        let mut file = random::damage(random, &traced);
+        if random.percent(65) {
+            fix_checksums(&mut file);
+        }
+        let bin = match random.below(20) {
+            0 => random.number(),
+            1 => u64::MAX,
+            _ => random.below(bins.len() + 1) as u64,
+        };
+        let asked_rows = match random.below(20) {
+            0 => random.number() >> random.below(64),
+            1 => MAX + 1,
+            2 => u64::from(rows) | 1 << 32,
+            3 => u64::from(rows.saturating_sub(1)),
+            _ => u64::from(rows) + random.below(3) as u64,
+        };
+        let before = random::field_or_short(random, rows as usize + 2);
+        both.read_deletions(&file, bin, asked_rows, &before);
+    }
+}
+
+fn subtractions(both: &mut Comparison, random: &mut Random) {
+    for _ in 0..6 {
+        let rows = random::row_count(random).min(9000);
+        let first = random::field_or_short(random, rows);
+        let second = random::field_or_short(random, rows);
+        let asked_rows = match random.below(20) {
+            0 => random.number() >> random.below(64),
+            1 => *random.pick(&[MAX, MAX + 1, u64::MAX, u64::MAX - 6, 1 << 32]),
+            _ => rows as u64,
+        };
+        both.subtract(&first, &second, asked_rows);
+    }
+}
+
+// Fixed cases
+
+fn int(number: i32) -> Vec<u8> {
+    number.to_be_bytes().to_vec()
+}
+
+/// Every cut and every flipped bit of small files of each kind.
+fn every_cut_and_flip(both: &mut Comparison) {
+    let changed = |bytes: &[u8]| {
+        let mut all: Vec<Vec<u8>> = (0..=bytes.len()).map(|end| bytes[..end].to_vec()).collect();
+        for bit in 0..8 * bytes.len() {
+            let mut flipped = bytes.to_vec();
+            flipped[bit / 8] ^= 1 << (bit % 8);
+            all.push(flipped);
+        }
+        all
+    };
+    let column = Column::new(TINYINT, vec![Some(vec![7]), Some(vec![9]), None, Some(vec![7]), Some(vec![7])]);
+    let runs = BitmapForm::WithRuns(vec![ContainerForm::Runs { cuts: vec![4] }]);
+    for layout in [Layout::version(1), Layout::version(2).with_blocks_of(1), Layout::version(2).with_form(runs)] {
+        let whole = body_of(&column, &layout);
+        for body in changed(&whole) {
+            both.audit(&body, TINYINT, &[0xA5; 2]);
+            both.ask(&body, TINYINT, NOT_EQUAL, &[7], &[0xA5; 2]);
+        }
+        for file in changed(&index_file(&[("s", "bitmap", &whole)])) {
+            both.locate(&[], &file, b"s", b"bitmap");
+        }
+    }
+    let bitmaps = [bitmap(&[0, 2, 5], &BitmapForm::WithoutRuns), bitmap(&[1, 2, 3, 4, 5, 6], &BitmapForm::Smallest)];
+    for mut file in changed(&deletion_file(&bitmaps)) {
+        both.read_deletions(&file, 1, 7, &[0x5A; 2]);
+        fix_checksums(&mut file);
+        both.read_deletions(&file, 1, 7, &[0x5A; 2]);
+        both.read_deletions(&file, 0, 7, &[0x5A; 2]);
+    }
+}
+
+/// Inputs that break two rules, or keep one narrowly: which answer goes first.
+fn orders(both: &mut Comparison) {
+    let mut audit = |body: &[&[u8]], ty: u32, rows: usize, answer: u8| {
+        let body = body.concat();
+        let found = both.audit(&body, ty, &vec![0xA5; rows.div_ceil(8)]);
+        assert_eq!(found.0, answer, "Audit of {}", hex(&body));
+    };
+    let (none, one) = (int(0), int(1));
+    audit(&[], 12, 0, 11);
+    audit(&[], TINYINT, 0, 1);
+    // Version 2, no rows: value number, has-null, block number, and then the end.
+    audit(&[&[2], &none, &one, &[0], &none], TINYINT, 0, 5);
+    audit(&[&[2], &none, &none, &[0], &one], TINYINT, 0, 5);
+    audit(&[&[2], &none, &none, &[0], &none], TINYINT, 0, 1);
+    audit(&[&[2], &none, &none, &[0], &none, &none], TINYINT, 0, 0);
+    audit(&[&[2], &none, &none, &[0], &none, &one], TINYINT, 0, 5);
+    audit(&[&[2], &int(-1), &none], TINYINT, 0, 5);
+    audit(&[&[2], &none, &int(i32::MIN), &[0]], TINYINT, 0, 5);
+    audit(&[&[2], &none, &none, &[2]], TINYINT, 0, 5);
+    // The directory's values are compared with their blocks' alone: 9, 7 and then the end.
+    audit(&[&[2], &none, &int(2), &[0], &int(2), &[9], &none, &[7], &int(13)], TINYINT, 0, 1);
+    // A block's offset, right and wrong, where the bytes end.
+    audit(&[&[2], &none, &one, &[0], &one, &[9], &none, &int(13)], TINYINT, 0, 1);
+    audit(&[&[2], &none, &one, &[0], &one, &[9], &one, &int(13)], TINYINT, 0, 5);
+    audit(&[&[2], &none, &one, &[0], &one, &[9], &int(-1), &int(13)], TINYINT, 0, 5);
+    let block = |count: i32, value: u8| [&int(count)[..], &[value], &int(-1), &int(7)].concat();
+    audit(&[&[2], &one, &one, &[0], &one, &[9], &none, &int(13), &block(1, 9)], TINYINT, 1, 0);
+    audit(&[&[2], &one, &one, &[0], &one, &[9], &none, &int(12), &block(1, 9)], TINYINT, 1, 5);
+    audit(&[&[2], &one, &one, &[0], &one, &[9], &none, &int(13), &block(i32::MAX, 9)], TINYINT, 1, 1);
+    audit(&[&[2], &one, &one, &[0], &one, &[9], &none, &int(13), &block(1, 8)], TINYINT, 1, 5);
+    audit(&[&[2], &one, &one, &[0], &one, &[9], &none, &int(13), &int(1), &[8]], TINYINT, 1, 5);
+    audit(&[&[2], &one, &one, &[0], &one, &[9], &none, &int(13), &int(0)], TINYINT, 1, 5);
+    audit(&[&[2], &one, &int(2), &[0], &one, &[9], &none, &int(13), &block(1, 9)], TINYINT, 1, 5);
+    // A block without entries, though all offsets and the sum are right.
+    audit(&[&[2], &one, &one, &[0], &int(2), &[9], &none, &[9], &int(4), &int(17), &none, &block(1, 9)], TINYINT, 1, 5);
+    // ROOM goes before every bitmap.
+    audit(&[&[1], &int(9), &one, &[0], &[9], &int(99)], TINYINT, 8, 10);
+    audit(&[&[1], &int(9), &one, &[0], &[9], &int(99)], TINYINT, 9, 6);
+
+    // Bitmaps of one value of 3 rows, their offset and length as stored in version 2.
+    let of = |rows: &[u32], form: BitmapForm| bitmap(rows, &form);
+    let three = of(&[0, 1, 2], BitmapForm::WithoutRuns);
+    let size = three.len() as i32;
+    let values = BitmapForm::WithRuns(Vec::new());
+    let mut high_half = three.clone();
+    high_half[2] = 1;
+    let two_keys = of(&[0, 1, 2, 3, 65536], BitmapForm::WithoutRuns);
+    let mut bad_second = two_keys.clone();
+    let cut = bad_second.len() - 1;
+    bad_second.truncate(cut);
+    for (offset, length, bitmap, answer) in [
+        (0, -1, three.clone(), 0),
+        (0, size, three.clone(), 0),
+        (0, size - 1, three.clone(), 6),
+        (0, size + 1, [&three[..], &[0]].concat(), 6),
+        (0, 0, three.clone(), 6),
+        (0, -2, three.clone(), 6),
+        (0, i32::MIN, three.clone(), 6),
+        (size, -1, three.clone(), 6),
+        (i32::MAX, -1, three.clone(), 6),
+        (0, -1, Vec::new(), 6),
+        (0, -1, of(&[0, 1, 2], values), 0),
+        (0, -1, high_half, 6),
+        (0, -1, of(&[0, 1, 2, 3], BitmapForm::WithoutRuns), 7),
+        (0, -1, two_keys, 7),
+        (0, -1, bad_second, 6),
+        (0, -1, of(&[0, 2], BitmapForm::WithoutRuns), 9),
+        (0, -1, of(&[], BitmapForm::WithoutRuns), 9),
+        (-1, 5, three.clone(), 9),
+        (i32::MIN, 5, three, 7),
+    ] {
+        let entry = [&one[..], &[9], &int(offset), &int(length)].concat();
+        audit(&[&[2], &int(3), &one, &[0], &one, &[9], &none, &int(13), &entry, &bitmap], TINYINT, 3, answer);
+    }
+    // Null's bitmap comes first: its fault goes before the value's, and a row of both is TWICE.
+    audit(&[&[1], &int(3), &one, &[1], &int(-9), &[9], &int(99)], TINYINT, 3, 7);
+    audit(&[&[1], &int(3), &one, &[1], &int(-3), &[9], &int(99)], TINYINT, 3, 6);
+    audit(&[&[1], &int(3), &one, &[1], &int(-3), &[9], &int(-3)], TINYINT, 3, 8);
+
+    let string = |length: i32| [&int(length)[..], b"ab"].concat();
+    for (length, answer) in [(2, 1), (3, 1), (65535, 1), (65536, 12), (i32::MAX, 12), (-1, 5), (i32::MIN, 5)] {
+        let body = [&[1][..], &none, &one, &[0], &string(length)].concat();
+        assert_eq!(both.audit(&body, STRING, &[]).0, answer, "a value of length {length}");
+    }
+    for (length, answer) in [(2, 1), (3, 11), (65535, 11), (65536, 12), (i32::MAX, 12), (-1, 11), (i32::MIN, 11), (1, 11)] {
+        assert_eq!(both.ask(&[], STRING, EQUAL, &string(length), &[]).0, answer, "a literal of length {length}");
+    }
+
+    locate_orders(both);
+    deletion_orders(both);
+}
+
+fn locate_orders(both: &mut Comparison) {
+    assert_eq!(both.locate(&[], &[], b"s", b"bitmap").0, 1);
+    let none = index_file(&[]);
+    assert_eq!(none.len(), 24);
+    assert_eq!(both.locate(&[], &none, b"s", b"bitmap").0, 255);
+    for length in 0..24 {
+        assert_eq!(both.locate(&[], &none[..length], b"s", b"bitmap").0, if length < 16 { 1 } else { 4 });
+    }
+    let at = |kind: &[u8], start: i32, length: i32| Index { kind: kind.to_vec(), content: Content::At { start, length } };
+    let column = |name: &[u8], indexes: &[Index]| IndexedColumn { name: name.to_vec(), indexes: indexes.to_vec() };
+    // A head of 47 bytes and 5 more.
+    let mut small = |start: i32, length: i32, answer: u8| {
+        let layout = FileLayout { tail: vec![1; 5], ..FileLayout::default() };
+        let file = index_file_traced(&[column(b"s", &[at(b"bitmap", start, length)])], &layout).bytes;
+        assert_eq!(both.locate(&[], &file, b"s", b"bitmap").0, answer, "start {start}, length {length}");
+    };
+    for (start, length, answer) in [(47, 5, 0), (47, 0, 0), (52, 0, 0), (46, 1, 4), (46, 0, 4), (53, 0, 4), (47, 6, 4)] {
+        small(start, length, answer);
+    }
+    for (start, length) in
+        [(-1, 0), (-1, 5), (i32::MIN, 0), (47, -1), (52, -5), (i32::MAX, i32::MAX), (47, i32::MIN), (47, i32::MAX)]
+    {
+        small(start, length, 4);
+    }
+    let index = at(b"bitmap", 0, 0);
+    let mut answers = |columns: &[IndexedColumn], answer: u8| {
+        let file = index_file_traced(columns, &FileLayout::default()).bytes;
+        assert_eq!(both.locate(&[], &file, b"s", b"bitmap").0, answer);
+    };
+    answers(&[column(b"s", &[]), column(b"s", &[])], 4);
+    let listed_once = column(b"t", std::slice::from_ref(&index));
+    answers(&[listed_once.clone(), listed_once], 255);
+    answers(&[column(b"t", &[index.clone(), index.clone()])], 255);
+    answers(&[column(b"s", &[at(b"bsi", -1, -1), at(b"bsi", -1, -1)])], 255);
+    answers(&[column(b"s", &[at(b"bitmap", 200, 0), index])], 4);
+}
+
+fn deletion_orders(both: &mut Comparison) {
+    let one = deletion_file(&[bitmap(&[1], &BitmapForm::WithoutRuns)]);
+    let with = |more: &[u8]| [&one[..], more].concat();
+    let mut wrong_magic = one.clone();
+    wrong_magic[5] ^= 1;
+    for (file, bin, rows, length, answer) in [
+        (one.clone(), 0, 2, 1, 0),
+        (one.clone(), 0, 1, 1, 7),
+        (one.clone(), 0, 0, 0, 7),
+        (one.clone(), 1, 2, 1, 14),
+        (one.clone(), u64::MAX, 2, 1, 14),
+        (one.clone(), 0, 9, 1, 10),
+        (one.clone(), 0, MAX + 1, 1, 12),
+        (Vec::new(), 0, 9, 1, 10),
+        (Vec::new(), 0, 9, 2, 1),
+        (vec![2], 0, 9, 2, 3),
+        (vec![1], 0, 9, 2, 14),
+        (with(&[0]), 0, 2, 1, 1),
+        (with(&int(3)), 0, 2, 1, 1),
+        (with(&int(3)), 7, 2, 1, 1),
+        (with(&[&int(3)[..], &[0; 7]].concat()), 0, 2, 1, 1),
+        (with(&[&int(4)[..], &[0; 8]].concat()), 0, 2, 1, 0),
+        (with(&[&int(4)[..], &[0; 8]].concat()), 1, 2, 1, 2),
+        (with(&[&int(4)[..], &[0; 7]].concat()), 0, 2, 1, 1),
+        (with(&int(-1)), 0, 2, 1, 1),
+        (wrong_magic, 0, 2, 1, 2),
+        (one[..one.len() - 1].to_vec(), 0, 2, 1, 1),
+    ] {
+        let found = both.read_deletions(&file, bin, rows, &vec![0xA5; length]);
+        assert_eq!(found.0, answer, "bin {bin} for {rows} rows of {}", hex(&file));
+    }
+    // A bin of its magic alone has no bitmap; one with a byte behind its bitmap isn't filled by it.
+    let bare = deletion_file(&[Vec::new()]);
+    assert_eq!(both.read_deletions(&bare, 0, 2, &[0xA5]).0, 6);
+    let longer = deletion_file(&[[&bitmap(&[1], &BitmapForm::WithoutRuns)[..], &[0]].concat()]);
+    assert_eq!(both.read_deletions(&longer, 0, 2, &[0xA5]).0, 6);
+}
+
+/// Bitmaps that keep all rules but one, or keep one narrowly, without offsets: cookie 12347 and one or two containers.
+fn bitmap_rules(both: &mut Comparison) {
+    let pair = |number: u16| number.to_le_bytes();
+    let numbers = |numbers: &[u16]| numbers.iter().flat_map(|number| pair(*number)).collect::<Vec<u8>>();
+    // Key and cardinality less 1 of each container, flags, and the containers.
+    let cases: [(&[u16], u8, &[u16], u8); 19] = [
+        (&[0, 1], 0, &[3, 4], 0),
+        (&[0, 1], 0, &[3, 3], 6),
+        (&[0, 1], 0, &[4, 3], 6),
+        (&[0, 1], 0, &[3], 6),
+        (&[0, 1], 2, &[3, 4], 6),
+        (&[0, 0], 1, &[1, 65535, 0], 0),
+        (&[0, 1], 1, &[1, 65535, 1], 6),
+        (&[0, 65535], 1, &[1, 0, 65535], 0),
+        (&[0, 65535], 1, &[1, 1, 65535], 6),
+        (&[0, 65535], 1, &[1, 1, 65534], 6),
+        (&[0, 0], 1, &[0], 6),
+        (&[0, 3], 1, &[2, 0, 1, 2, 1], 0),
+        (&[0, 3], 1, &[2, 0, 1, 1, 1], 6),
+        (&[0, 3], 1, &[2, 2, 1, 0, 1], 6),
+        (&[0, 2], 1, &[2, 0, 1, 2, 1], 6),
+        (&[0, 4], 1, &[2, 0, 1, 2, 1], 6),
+        (&[0, 0, 1, 0], 0, &[3, 3], 0),
+        (&[0, 0, 0, 0], 0, &[3, 4], 6),
+        (&[1, 0, 0, 0], 0, &[3, 4], 6),
+    ];
+    for (headers, flags, containers, answer) in cases {
+        let count = headers.len() as u16 / 2;
+        let bitmap = [&pair(12347)[..], &pair(count - 1), &[flags], &numbers(headers), &numbers(containers)].concat();
+        let file = deletion_file(&[bitmap]);
+        let found = both.read_deletions(&file, 0, 2 << 16, &[0xA5; 16384]);
+        assert_eq!(found.0, answer, "the file {}", hex(&file));
+    }
+}
+
+/// Numbers of values, blocks, literals and bytes of strings and names at and past their limits.
+fn limits(both: &mut Comparison, random: &mut Random) {
+    let numbers = |count: i32| Column::new(INT, (0..count).map(|number| Some(int(7 * number - 100_000))).collect());
+    for (version, most) in [(1, 4096), (2, 65536)] {
+        let column = numbers(most);
+        let groups = column.groups();
+        for layout in [Layout::version(version), Layout::version(version).with_blocks_of(1)] {
+            let body = body(&groups, &layout);
+            let field = random::field(random, most as usize);
+            for question in [EQUAL, NOT_EQUAL] {
+                let literal = &groups.values[most as usize - 1].0;
+                let (expected, count) = scan(&column, question, &[literal]);
+                let found = both.ask(&body, INT, question, literal, &field);
+                let sound = found.0 == 0 && found.1 == count && found.2[..expected.len()] == expected[..];
+                both.demand(sound, "Ask of the most values", &[("body", &body)]);
+            }
+            assert_eq!(both.audit(&body, INT, &field).0, 0);
+        }
+        let body = body_of(&numbers(most + 1), &Layout::version(version).with_blocks_of(3));
+        let field = random::field(random, most as usize + 1);
+        assert_eq!(both.audit(&body, INT, &field).0, 12);
+    }
+    // 65,537 blocks; LIMIT goes before DICT, so the value number may be wrong too.
+    for values in [0, 1, 65536] {
+        let mut body = vec![2, 0, 0, 0, 0];
+        body.extend(int(values));
+        body.push(0);
+        body.extend(int(65537));
+        assert_eq!(both.audit(&body, INT, &[]).0, 12);
+    }
+
+    for (length, answer) in [(65535, 0), (65536, 12)] {
+        let text = vec![b'x'; length];
+        let column = Column::new(STRING, vec![Some(text.clone()), None]);
+        for version in [1, 2] {
+            let body = body_of(&column, &Layout::version(version));
+            assert_eq!(both.audit(&body, STRING, &[0xFF]).0, answer);
+            let literals = types::literals(STRING, &[&text]);
+            assert_eq!(both.ask(&body, STRING, EQUAL, &literals, &[0xFF]).0, answer);
+        }
+    }
+
+    let body = body_of(&Column::new(BOOLEAN, vec![Some(vec![1]), Some(vec![0])]), &Layout::version(1));
+    for (count, question, answer) in
+        [(1024, IN, 0), (1024, EQUAL, 11), (1025, IN, 12), (1025, EQUAL, 12), (1025, IS_NULL, 12), (1024, IS_NULL, 11)]
+    {
+        assert_eq!(both.ask(&body, BOOLEAN, question, &vec![1; count], &[0xFF]).0, answer);
+    }
+    let mut literals = vec![1; 1024];
+    literals.push(9);
+    assert_eq!(both.ask(&body, BOOLEAN, IN, &literals, &[0xFF]).0, 12);
+    literals[1023] = 9;
+    assert_eq!(both.ask(&body, BOOLEAN, IN, &literals, &[0xFF]).0, 11);
+
+    // A name of the most bytes is found; a longer asked name matches nothing.
+    let long = "n".repeat(65535);
+    let file = index_file(&[(&long, &long, b"body")]);
+    assert_eq!(both.locate(&[], &file, long.as_bytes(), long.as_bytes()).0, 0);
+    let longer = "n".repeat(65536);
+    assert_eq!(both.locate(&[], &file, longer.as_bytes(), long.as_bytes()).0, 255);
+    assert_eq!(both.locate(&[], &file, long.as_bytes(), longer.as_bytes()).0, 255);
+}
+
+/// Bitmaps of 65,536 containers, of 65,535 runs in one, and at the edges of containers.
+fn containers(both: &mut Comparison, random: &mut Random) {
+    let edges: Vec<u32> = (0..20).flat_map(|key| [key << 16, (key << 16) + 65535]).collect();
+    let full: Vec<u32> = (0..65536).collect();
+    let nearly_all_cuts: Vec<u16> = (1..=65535).filter(|row| *row != 77).collect();
+    let cases = [
+        (edges.clone(), BitmapForm::WithoutRuns),
+        (edges, BitmapForm::WithRuns(vec![ContainerForm::Runs { cuts: Vec::new() }; 9])),
+        (full.clone(), BitmapForm::WithoutRuns),
+        (full.clone(), BitmapForm::Smallest),
+        (full, BitmapForm::WithRuns(vec![ContainerForm::Runs { cuts: nearly_all_cuts }])),
+        ((0..4096).map(|row| 16 * row).collect(), BitmapForm::WithoutRuns),
+        ((0..4097).map(|row| 15 * row).collect(), BitmapForm::WithoutRuns),
+    ];
+    for (rows, form) in cases {
+        let last = u64::from(*rows.last().expect("rows"));
+        let file = deletion_file(&[bitmap(&rows, &form)]);
+        let field = random::field(random, last as usize + 1);
+        let (answer, count, after) = both.read_deletions(&file, 0, last + 1, &field);
+        let expected = field_of(&rows, (last as usize + 1).div_ceil(8));
+        let sound = answer == 0 && count == rows.len() as u64 && after[..expected.len()] == expected[..];
+        both.demand(sound, "Read deletions", &[("file", &file)]);
+        assert_eq!(both.read_deletions(&file, 0, last, &field).0, 7);
+    }
+    // The last key of all holds rows past every row count.
+    let every_key: Vec<u32> = (0..65536).map(|key| key << 16).collect();
+    for form in [BitmapForm::WithoutRuns, BitmapForm::WithRuns(Vec::new())] {
+        let file = deletion_file(&[bitmap(&every_key, &form)]);
+        assert_eq!(both.read_deletions(&file, 0, 100, &[0xFF; 13]).0, 7);
+    }
+}
+
+/// A value without rows whose bitmap lies inside the bits of another value's.
+fn bitmap_inside_bits(both: &mut Comparison, random: &mut Random) {
+    let empty = bitmap(&[], &BitmapForm::WithoutRuns);
+    for at in [1, 100, 4097, 8192 - empty.len()] {
+        let mut bits = vec![0xFF; 8192];
+        bits[at..at + empty.len()].copy_from_slice(&empty);
+        let value = 5i64.to_be_bytes().to_vec();
+        let is_set = |row: usize| bits[row / 8] >> (row % 8) & 1 == 1;
+        let cells = (0..65536).map(|row| is_set(row).then(|| value.clone())).collect();
+        let column = Column::new(BIGINT, cells);
+        let mut groups = column.groups();
+        groups.add_unused(6i64.to_be_bytes().to_vec());
+        for version in [1, 2] {
+            let mut layout = Layout::version(version);
+            layout.bitmap_order = vec![1, 0, 2];
+            layout.places = vec![Place::default(), Place::default(), Place { reuse: true, ..Place::default() }];
+            let whole = body(&groups, &layout);
+            let apart = body(&groups, &Layout::version(version));
+            assert_eq!(whole.len() + empty.len(), apart.len(), "the empty bitmap has bytes of its own");
+            check_column(both, random, &column, &groups, &whole);
+        }
+    }
+}
+
+/// The most rows: every row in one run per container.
+fn most_rows(both: &mut Comparison) {
+    let containers = 32768u32;
+    // Written by hand, since a list of the rows would take gigabytes.
+    let mut all_rows = (12347 | (containers - 1) << 16).to_le_bytes().to_vec();
+    all_rows.extend(vec![0xFF; containers as usize / 8]);
+    // The last row of all is left to another value, and the row behind it is past the limit.
+    let less_one = |key: u32| if key == containers - 1 { 65533u16 } else { 65535 };
+    for key in 0..containers {
+        all_rows.extend((key as u16).to_le_bytes());
+        all_rows.extend(less_one(key).to_le_bytes());
+    }
+    let first = all_rows.len() as u32 + 4 * containers;
+    for key in 0..containers {
+        all_rows.extend((first + 6 * key).to_le_bytes());
+    }
+    for key in 0..containers {
+        all_rows.extend([1, 0, 0, 0]);
+        all_rows.extend(less_one(key).to_le_bytes());
+    }
+
+    let mut body = vec![1];
+    body.extend(int(MAX as i32));
+    body.extend([0, 0, 0, 2, 0]);
+    body.extend([&int(5)[..], &int(0), &int(6), &int(-(MAX as i32))].concat());
+    body.extend(&all_rows);
+    let bytes = MAX.div_ceil(8) as usize;
+    let file = deletion_file(&[all_rows]);
+
+    let mut field = Lender::guarded();
+    let field = field.lend_anything(bytes);
+    let mut plain_field = vec![0; bytes];
+    let compare = |tally: &mut Tally, call: usize, found: (u8, u64), expected: (u8, u64), sound: (u8, u64), same: bool| {
+        assert_eq!(found, expected, "{} of the most rows", CALLS[call]);
+        assert_eq!(found, sound, "{} of the most rows", CALLS[call]);
+        assert!(same, "{} of the most rows leaves another field", CALLS[call]);
+        tally.add(call, found.0);
+    };
+    let found = raw::audit(&body, INT, field);
+    let expected = reader::audit(&body, INT, &mut plain_field);
+    compare(&mut both.tally, AUDIT, found, expected, (0, MAX), *field == *plain_field);
+    let found = raw::ask(&body, INT, NOT_IN, &int(6), field);
+    let expected = reader::ask(&body, INT, NOT_IN, &int(6), &mut plain_field);
+    compare(&mut both.tally, ASK, found, expected, (0, MAX - 1), *field == *plain_field);
+    let found = raw::read_deletions(&file, 0, MAX, field);
+    let expected = reader::read_deletions(&file, 0, MAX, &mut plain_field);
+    compare(&mut both.tally, READ_DELETIONS, found, expected, (0, MAX - 1), *field == *plain_field);
+    // The plain reader's field is the library's second field, so that a third of this size isn't needed.
+    let found = raw::subtract(field, &plain_field, MAX);
+    assert_eq!(found, (0, 0, MAX - 1));
+    assert!(field.iter().all(|byte| *byte == 0));
+    both.tally.add(SUBTRACT, found.0);
+}
+
+/// Buffers past the limit are refused before anything else; they are only mapped, not filled.
+fn buffers_past_the_limit(both: &mut Comparison) {
+    let mut long = Lender::guarded();
+    let long = &*long.lend_anything(MAX as usize + 1);
+    let mut field = [0xA5; 2];
+    let small = body_of(&Column::new(TINYINT, vec![Some(vec![7])]), &Layout::version(1));
+    let file = index_file(&[("s", "bitmap", &small)]);
+
+    type Triple = (u8, u64, u64);
+    let locates: [[&[u8]; 4]; 6] = [
+        [long, &[], b"s", b"bitmap"],
+        [&[], long, b"s", b"bitmap"],
+        [&[], &file, long, b"bitmap"],
+        [&[], &file, b"s", long],
+        [long, &file, b"s", b"bitmap"],
+        // The buffer that isn't looked at may be too long.
+        [&file, long, b"s", b"bitmap"],
+    ];
+    for (i, [embedded, file, column, kind]) in locates.into_iter().enumerate() {
+        let found: Triple = raw::locate(embedded, file, column, kind);
+        assert_eq!(found, reader::locate(embedded, file, column, kind));
+        assert_eq!(found.0, if i == 5 { 0 } else { 12 });
+        both.tally.add(LOCATE, found.0);
+    }
+    for ty in [TINYINT, 99] {
+        assert_eq!(raw::audit(long, ty, &mut field), (12, 0));
+        assert_eq!(reader::audit(long, ty, &mut field), (12, 0));
+        both.tally.add(AUDIT, 12);
+        for (body, literals) in [(long, &[7][..]), (&small, long), (&[], long)] {
+            assert_eq!(raw::ask(body, ty, 99, literals, &mut field), (12, 0));
+            assert_eq!(reader::ask(body, ty, 99, literals, &mut field), (12, 0));
+            both.tally.add(ASK, 12);
+        }
+    }
+    assert_eq!(raw::read_deletions(long, 0, 8, &mut field), (12, 0));
+    assert_eq!(reader::read_deletions(long, 0, 8, &mut field), (12, 0));
+    both.tally.add(READ_DELETIONS, 12);
+    assert_eq!(field, [0xA5; 2], "a field was changed by LIMIT");
+    // Row fields may be longer than any input buffer.
+    assert_eq!(raw::subtract(&mut field, long, 16), (0, 8, 0));
+    assert_eq!(reader::subtract(&mut field, long, 16), (0, 8, 0));
+    both.tally.add(SUBTRACT, 0);
+}
+
+#[test]
+fn library_and_plain_reader_agree() {
+    let asked_seed = number_from_environment("PODDURANCE_SEED");
+    let first_seed = asked_seed.unwrap_or(DEFAULT_SEED);
+    let cases = number_from_environment("PODDURANCE_CASES").unwrap_or(DEFAULT_CASES);
+    let alone = cases == 1;
+    let mut both = Comparison::new();
+    let mut fixed = 0;
+    if !alone {
+        let random = &mut Random::new(first_seed);
+        every_cut_and_flip(&mut both);
+        orders(&mut both);
+        bitmap_rules(&mut both);
+        limits(&mut both, random);
+        containers(&mut both, random);
+        bitmap_inside_bits(&mut both, random);
+        most_rows(&mut both);
+        buffers_past_the_limit(&mut both);
+        fixed = both.tally.calls();
+    }
+
+    let mut seed = first_seed;
+    loop {
+        both.seed = Some(seed);
+        round(&mut both, &mut Random::new(seed));
+        if both.tally.calls() - fixed >= cases {
+            break;
+        }
+        seed = seed.wrapping_add(1);
+    }
+
+    let calls = both.tally.calls();
+    let accepted = both.tally.accepted();
+    say(&format!(
+        "\n{calls} calls of library and plain reader agree ({fixed} of them fixed); seeds {first_seed} to {seed}; \
+         {}% accepted\n{}",
+        100 * accepted / calls,
+        both.tally.table()
+    ));
+    for (call, possible) in POSSIBLE.iter().enumerate() {
+        for answer in 0..=255 {
+            let count = both.tally.of(call, answer);
+            let name = CALLS[call];
+            assert!(count == 0 || possible.contains(&answer), "{name} can't give the answer {answer}");
+            if cases >= DEFAULT_CASES {
+                assert!(count > 0 || !possible.contains(&answer), "{name} never gave the answer {answer}");
+            }
+        }
+    }
+    if cases >= DEFAULT_CASES {
+        assert!(100 * accepted >= 30 * calls, "fewer than 30% accepted");
+    }
+}
