@@ -18,8 +18,7 @@ use Rattle.refusal.specs.declared.Refusal.the-variants.{Literal, Limit}
 use Rattle.stored_value.specs.declared.Sized.{Sized}
 use Rattle.stored_value.specs.Meaning.{width, isString, booleanOk, rank, bytesLess, less}
 use Rattle.refusal.specs.Reading.{Out, refuse, ok, check}
-use Rattle.stored_value.specs.Reading.{valueSize, literals}
-use Rattle.stored_value.specs.Code.{sizedBy}
+use Rattle.stored_value.specs.Reading.{valueSize, sizedBy, literals}
 use Rattle.stored_value.specs.Laws.{stringSize, size-number, size-string, value-read, literals-end, literals-full, literals-refused, literals-next}
 
 -- ---- `bytes_less`

@@ -19,10 +19,10 @@ use Rattle.numbers.specs.Laws.{Bytes, bytes-drop, on-number, number-laid}
 use Rattle.numbers.specs.Same.{same-refl, same→eq, same-sym}
 use Rattle.refusal.specs.declared.Refusal.{Refusal}
 use Rattle.refusal.specs.declared.Refusal.the-variants.{Literal, Limit}
-use Rattle.stored_value.specs.Meaning.{width, isString, booleanOk, Value, number, string, rank, Cell, null, value, sameCell, Literals, literalBytes}
+use Rattle.stored_value.specs.Meaning.{width, isString, booleanOk, Value, number, string, rank, Cell, null, value, sameCell, listed, Literals, literalBytes}
 use Rattle.refusal.specs.Laws.{check-ok}
 use Rattle.refusal.specs.Reading.{Out, refuse, ok, check, andThen}
-use Rattle.stored_value.specs.Reading.{valueSize, valueOf, literals}
+use Rattle.stored_value.specs.Reading.{valueSize, valueOf, literals, Lists}
 
 -- ---- the same cell
 
@@ -211,6 +211,16 @@ pub value-length : (t : ℕ) (v : List ℕ) → Value t v → 1 ≤ length v
 value-length t v (number v′ n l b o) = omega (arith, width-some t n)
 value-length t v (string c n l b) = omega arith
 
+-- ---- whether a value is listed, of literals that are read
+
+module _ (v : List ℕ) (b : Bool) where
+  pub lists-by : (o : Out (List (List ℕ))) → ((ls : List (List ℕ)) → o ≡ ok ls → b ≡ listed v ls) → Lists v o b
+  lists-by (refuse r) f = tt
+  lists-by (ok ls) f = f ls refl
+
+  pub lists-read : {o : Out (List (List ℕ))} (ls : List (List ℕ)) → o ≡ ok ls → Lists v o b → b ≡ listed v ls
+  lists-read ls e = subst (λ (x : Out (List (List ℕ))). Lists v x b → b ≡ listed v ls) (sym e) (λ x. x)
+
 -- ---- literals: laid out, so read; read, so laid out
 
 pub literals-end : (t n : ℕ) (ls : List (List ℕ)) → literals t n ls [] ≡ ok ls
@@ -219,7 +229,7 @@ literals-end t zero ls = refl
 literals-end t (suc n) ls = refl
 
 module _ (t : ℕ) (ls : List (List ℕ)) (s : List ℕ) (p : 0 < length s) where
-  -- a byte behind the last that may be
+  -- no more may come, and there is a byte
   pub literals-full : literals t 0 ls s ≡ refuse Limit
   unfolding literals
   literals-full = rw (ne-eqb (length s) 0 (omega arith))

@@ -15,7 +15,7 @@ use Rattle.numbers.specs.Laws.{Bytes}
 abbrev pub widths : List ℕ
 widths = 1 ∷ 1 ∷ 2 ∷ 4 ∷ 4 ∷ 4 ∷ 8 ∷ 8 ∷ 8 ∷ 0 ∷ 0 ∷ 0 ∷ []
 
--- said of the twelve types alone
+-- an unknown type has 0 too: whoever is given a type tests it before its values
 unfoldable pub width : ℕ → ℕ
 width t = getD widths t 0
 

@@ -1,17 +1,15 @@
 // Values in the stored form of their type (document 01, the table of widths): their size, their order, and literals.
 ghost use mathlib.Core.Path.{_≡_};
-ghost use Prim.Native.Nat.{ℕ, _+_, _-_, _<_, _≤_};
+ghost use Prim.Native.Nat.{_+_, _-_, _<_, _≤_};
 ghost use mathlib.Core.Bool.{cond};
 ghost use mathlib.Core.Logic.{_⊎_};
-ghost use mathlib.Core.List.{List, []};
+ghost use mathlib.Core.List.{[]};
 ghost use lib.Dec.{ltb};
 ghost use lib.ListN.{length, drop};
 ghost use Rattle.stored_value.specs.Meaning.{width, bytesLess};
 ghost use Rattle.stored_value.specs.Meaning as meaning;
-ghost use Rattle.refusal.specs.Reading.{ok};
-ghost use Rattle.stored_value.specs.Reading.{valueSize};
+ghost use Rattle.stored_value.specs.Reading.{valueSize, sizedBy, countedBy, Lists};
 ghost use Rattle.stored_value.specs.Reading as reading;
-ghost use Rattle.stored_value.specs.Code.{sizedBy, countedBy};
 use numbers::Position;
 use refusal::Refusal;
 
@@ -160,9 +158,9 @@ pub fn literals(s: &[u8], t: u32) -> Counted
     Counted::Count(i)
 }
 
-// Whether a literal has v's bytes, said of literals that `literals` counts. Where it refuses them there is nothing to ask.
+// Whether a literal has v's bytes. Literals that `literals` refuses are not read to the end here: whoever calls has tested them with it.
 pub fn listed(v: &[u8], literals: &[u8], t: u32) -> bool
-    ensures { λ r. ⌜ ((ls : List (List ℕ)) → reading.literals t 1024 [] (now (literals .entry)) ≡ ok ls → r ≡ meaning.listed (now (v .entry)) ls) ⌝ }
+    ensures { λ r. ⌜ Lists (now (v .entry)) (reading.literals t 1024 [] (now (literals .entry))) r ⌝ }
 {
     let mut p = 0;
     while p < literals.len() {
