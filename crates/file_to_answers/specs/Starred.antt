@@ -12,7 +12,7 @@ use Rattle.refusal.specs.declared.Refusal.the-variants.{Range}
 use Rattle.row_field.specs.Meaning.{bit, mark, markAll, anySet, zeroed, upTo, rowsFrom}
 use Rattle.roaring.specs.Reading.{Read, got, need, choose, valuesOf, runsOf, rising, apart, bodySize, bodyValues, sound, body, offsetIs, containers, contents, readPlain, readFlagged, read}
 use Rattle.roaring.specs.Reading as roaring
-use Rattle.stored_value.specs.Meaning.{Cell, null, value, width, isString, booleanOk, sameCell, rank, less, listed}
+use Rattle.stored_value.specs.Meaning.{Cell, null, value, width, isString, booleanOk, sameCell, numberOf, less, listed}
 use Rattle.refusal.specs.Reading.{Out, refuse, ok, check, andThen}
 use Rattle.stored_value.specs.Reading.{valueSize, valueOf, literals}
 use Rattle.dictionary.specs.Reading.{counted, entriesOne, listings, past, heads, entriesTwo, behind, blocksOf, blocked, nullOf, dictionary}
@@ -89,5 +89,5 @@ table =
     ∷ []
 
 pub starred : All Holds table
-unfolding number head.find head.file head.need head.count head.name head.entries head.afterEntry head.columns head.afterColumn head.placed head.head head.used read readPlain readFlagged contents containers need choose roaring.andThen offsetIs body bodySize bodyValues sound valuesOf runsOf rising apart bit mark markAll anySet zeroed upTo rowsFrom placeAt place placeAll check andThen valueSize valueOf literals width isString booleanOk same sameCell rank less listed counted entriesOne listings past heads entriesTwo behind blocksOf blocked nullOf dictionary chosen takes scanFrom scan roomFor prepared audited audit chosenOf answered asked ask
+unfolding number head.find head.file head.need head.count head.name head.entries head.afterEntry head.columns head.afterColumn head.placed head.head head.used read readPlain readFlagged contents containers need choose roaring.andThen offsetIs body bodySize bodyValues sound valuesOf runsOf rising apart bit mark markAll anySet zeroed upTo rowsFrom placeAt place placeAll check andThen valueSize valueOf literals width isString booleanOk same sameCell numberOf less listed counted entriesOne listings past heads entriesTwo behind blocksOf blocked nullOf dictionary chosen takes scanFrom scan roomFor prepared audited audit chosenOf answered asked ask
 starred = ((refl, refl), (refl, (refl, ((refl, refl, refl), ((refl, refl, refl), ((refl, refl, refl), (refl, (refl, (refl, (refl, (refl, tt)))))))))))
