@@ -14,8 +14,7 @@ use Rattle.row_field.specs.Meaning.{cleared, count, size}
 use Rattle.stored_value.specs.declared.Counted.{Counted}
 use Rattle.stored_value.specs.declared.Counted.the-variants.{Count}
 use Rattle.refusal.specs.Reading.{Out, refuse, ok, check, andThen}
-use Rattle.stored_value.specs.Reading.{literals}
-use Rattle.stored_value.specs.Code.{countedBy}
+use Rattle.stored_value.specs.Reading.{literals, countedBy}
 use Rattle.dictionary.specs.declared.Checked.{Checked}
 use Rattle.dictionary.specs.declared.Checked.the-variants.{Found}
 use Rattle.dictionary.specs.declared.Head.{Head}

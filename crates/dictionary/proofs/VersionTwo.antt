@@ -6,7 +6,7 @@ use mathlib.Core.List.{List, [], _∷_, _++_, append-assoc, append-nil}
 use native.Mathlib.Omega.{arith}
 use lib.Dec.{eqb, ltb, leb}
 use lib.ListN.{length, take, drop, length-append, length-drop}
-use lib.Seq.{drop-drop, length-take-le}
+use lib.Seq.{drop-drop}
 use borrow.Author.Tests.{leb-true, leb-false, le-leb, lt-leb, lt-ltb, le-ltb, eq-eqb, ne-eqb}
 use Rattle.numbers.specs.Meaning.{big, beAt, number, same}
 use Rattle.numbers.specs.Laws.{numberAt-drop}
@@ -112,10 +112,6 @@ module _ (s : List ℕ) (c : Span) (w : List ℕ) where
   pub heads-some : c .start < c .end → same (take (c .end - c .start) (drop (c .start) s)) w ≡ heads (cellAt s c) w
   unfolding heads
   heads-some h = rw (cell-some h)
-
--- a part's length
-pub part-length : (s : List ℕ) (b e : ℕ) → b ≤ e → e ≤ length s → length (take (e - b) (drop b s)) ≡ e - b
-part-length s b e h l = length-take-le (e - b) (drop b s) (simp length-drop (omega arith))
 
 -- ---- a block's entries: i of the n from `start` on are read; behind them the value before is b, and h what the next must be
 
@@ -276,9 +272,9 @@ module _ (t : ℕ) (s : List ℕ) (base q p e : ℕ) (from : base ≤ p) (to : p
               → blocksOf t (d ∷ ds) (drop base s) before es (drop p s) f ≡ refuse r
           block-refused x = block-sound ∙ x es _
 
-          pub block-passed : {next : ℕ} {last : Span} → (x : PassedAt t n before (cellAt s (record { start = q; end = e })) s (p + 4) (Passed.To next last))
+          pub block-passed : {next : ℕ} (last : Span) (x : PassedAt t n before (cellAt s (record { start = q; end = e })) s (p + 4) (Passed.To next last))
               → blocksOf t (d ∷ ds) (drop base s) before es (drop p s) f ≡ blocksOf t ds (drop base s) (cellAt s last) (es ++ x .0 .0) (drop next s) f
-          block-passed x = block-sound ∙ x .0 .1 es _
+          block-passed last x = block-sound ∙ x .0 .1 es _
 
 -- entries that stand behind a block's number stand where it is due
 pub block-stand : (t : ℕ) (s : List ℕ) (p : ℕ) {n : ℕ} (es : List Entry) → p + 4 ≤ length s → n ≡ beAt 4 s p → 1 ≤ n → 1 ≤ length es

@@ -7,7 +7,7 @@ use lib.Dec.{ltb}
 use lib.ListN.{length, take, drop}
 use Rattle.numbers.specs.Meaning.{beAt}
 use Rattle.refusal.specs.declared.Refusal.the-variants.{Short, Dict}
-use Rattle.stored_value.specs.Meaning.{Cell, null, value, width}
+use Rattle.stored_value.specs.Meaning.{Cell, null, value}
 use Rattle.refusal.specs.Reading.{Out, refuse, ok}
 use Rattle.stored_value.specs.Reading.{valueSize}
 use Rattle.dictionary.specs.declared.Value.{Value}
@@ -30,7 +30,7 @@ use Rattle.dictionary.specs.Code.{Stand}
 -- a value at a position, and where it ends
 abbrev pub ValueAt : ℕ → List ℕ → ℕ → Value → Type 0
 ValueAt t s at (Value.Refused r) = valueSize Short Dict t (drop at s) ≡ refuse r
-ValueAt t s at (Value.To e) = (valueSize Short Dict t (drop at s) ≡ ok (e - at)) × (at < e) × (e ≤ length s) × (at + width t ≤ e)
+ValueAt t s at (Value.To e) = (valueSize Short Dict t (drop at s) ≡ ok (e - at)) × (at < e) × (e ≤ length s)
 
 -- whether i entries of version 1 that stand at a position have the value v
 abbrev pub TakenAt : ℕ → ℕ → List ℕ → ℕ → List ℕ → Bool → Type 0
@@ -79,10 +79,6 @@ DirectoryAt t n s at (Directory.Ends next) =
 abbrev pub cellAt : List ℕ → Span → Cell
 cellAt s c = cond (ltb (c .start) (c .end)) (value (take (c .end - c .start) (drop (c .start) s))) null
 
--- a span within s, of no bytes or of enough for a number of type t
-abbrev pub Within : ℕ → List ℕ → Span → Type 0
-Within t s c = (c .end ≤ length s) × (c .start < c .end → c .start + width t ≤ c .end)
-
 -- n entries of a block at a position, behind `before` and headed by `head`: where they end, and the last value
 abbrev pub PassedAt : ℕ → ℕ → Cell → Cell → List ℕ → ℕ → Passed → Type 0
 PassedAt t n before head s at (Passed.Refused r) =
@@ -91,7 +87,7 @@ PassedAt t n before head s at (Passed.To next last) =
     ((new : List Entry) × ((es : List Entry) (f : Cell → List Entry → List ℕ → Out Dictionary)
     → entriesTwo t n before head es (drop at s) f ≡ f (cellAt s last) (es ++ new) (drop next s))
     × (length new ≡ n) × ((more : List Entry) → Stand t true 0 (drop next s) more → Stand t true n (drop at s) (new ++ more)))
-    × (at ≤ next) × (next ≤ length s) × Within t s last
+    × (at ≤ next) × (next ≤ length s) × (last .end ≤ length s)
 
 -- the block at p, whose listing stands at q: where both end, its last value, and its number of entries
 abbrev pub BlockAt : ℕ → Cell → List ℕ → ℕ → ℕ → ℕ → Block → Type 0
@@ -103,7 +99,7 @@ BlockAt t before s base q p (Block.Ends listing next last number) =
     × ((new : List Entry) × ((es : List Entry) (f : List Entry → List ℕ → Out Dictionary)
     → blocksOf t (d ∷ ds) (drop base s) before es (drop p s) f ≡ blocksOf t ds (drop base s) (cellAt s last) (es ++ new) (drop next s) f)
     × (length new ≡ number) × ((more : List Entry) → Stand t true 0 (drop next s) more → Stand t true 0 (drop p s) (new ++ more))))
-    × (p ≤ next) × (next ≤ length s) × Within t s last × (number < 2147483648)
+    × (p ≤ next) × (next ≤ length s) × (last .end ≤ length s) × (number < 2147483648)
 
 -- b blocks from base on, whose directory stands at dir: where the last ends, and the number of entries in all
 abbrev pub BlocksAt : ℕ → ℕ → List ℕ → ℕ → ℕ → Blocks → Type 0

@@ -7,9 +7,11 @@ use mathlib.Core.Bool.{Bool, true, false, _&&_, _||_, cond}
 use mathlib.Core.List.{List, [], _∷_}
 use lib.ListN.{drop}
 use lib.Dec.{eqb, ltb}
+use lib.IntN.{ℤ, pos, negsuc}
+use lib.Signed.{ltZ}
 use borrow.Author.Tests.{ltb-true, eqb-true, lt-ltb, le-ltb, eq-eqb}
 use Rattle.numbers.specs.Meaning.{same}
-use Rattle.stored_value.specs.Meaning.{width, isString, rank, bytesLess, less}
+use Rattle.stored_value.specs.Meaning.{width, isString, signedNumber, bytesLess, less}
 use Rattle.numbers.specs.Same.{same→eq}
 
 never : true ≡ false → ⊥
@@ -58,28 +60,39 @@ bytes-trans (x ∷ xs) (y ∷ ys) (z ∷ zs) e f =
     (λ r. ⊎-elim (λ l. bytes-first x z xs zs (omega (arith, r .0))) (λ r′. bytes-rest x z xs zs (r .0 ∙ r′ .0) (step (r .1) (r′ .1))) (bytes-cases y z ys zs f))
     (bytes-cases x y xs ys e)
 
+-- ---- signed numbers
+
+not-below : (a : ℤ) → ltZ a a ≡ false
+not-below (pos a) = le-ltb a a (omega arith)
+not-below (negsuc a) = le-ltb a a (omega arith)
+
+below-trans : (a b c : ℤ) → ltZ a b ≡ true → ltZ b c ≡ true → ltZ a c ≡ true
+below-trans (pos a) (pos b) (pos c) e f = lt-ltb a c (omega (arith, ltb-true a b e, ltb-true b c f))
+below-trans (pos a) (pos b) (negsuc c) e f = f
+below-trans (pos a) (negsuc b) c e f = absurd (never (sym e))
+below-trans (negsuc a) b (pos c) e f = refl
+below-trans (negsuc a) (pos b) (negsuc c) e f = absurd (never (sym f))
+below-trans (negsuc a) (negsuc b) (negsuc c) e f = lt-ltb c a (omega (arith, ltb-true b a e, ltb-true c b f))
+
 -- ---- values
 
 pub less-not-self : (t : ℕ) (v : List ℕ) → less t v v ≡ false
 unfolding less
 less-not-self t v = go (isString t)
   where
-    go : (b : Bool) → cond b (bytesLess (drop 4 v) (drop 4 v)) (ltb (rank (width t) v) (rank (width t) v)) ≡ false
+    go : (b : Bool) → cond b (bytesLess (drop 4 v) (drop 4 v)) (ltZ (signedNumber (width t) v) (signedNumber (width t) v)) ≡ false
     go true = bytes-not-self (drop 4 v)
-    go false = le-ltb (rank (width t) v) (rank (width t) v) (omega arith)
+    go false = not-below (signedNumber (width t) v)
 
 pub less-trans : (t : ℕ) (u v w : List ℕ) → less t u v ≡ true → less t v w ≡ true → less t u w ≡ true
 unfolding less
 less-trans t u v w = go (isString t)
   where
-    go : (b : Bool) → cond b (bytesLess (drop 4 u) (drop 4 v)) (ltb (rank (width t) u) (rank (width t) v)) ≡ true
-        → cond b (bytesLess (drop 4 v) (drop 4 w)) (ltb (rank (width t) v) (rank (width t) w)) ≡ true
-        → cond b (bytesLess (drop 4 u) (drop 4 w)) (ltb (rank (width t) u) (rank (width t) w)) ≡ true
+    go : (b : Bool) → cond b (bytesLess (drop 4 u) (drop 4 v)) (ltZ (signedNumber (width t) u) (signedNumber (width t) v)) ≡ true
+        → cond b (bytesLess (drop 4 v) (drop 4 w)) (ltZ (signedNumber (width t) v) (signedNumber (width t) w)) ≡ true
+        → cond b (bytesLess (drop 4 u) (drop 4 w)) (ltZ (signedNumber (width t) u) (signedNumber (width t) w)) ≡ true
     go true e f = bytes-trans (drop 4 u) (drop 4 v) (drop 4 w) e f
-    go false e f =
-        let p : rank (width t) u < rank (width t) v = ltb-true (rank (width t) u) (rank (width t) v) e in
-        let q : rank (width t) v < rank (width t) w = ltb-true (rank (width t) v) (rank (width t) w) f in
-        lt-ltb (rank (width t) u) (rank (width t) w) (omega arith)
+    go false e f = below-trans (signedNumber (width t) u) (signedNumber (width t) v) (signedNumber (width t) w) e f
 
 -- a value is not the one that it is less than
 pub less-differs : (t : ℕ) (v w : List ℕ) → less t v w ≡ true → same v w ≡ false

@@ -7,7 +7,7 @@ use native.Mathlib.Omega.{arith}
 use lib.Dec.{eqb, ltb, leb}
 use lib.ListN.{length, take, drop, length-append, length-drop}
 use lib.Seq.{drop-drop}
-use borrow.Author.Tests.{leb-true, eqb-true, eqb-false, ne-eqb}
+use borrow.Author.Tests.{leb-true, eqb-false, ne-eqb}
 use Rattle.numbers.specs.Meaning.{big, beAt, number, same}
 use Rattle.numbers.specs.Laws.{number-at, number-short, numberAt-drop}
 use Rattle.refusal.specs.declared.Refusal.{Refusal}
@@ -17,8 +17,7 @@ use Rattle.stored_value.specs.declared.Sized.the-variants.{Bytes}
 use Rattle.stored_value.specs.Meaning.{value, width, isString, booleanOk, sameCell}
 use Rattle.refusal.specs.Laws.{check-ok}
 use Rattle.refusal.specs.Reading.{Out, refuse, ok, check, andThen}
-use Rattle.stored_value.specs.Reading.{valueSize, valueOf}
-use Rattle.stored_value.specs.Code.{sizedBy}
+use Rattle.stored_value.specs.Reading.{valueSize, valueOf, sizedBy}
 use Rattle.dictionary.specs.declared.Value.{Value}
 use Rattle.dictionary.specs.Layout.{Entry, minusOne, someHas}
 use Rattle.dictionary.specs.Reading.{Dictionary, entriesOne}
@@ -38,14 +37,14 @@ number-ok {A} w r s k a e = go (leb w (length s)) refl e
 
 -- ---- a value's size
 
--- a value has a byte, its bytes are there, and a number's are as many as its width
-pub size-within : (t : ℕ) (s : List ℕ) (n : ℕ) → valueSize Short Dict t s ≡ ok n → (1 ≤ n) × (n ≤ length s) × (width t ≤ n)
+-- a value has a byte, and its bytes are there
+pub size-within : (t : ℕ) (s : List ℕ) (n : ℕ) → valueSize Short Dict t s ≡ ok n → (1 ≤ n) × (n ≤ length s)
 unfolding valueSize isString
 size-within t s n e = go (eqb (width t) 0) refl e
   where
     go : (b : Bool) → eqb (width t) 0 ≡ b → cond b
         (number big 4 (refuse Short) s (λ n rest. check (ltb n 2147483648) Dict (check (leb n 65535) Limit (check (leb n (length rest)) Short (ok (4 + n))))))
-        (check (leb (width t) (length s)) Short (check (booleanOk t s) Dict (ok (width t)))) ≡ ok n → (1 ≤ n) × (n ≤ length s) × (width t ≤ n)
+        (check (leb (width t) (length s)) Short (check (booleanOk t s) Dict (ok (width t)))) ≡ ok n → (1 ≤ n) × (n ≤ length s)
     go true b e =
         let x = number-ok 4 Short s _ n e in
         let y = check-ok _ _ _ n (x .1) in
@@ -54,15 +53,14 @@ size-within t s n e = go (eqb (width t) 0) refl e
         let l = leb-true (beAt 4 s 0) (length (drop 4 s)) (w .0) in
         let m = rw length-drop at l in
         let same : 4 + beAt 4 s 0 ≡ n = cc in
-        let z : width t ≡ 0 = eqb-true (width t) 0 b in
-        (omega arith, omega arith, omega arith)
+        (omega arith, omega arith)
     go false b e =
         let x = check-ok _ _ _ n e in
         let y = check-ok _ _ _ n (x .1) in
         let l = leb-true (width t) (length s) (x .0) in
         let same : width t ≡ n = cc in
         let nz : width t ≡ 0 → ⊥ = eqb-false (width t) 0 b in
-        (omega arith, omega arith, omega arith)
+        (omega arith, omega arith)
 
 sized-ok : (o : Out ℕ) (x : Sized) (n : ℕ) → x ≡ sizedBy o → x ≡ Bytes n → o ≡ ok n
 unfolding sizedBy
@@ -84,7 +82,7 @@ module _ (t : ℕ) (s : List ℕ) (at : ℕ) {x : Sized} (e : x ≡ sizedBy (val
       let w = size-within t (drop at s) n o in
       let l = rw length-drop at (w .1) in
       let z : at + n - at ≡ n = omega arith in
-      (rw z o, omega arith, omega arith, omega arith)
+      (rw z o, omega arith, omega arith)
 
 module _ {A : Type 0} (t : ℕ) (s : List ℕ) (f : List ℕ → List ℕ → Out A) where
   pub value-ok : (n : ℕ) → valueSize Short Dict t s ≡ ok n → valueOf Short Dict t s f ≡ f (take n s) (drop n s)

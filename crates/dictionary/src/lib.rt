@@ -1,15 +1,14 @@
 // A body's dictionary (document 01, "Bitmap body"), of either version: its head and entries checked in byte order, and a cursor over the entries.
 ghost use mathlib.Core.Path.{_≡_};
-ghost use Prim.Native.Nat.{ℕ, _+_, _-_, _<_, _≤_};
+ghost use Prim.Native.Nat.{_+_, _-_, _<_, _≤_};
 ghost use mathlib.Core.Bool.{true, false, cond};
 ghost use mathlib.Core.List.{List, _∷_};
 ghost use lib.Dec.{eqb, leb};
 ghost use lib.ListN.{length, take, drop};
-ghost use Rattle.stored_value.specs.Meaning.{width};
 ghost use Rattle.dictionary.specs.Layout.{Entry};
 ghost use Rattle.dictionary.specs.Reading.{past, heads};
 ghost use Rattle.dictionary.specs.Code.{tail, extentAt, Stand, Tells, Steps};
-ghost use Rattle.dictionary.specs.Answers.{ValueAt, TakenAt, CountAt, NullAt, FixedOf, DirectoryAt, cellAt, Within, PassedAt, BlockAt, BlocksAt, WalkedAt};
+ghost use Rattle.dictionary.specs.Answers.{ValueAt, TakenAt, CountAt, NullAt, FixedOf, DirectoryAt, cellAt, PassedAt, BlockAt, BlocksAt, WalkedAt};
 use numbers::Position;
 use refusal::Refusal;
 use stored_value::Sized;
@@ -311,7 +310,7 @@ fn directory_end(body: &[u8], t: u32, n: u64, at: usize) -> Directory
 
 // Whether the value from p to e is past the one before, if there is one.
 fn is_past(body: &[u8], t: u32, before: Span, p: usize, e: usize) -> bool
-    requires { ⌜ Within t (now body) before × (p + width t ≤ e) × (e ≤ length (now body)) ⌝ }
+    requires { ⌜ (before .end ≤ length (now body)) × (p ≤ e) × (e ≤ length (now body)) ⌝ }
     ensures { λ r. ⌜ r ≡ past t (cellAt (now (body .entry)) before) (take (e - p) (drop p (now (body .entry)))) ⌝ }
 {
     let b = before.start;
@@ -337,7 +336,7 @@ fn is_head(body: &[u8], head: Span, p: usize, e: usize) -> bool
 
 // Version 2: the n entries of a block from `at` on. Values rise strictly, the first from `before`, and the first is `head`, the directory's.
 fn block_entries(body: &[u8], t: u32, n: u64, at: usize, before: Span, head: Span) -> Passed
-    requires { ⌜ (at ≤ length (now body)) × Within t (now body) before × (head .end ≤ length (now body)) ⌝ }
+    requires { ⌜ (at ≤ length (now body)) × (before .end ≤ length (now body)) × (head .end ≤ length (now body)) ⌝ }
     ensures { λ r. ⌜ PassedAt t n (cellAt (now (body .entry)) before) (cellAt (now (body .entry)) head) (now (body .entry)) at r ⌝ }
 {
     let mut i: u64 = 0;
@@ -374,7 +373,7 @@ fn block_entries(body: &[u8], t: u32, n: u64, at: usize, before: Span, head: Spa
 
 // Version 2: the block at p, whose listing stands at q. Its offset, which counts from base, is tested before its number is read.
 fn one_block(body: &[u8], t: u32, base: usize, q: usize, p: usize, before: Span) -> Block
-    requires { ⌜ (base ≤ p) × (p ≤ length (now body)) × Within t (now body) before ⌝ }
+    requires { ⌜ (base ≤ p) × (p ≤ length (now body)) × (before .end ≤ length (now body)) ⌝ }
     ensures { λ r. ⌜ BlockAt t (cellAt (now (body .entry)) before) (now (body .entry)) base q p r ⌝ }
 {
     match value_end(body, t, q) {

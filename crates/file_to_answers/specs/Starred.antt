@@ -17,7 +17,7 @@ use Rattle.row_field.specs.Meaning.{bit, mark, markAll, anySet, zeroed, upTo, r
 use Rattle.roaring.specs.Reading.{Read, got, need, choose, valuesOf, runsOf, rising, apart, bodySize, bodyValues, sound, body, offsetIs, containers, contents, readPlain, readFlagged, read}
 use Rattle.roaring.specs.Reading as roaring
 use Rattle.roaring.specs.Layout.{Bitmap, plain-bitmap, flagged-bitmap, array, runs}
-use Rattle.stored_value.specs.Meaning.{Cell, null, value, Value, width, isString, booleanOk, sameCell, rank, less, listed}
+use Rattle.stored_value.specs.Meaning.{Cell, null, value, Value, width, isString, booleanOk, sameCell, signedNumber, less, listed}
 use Rattle.stored_value.specs.Meaning as values
 use Rattle.refusal.specs.Reading.{Out, refuse, ok, check, andThen}
 use Rattle.stored_value.specs.Reading.{valueSize, valueOf, literals}
@@ -134,7 +134,7 @@ one-is-its-body =
     (tinyint 7 (omega arith), refl, (tinyint 9 (omega arith), refl, tt)) (omega arith) (omega arith) (omega arith)
 
 two-is-its-body : Body 0 cells two
-unfolding same sameCell entry less rank isString width
+unfolding same sameCell entry less signedNumber isString width
 two-is-its-body =
     version2 (entry null 2 ∷ []) ((entry (value (7 ∷ [])) 0 ∷ []) ∷ (entry (value (9 ∷ [])) 1 ∷ []) ∷ []) [] column (kept []) (omega arith, (omega arith, tt))
     (tinyint 7 (omega arith), tt, (tinyint 9 (omega arith), refl, tt)) (omega arith) (omega arith) (omega arith) (omega arith)
@@ -185,7 +185,7 @@ unfolding placeAt check
 always extent n region field h = rw (le-ltb 2147483647 n h)
 
 pub starred : All Holds table
-unfolding number head.find head.file head.need head.count head.name head.entries head.afterEntry head.columns head.afterColumn head.placed head.head head.used read readPlain readFlagged contents containers need choose roaring.andThen offsetIs body bodySize bodyValues sound valuesOf runsOf rising apart bit mark markAll anySet zeroed upTo rowsFrom placeAt place placeAll check andThen valueSize valueOf literals width isString booleanOk same sameCell rank less listed counted entriesOne listings past heads entriesTwo behind blocksOf blocked nullOf dictionary chosen takes scanFrom scan roomFor prepared audited audit chosenOf answered asked ask answeredBy keeps
+unfolding number head.find head.file head.need head.count head.name head.entries head.afterEntry head.columns head.afterColumn head.placed head.head head.used read readPlain readFlagged contents containers need choose roaring.andThen offsetIs body bodySize bodyValues sound valuesOf runsOf rising apart bit mark markAll anySet zeroed upTo rowsFrom placeAt place placeAll check andThen valueSize valueOf literals width isString booleanOk same sameCell signedNumber less listed counted entriesOne listings past heads entriesTwo behind blocksOf blocked nullOf dictionary chosen takes scanFrom scan roomFor prepared audited audit chosenOf answered asked ask answeredBy keeps
 starred = (
   (refl, refl, its-file),
   (

@@ -55,6 +55,9 @@ spelled little w v = le w v
 unfoldable pub number : {A : Type 0} → Order → ℕ → A → List ℕ → (ℕ → List ℕ → A) → A
 number o w short s k = cond (leb w (length s)) (k (numberAt o w s 0) (drop w s)) short
 
--- the signed number that 32 bits hold, in two's complement
+-- the signed number that w bytes hold, in two's complement
+abbrev pub signed : ℕ → ℕ → ℤ
+signed w x = cond (ltb x (256 ^ w / 2)) (pos x) (negsuc (256 ^ w - 1 - x))
+
 abbrev pub signed32 : ℕ → ℤ
-signed32 x = cond (ltb x 2147483648) (pos x) (negsuc (4294967295 - x))
+signed32 x = signed 4 x

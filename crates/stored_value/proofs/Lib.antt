@@ -1,4 +1,5 @@
 -- What only the proofs cite.
 pub mod Widths
+pub mod TwosComplement
 pub mod Steps
 pub mod Passed

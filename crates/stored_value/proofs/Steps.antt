@@ -1,13 +1,18 @@
 -- What the code's answers and the turns of its loops see of the definitions. Assumes nothing.
-use Prim.Native.Nat.{ℕ, suc, _+_, _-_, _*_, _^_, _<_, _≤_}
-use mathlib.Core.Path.{_≡_, refl, ap, _∙_}
-use mathlib.Core.Bool.{Bool, true, false, _&&_, _||_, cond}
+use Prim.Native.Nat.{ℕ, suc, _+_, _-_, _<_, _≤_}
+use mathlib.Core.Path.{_≡_, ap, _∙_}
+use mathlib.Core.Bool.{Bool, true, false, _&&_, _||_}
 use mathlib.Core.List.{List, [], _∷_, _++_}
 use native.Mathlib.Nat.{add-zero}
 use native.Mathlib.Numerals.{add-one}
 use native.Mathlib.Omega.{arith}
 use native.Mathlib.Decide.{decLt, ℕ-discrete}
 use lib.Dec.{eqb, ltb, leb}
+use lib.IntN.{ℤ}
+use lib.Signed.{ltZ}
+use mir.Syntax.{w64}
+use mir.Val.{SFits, toZ, ofZ}
+use mir.Facts.{toZ-ofZ}
 use lib.ListN.{length, getD, take, drop, length-drop, drop-of-length-le}
 use lib.Seq.{drop-cons, drop-drop, getD-drop}
 use borrow.Author.Tests.{eq-eqb, ne-eqb, le-leb, lt-leb, lt-ltb, le-ltb}
@@ -16,10 +21,9 @@ use Rattle.numbers.specs.Laws.{Bytes, bytes-drop, number-at, number-short}
 use Rattle.refusal.specs.declared.Refusal.{Refusal}
 use Rattle.refusal.specs.declared.Refusal.the-variants.{Literal, Limit}
 use Rattle.stored_value.specs.declared.Sized.{Sized}
-use Rattle.stored_value.specs.Meaning.{width, isString, booleanOk, rank, bytesLess, less}
+use Rattle.stored_value.specs.Meaning.{width, isString, booleanOk, signedNumber, bytesLess, less}
 use Rattle.refusal.specs.Reading.{Out, refuse, ok, check}
-use Rattle.stored_value.specs.Reading.{valueSize, literals}
-use Rattle.stored_value.specs.Code.{sizedBy}
+use Rattle.stored_value.specs.Reading.{valueSize, sizedBy, literals}
 use Rattle.stored_value.specs.Laws.{stringSize, size-number, size-string, value-read, literals-end, literals-full, literals-refused, literals-next}
 
 -- ---- `bytes_less`
@@ -52,13 +56,6 @@ module _ (a b : List ℕ) (i : ℕ) where
     pub less-next : getD a i 0 ≡ getD b i 0 → bytesLess (drop i a) (drop i b) ≡ bytesLess (drop (i + 1) a) (drop (i + 1) b)
     less-next e = less-step ∙ rw (le-ltb (getD a i 0) (getD b i 0) (omega arith), eq-eqb (getD a i 0) (getD b i 0) e)
 
--- ---- `rank`: the code's number and half of the numbers of w bytes
-
-pub rank-by : (w : ℕ) (s : List ℕ) (x half r : ℕ) → half ≡ 128 * 256 ^ (w - 1) → x ≡ beAt w s 0
-    → r ≡ cond (ltb x half) (x + half) (x - half) → r ≡ rank w s
-unfolding rank
-rank-by w s x half r e f g = rw (e, f) at g
-
 -- ---- `less`, by the width w that the code found
 
 module _ (t : ℕ) (a b : List ℕ) (w : ℕ) (e : w ≡ width t) where
@@ -66,9 +63,10 @@ module _ (t : ℕ) (a b : List ℕ) (w : ℕ) (e : w ≡ width t) where
   unfolding less isString
   less-string z = rw (← e, z)
 
-  pub less-number : (w ≡ 0 → ⊥) → (x y : ℕ) → x ≡ rank w a → y ≡ rank w b → ltb x y ≡ less t a b
+  pub less-number : (w ≡ 0 → ⊥) → (x y : ℤ) → (x ≡ signedNumber w a) × SFits w64 x → (y ≡ signedNumber w b) × SFits w64 y
+      → ltZ (toZ w64 (ofZ w64 x)) (toZ w64 (ofZ w64 y)) ≡ less t a b
   unfolding less isString
-  less-number n x y f g = rw (← e, ne-eqb w 0 n, ← f, ← g)
+  less-number n x y f g = rw (toZ-ofZ (f .1), toZ-ofZ (g .1), ← e, ne-eqb w 0 n, ← f .0, ← g .0)
 
 -- ---- `size`: what each answer goes by, said of the value at p
 

@@ -1,28 +1,24 @@
 -- Laws of values in stored form: that values and literals which are laid out are read, and that what is read is laid out.
 -- Assumes nothing.
-use Prim.Native.Nat.{ℕ, zero, suc, _+_, _-_, _*_, _^_, _<_, _≤_}
-use mathlib.Core.Path.{_≡_, refl, sym, ap, ap₂, _∙_, subst}
-use mathlib.Core.Bool.{Bool, true, false, _&&_, cond}
+use Prim.Native.Nat.{ℕ, zero, suc, _+_, _<_, _≤_}
+use mathlib.Core.Path.{_≡_, refl, sym, ap, _∙_, subst}
+use mathlib.Core.Bool.{Bool, true, false}
 use mathlib.Core.List.{List, [], _∷_, _++_, append-assoc, append-nil}
-use native.Mathlib.Nat.{pow-suc}
 use native.Mathlib.Omega.{arith}
-use native.Mathlib.Decide.{decLt, ℕ-discrete}
-use lib.Dec.{eqb, ltb, leb}
+use lib.Dec.{ltb, leb}
 use lib.ListN.{length, take, drop, length-append, take-append-drop, List·getD-append}
 use lib.Seq.{take-at, drop-at, length-take-le, getD-take}
-use lib.IntN.{ℤ, pos, negsuc}
-use lib.Signed.{ltZ}
-use borrow.Author.Tests.{lt-ltb, le-ltb, le-leb, eq-eqb, ne-eqb, eqb-true, eqb-false, leb-true}
-use Rattle.numbers.specs.Meaning.{be, beAt, big}
+use borrow.Author.Tests.{lt-ltb, le-leb, ne-eqb, eqb-false, leb-true}
+use Rattle.numbers.specs.Meaning.{be, big}
 use Rattle.numbers.specs.Meaning as meaning
 use Rattle.numbers.specs.Laws.{Bytes, bytes-drop, on-number, number-laid}
 use Rattle.numbers.specs.Same.{same-refl, same→eq, same-sym}
 use Rattle.refusal.specs.declared.Refusal.{Refusal}
 use Rattle.refusal.specs.declared.Refusal.the-variants.{Literal, Limit}
-use Rattle.stored_value.specs.Meaning.{width, isString, booleanOk, Value, number, string, rank, Cell, null, value, sameCell, Literals, literalBytes}
+use Rattle.stored_value.specs.Meaning.{width, isString, booleanOk, Value, number, string, Cell, null, value, sameCell, listed, Literals, literalBytes}
 use Rattle.refusal.specs.Laws.{check-ok}
 use Rattle.refusal.specs.Reading.{Out, refuse, ok, check, andThen}
-use Rattle.stored_value.specs.Reading.{valueSize, valueOf, literals}
+use Rattle.stored_value.specs.Reading.{valueSize, valueOf, literals, Lists}
 
 -- ---- the same cell
 
@@ -45,48 +41,6 @@ sameCell-sym null (value w) = refl
 sameCell-sym (value v) null = refl
 sameCell-sym (value v) (value w) = same-sym v w
 
--- ---- the rank of a number orders as the signed number does that its bytes hold
-
-ltb-by : (a b c d : ℕ) → (a < b → c < d) → (b ≤ a → d ≤ c) → ltb a b ≡ ltb c d
-ltb-by a b c d f g = by (decLt a b)
-  where
-    by : Dec (a < b) → ltb a b ≡ ltb c d
-    by (yes h) = lt-ltb a b h ∙ sym (lt-ltb c d (f h))
-    by (no n) = let h : b ≤ a = omega arith in le-ltb a b h ∙ sym (le-ltb c d (g h))
-
--- numbers below twice `half`, of which those from `half` on are the negative ones
-abbrev placed : ℕ → ℕ → ℕ
-placed half x = cond (ltb x half) (x + half) (x - half)
-
-abbrev signed : ℕ → ℕ → ℤ
-signed half x = cond (ltb x half) (pos x) (negsuc (half + half - 1 - x))
-
-placed-signed : (half x y : ℕ) → x < half + half → y < half + half → Dec (x < half) → Dec (y < half)
-    → ltb (placed half x) (placed half y) ≡ ltZ (signed half x) (signed half y)
-placed-signed half x y a b (yes f) (yes g) = rw (lt-ltb x half f, lt-ltb y half g) (ltb-by (x + half) (y + half) x y (λ h. omega arith) (λ h. omega arith))
-placed-signed half x y a b (yes f) (no g) = rw (lt-ltb x half f, le-ltb y half (omega arith)) (le-ltb (x + half) (y - half) (omega arith))
-placed-signed half x y a b (no f) (yes g) = rw (le-ltb x half (omega arith), lt-ltb y half g) (lt-ltb (x - half) (y + half) (omega arith))
-placed-signed half x y a b (no f) (no g) =
-    rw (le-ltb x half (omega arith), le-ltb y half (omega arith))
-    (ltb-by (x - half) (y - half) (half + half - 1 - y) (half + half - 1 - x) (λ h. omega arith) (λ h. omega arith))
-
--- the signed number that w bytes hold, in two's complement
-abbrev pub toSigned : ℕ → ℕ → ℤ
-toSigned w x = cond (ltb x (128 * 256 ^ (w - 1))) (pos x) (negsuc (256 ^ w - 1 - x))
-
-pub rank-signed : (w : ℕ) (v u : List ℕ) → 1 ≤ w → beAt w v 0 < 256 ^ w → beAt w u 0 < 256 ^ w
-    → ltb (rank w v) (rank w u) ≡ ltZ (toSigned w (beAt w v 0)) (toSigned w (beAt w u 0))
-unfolding rank
-rank-signed w v u h a b =
-    let half : ℕ = 128 * 256 ^ (w - 1) in
-    let e : 256 ^ w ≡ half + half = whole w h in
-    rw e (placed-signed half (beAt w v 0) (beAt w u 0) (rw e at a) (rw e at b) (decLt (beAt w v 0) half) (decLt (beAt w u 0) half))
-  where
-    whole : (w : ℕ) → 1 ≤ w → 256 ^ w ≡ 128 * 256 ^ (w - 1) + 128 * 256 ^ (w - 1)
-    whole w h =
-        let e : w ≡ suc (w - 1) = omega arith in
-        ap (λ (k : ℕ). 256 ^ k) e ∙ rw pow-suc (omega arith)
-
 -- ---- the size of a value: a number's, and a string's
 
 -- what is asked of a string's length, and of the bytes behind it
@@ -106,10 +60,6 @@ module _ (short broken : Refusal) (t : ℕ) (s : List ℕ) where
 pub width-some : (t : ℕ) → isString t ≡ false → 0 < width t
 unfolding isString
 width-some t e = let n = eqb-false (width t) 0 e in omega arith
-
-pub width-none : (t : ℕ) → isString t ≡ true → width t ≡ 0
-unfolding isString
-width-none t e = eqb-true (width t) 0 e
 
 -- ---- values: laid out, so read; read, so laid out
 
@@ -137,7 +87,6 @@ never o r a e f = absurd (let z : _≡_ {A = ℕ} 0 1 = cc in omega arith)
 pub record Read (t : ℕ) (s : List ℕ) (k : ℕ) : Type 0 where
   pub some : 1 ≤ k
   pub fits : k ≤ length s
-  pub wide : width t ≤ k
   pub whole : Value t (take k s)
 
 pub bytes-take : (n : ℕ) (s : List ℕ) → Bytes s → Bytes (take n s)
@@ -161,7 +110,6 @@ module _ (short broken : Refusal) (t : ℕ) (s : List ℕ) (k : ℕ) (h : Bytes 
       record {
         some = omega arith;
         fits = omega arith;
-        wide = omega arith;
         whole = number (take k s) n (length-take-le k s (omega arith) ∙ sym q) (bytes-take k s h) (first-taken t k s (omega arith) ∙ g .0);
       }
 
@@ -185,7 +133,6 @@ module _ (short broken : Refusal) (t : ℕ) (s : List ℕ) (k : ℕ) (h : Bytes 
           record {
             some = omega arith;
             fits = omega arith;
-            wide = omega (arith, width-none t n);
             whole = rw r y;
           }
 
@@ -203,13 +150,19 @@ module _ (short broken : Refusal) (t : ℕ) (s : List ℕ) (k : ℕ) (h : Bytes 
   pub value-some : valueSize short broken t s ≡ ok k → 1 ≤ k
   value-some e = value-read short broken t s k h e .some
 
-  -- what `less` requires
-  pub value-width : valueSize short broken t s ≡ ok k → width t ≤ k
-  value-width e = value-read short broken t s k h e .wide
-
 pub value-length : (t : ℕ) (v : List ℕ) → Value t v → 1 ≤ length v
 value-length t v (number v′ n l b o) = omega (arith, width-some t n)
 value-length t v (string c n l b) = omega arith
+
+-- ---- whether a value is listed, of literals that are read
+
+module _ (v : List ℕ) (b : Bool) where
+  pub lists-by : (o : Out (List (List ℕ))) → ((ls : List (List ℕ)) → o ≡ ok ls → b ≡ listed v ls) → Lists v o b
+  lists-by (refuse r) f = tt
+  lists-by (ok ls) f = f ls refl
+
+  pub lists-read : {o : Out (List (List ℕ))} (ls : List (List ℕ)) → o ≡ ok ls → Lists v o b → b ≡ listed v ls
+  lists-read ls e = subst (λ (x : Out (List (List ℕ))). Lists v x b → b ≡ listed v ls) (sym e) (λ x. x)
 
 -- ---- literals: laid out, so read; read, so laid out
 
@@ -219,7 +172,7 @@ literals-end t zero ls = refl
 literals-end t (suc n) ls = refl
 
 module _ (t : ℕ) (ls : List (List ℕ)) (s : List ℕ) (p : 0 < length s) where
-  -- a byte behind the last that may be
+  -- no more may come, and there is a byte
   pub literals-full : literals t 0 ls s ≡ refuse Limit
   unfolding literals
   literals-full = rw (ne-eqb (length s) 0 (omega arith))

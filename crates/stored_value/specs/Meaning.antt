@@ -1,11 +1,13 @@
 -- The twelve types of a column and their values in stored form (01, the table of widths), their order, what a row holds, and literals.
 use mathlib.Core.Path.{_≡_}
-use Prim.Native.Nat.{ℕ, _+_, _-_, _*_, _^_, _≤_}
+use Prim.Native.Nat.{ℕ, _≤_}
 use mathlib.Core.Bool.{Bool, true, false, _&&_, _||_, cond}
 use mathlib.Core.List.{List, [], _∷_, _++_}
 use lib.Dec.{eqb, ltb, leb}
+use lib.IntN.{ℤ}
+use lib.Signed.{ltZ}
 use lib.ListN.{length, getD, drop}
-use Rattle.numbers.specs.Meaning.{All, same, be, beAt}
+use Rattle.numbers.specs.Meaning.{All, same, be, beAt, signed}
 use Rattle.numbers.specs.Laws.{Bytes}
 
 -- ---- types and values
@@ -15,7 +17,7 @@ use Rattle.numbers.specs.Laws.{Bytes}
 abbrev pub widths : List ℕ
 widths = 1 ∷ 1 ∷ 2 ∷ 4 ∷ 4 ∷ 4 ∷ 8 ∷ 8 ∷ 8 ∷ 0 ∷ 0 ∷ 0 ∷ []
 
--- said of the twelve types alone
+-- an unknown type has 0 too: whoever is given a type tests it before its values
 unfoldable pub width : ℕ → ℕ
 width t = getD widths t 0
 
@@ -33,9 +35,9 @@ pub data Value (t : ℕ) : List ℕ → Type 0 where
 
 -- ---- the order of values (01, "Numbers compare signed. Strings compare by unsigned bytes, a prefix first")
 
--- the place of a two's complement number of w bytes among all such numbers, from the least on
-unfoldable pub rank : ℕ → List ℕ → ℕ
-rank w v = cond (ltb (beAt w v 0) (128 * 256 ^ (w - 1))) (beAt w v 0 + 128 * 256 ^ (w - 1)) (beAt w v 0 - 128 * 256 ^ (w - 1))
+-- the number that the first w bytes hold
+unfoldable pub signedNumber : ℕ → List ℕ → ℤ
+signedNumber w v = signed w (beAt w v 0)
 
 unfoldable pub bytesLess : List ℕ → List ℕ → Bool
 bytesLess [] [] = false
@@ -45,7 +47,7 @@ bytesLess (x ∷ xs) (y ∷ ys) = ltb x y || (eqb x y && bytesLess xs ys)
 
 -- a string's bytes stand behind its length of four
 unfoldable pub less : ℕ → List ℕ → List ℕ → Bool
-less t v w = cond (isString t) (bytesLess (drop 4 v) (drop 4 w)) (ltb (rank (width t) v) (rank (width t) w))
+less t v w = cond (isString t) (bytesLess (drop 4 v) (drop 4 w)) (ltZ (signedNumber (width t) v) (signedNumber (width t) w))
 
 -- ---- what a row holds, and literals
 

@@ -1,17 +1,14 @@
 // Values in the stored form of their type (document 01, the table of widths): their size, their order, and literals.
 ghost use mathlib.Core.Path.{_≡_};
-ghost use Prim.Native.Nat.{ℕ, _+_, _-_, _<_, _≤_};
-ghost use mathlib.Core.Bool.{cond};
-ghost use mathlib.Core.Logic.{_⊎_};
-ghost use mathlib.Core.List.{List, []};
-ghost use lib.Dec.{ltb};
-ghost use lib.ListN.{length, drop};
-ghost use Rattle.stored_value.specs.Meaning.{width, bytesLess};
+ghost use Prim.Native.Nat.{_<_, _≤_};
+ghost use mathlib.Core.List.{[]};
+ghost use lib.ListN.{getD, drop};
+ghost use mir.Syntax.{w64};
+ghost use mir.Val.{SFits};
+ghost use Rattle.stored_value.specs.Meaning.{width, signedNumber, bytesLess};
 ghost use Rattle.stored_value.specs.Meaning as meaning;
-ghost use Rattle.refusal.specs.Reading.{ok};
-ghost use Rattle.stored_value.specs.Reading.{valueSize};
+ghost use Rattle.stored_value.specs.Reading.{valueSize, sizedBy, countedBy, Lists};
 ghost use Rattle.stored_value.specs.Reading as reading;
-ghost use Rattle.stored_value.specs.Code.{sizedBy, countedBy};
 use numbers::Position;
 use refusal::Refusal;
 
@@ -77,29 +74,34 @@ pub fn size(s: &[u8], at: Position, t: u32, short: Refusal, broken: Refusal) -> 
     Sized::Bytes(w)
 }
 
-// The place of v among the numbers below twice `half`, where those from `half` on are the negative ones and come first.
-fn place(v: u64, half: u64) -> u64
-    requires { ⌜ (half ≤ 9223372036854775808) × (v < half + half) ⌝ }
-    ensures { λ r. ⌜ r ≡ cond (ltb v half) (v + half) (v - half) ⌝ }
+// The byte at i; one that is missing counts as 0.
+fn byte_at(s: &[u8], i: usize) -> u64
+    ensures { λ r. ⌜ (r ≡ getD (now (s .entry)) i 0) × (r < 256) ⌝ }
 {
-    if v < half { v + half } else { v - half }
+    if i < s.len() {
+        return numbers::byte(s, Position(i));
+    }
+    0
 }
 
-// The rank of the number that the first w bytes hold.
-fn rank(s: &[u8], w: usize) -> u64
-    requires { ⌜ (w ≤ length (now s)) × ((w ≡ 1) ⊎ ((w ≡ 2) ⊎ ((w ≡ 4) ⊎ (w ≡ 8)))) ⌝ }
-    ensures { λ r. ⌜ r ≡ meaning.rank w (now (s .entry)) ⌝ }
+// The signed number that the first w bytes hold, in two's complement. They spell x, and `last` is the greatest number that w bytes spell: up to its
+// half x is itself, and above it -1 less what x lacks to `last`, which does not overflow at the least value either.
+fn signed(s: &[u8], w: usize) -> i64
+    requires { ⌜ (0 < w) × (w ≤ 8) ⌝ }
+    ensures { λ r. ⌜ (r ≡ signedNumber w (now (s .entry))) × SFits w64 r ⌝ }
 {
-    if w == 1 {
-        return place(numbers::byte(s, Position(0)), 128);
+    let mut x: u64 = 0;
+    let mut last: u64 = 0;
+    let mut i = 0;
+    while i < w {
+        x = x * 256 + byte_at(s, i);
+        last = last * 256 + 255;
+        i += 1;
     }
-    if w == 2 {
-        return place(numbers::be16(s, Position(0)), 32768);
+    if x <= last / 2 {
+        return x as i64;
     }
-    if w == 4 {
-        return place(numbers::be32(s, Position(0)), 2147483648);
-    }
-    place(numbers::be64(s, Position(0)), 9223372036854775808)
+    -1 - ((last - x) as i64)
 }
 
 // Whether a comes before b from the byte `from` on: by unsigned bytes, a prefix first.
@@ -124,17 +126,15 @@ fn bytes_less(a: &[u8], b: &[u8], from: usize) -> bool
     i < b.len()
 }
 
-// Whether a comes before b among the values of type t: numbers signed, strings by unsigned bytes, a prefix first. It `requires` that a number's
-// bytes are there: whoever calls has found both values' sizes.
+// Whether a comes before b among the values of type t: numbers signed, strings by unsigned bytes, a prefix first.
 pub fn less(t: u32, a: &[u8], b: &[u8]) -> bool
-    requires { ⌜ (width t ≤ length (now a)) × (width t ≤ length (now b)) ⌝ }
     ensures { λ r. ⌜ r ≡ meaning.less t (now (a .entry)) (now (b .entry)) ⌝ }
 {
     let w = width_of(t);
     if w == 0 {
         return bytes_less(a, b, 4);
     }
-    rank(a, w) < rank(b, w)
+    signed(a, w) < signed(b, w)
 }
 
 // Literals of type t, one after another to the end of s.
@@ -160,9 +160,9 @@ pub fn literals(s: &[u8], t: u32) -> Counted
     Counted::Count(i)
 }
 
-// Whether a literal has v's bytes, said of literals that `literals` counts. Where it refuses them there is nothing to ask.
+// Whether a literal has v's bytes. Of literals that `literals` refuses either answer may come: whoever calls has tested them with it.
 pub fn listed(v: &[u8], literals: &[u8], t: u32) -> bool
-    ensures { λ r. ⌜ ((ls : List (List ℕ)) → reading.literals t 1024 [] (now (literals .entry)) ≡ ok ls → r ≡ meaning.listed (now (v .entry)) ls) ⌝ }
+    ensures { λ r. ⌜ Lists (now (v .entry)) (reading.literals t 1024 [] (now (literals .entry))) r ⌝ }
 {
     let mut p = 0;
     while p < literals.len() {

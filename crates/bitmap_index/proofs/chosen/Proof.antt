@@ -1,4 +1,5 @@
 -- `chosen` meets its contract by the cases on the question's number.
+use Rattle.stored_value.specs.Laws.{lists-read}
 use Rattle.bitmap_index.proofs.Choosing.{is-listed, not-listed, neither}
 use borrow.Author.Needs.{needs}
 use Rattle.bitmap_index.proofs.chosen.Statement.{statement}
@@ -13,12 +14,12 @@ listed-requires-2 c κs = search needs
 returns : tie.Need-returns
 returns c =
     let a = c .before .before .before .before .args in
-    λ ls h. is-listed (a .question) (a .v .now) ls (c .before .match .keys1) (c .listed .ensures ls h)
+    λ ls h. is-listed (a .question) (a .v .now) ls (c .before .match .keys1) (lists-read (a .v .now) (c .listed .result) ls h (c .listed .ensures))
 
 returns-2 : tie.Need-returns-2
 returns-2 c =
     let a = c .before .before .before .before .args in
-    λ ls h. not-listed (a .question) (a .v .now) ls (c .before .match .keys2) (c .listed2 .ensures ls h)
+    λ ls h. not-listed (a .question) (a .v .now) ls (c .before .match .keys2) (lists-read (a .v .now) (c .listed2 .result) ls h (c .listed2 .ensures))
 
 returns-3 : tie.Need-returns-3
 returns-3 c =

@@ -6,21 +6,21 @@ use mathlib.Core.Path.{_≡_}
 use native.Mathlib.Omega.{arith}
 use lib.ListN.{length, drop}
 use borrow.Author.Needs.{needs}
-use Rattle.dictionary.specs.Answers.{Listed, cellAt, Within}
+use Rattle.dictionary.specs.Answers.{Listed, cellAt}
 use Rattle.dictionary.specs.Reading.{Listing}
 use Rattle.dictionary.proofs.VersionTwo.{Blocking, blocking-first, blocking-done, blocking-stand, blocking-refused, blocking-next}
 use Rattle.dictionary.proofs.all_blocks.Statement.{statement}
 use Rattle.dictionary.proofs.all_blocks.Tie as tie
 
 abbrev Inv-loop : tie.InvT-loop
-Inv-loop body t b dir base i₀ q₀ p₀ before₀ total₀ i q p before total = (base ≤ p) × (p ≤ length body) × Within t body before × (i ≤ b) × (total ≤ 2147483648 * i)
+Inv-loop body t b dir base i₀ q₀ p₀ before₀ total₀ i q p before total = (base ≤ p) × (p ≤ length body) × (before .end ≤ length body) × (i ≤ b) × (total ≤ 2147483648 * i)
     × ((ds : List Listing) → Listed t (drop dir body) ds → length ds ≡ b → Blocking t ds (drop base body) i (drop q body) (cellAt body before) total (drop p body))
 
 abbrev μ-loop : tie.MeasureT-loop
 μ-loop body t b dir base i₀ q₀ p₀ before₀ total₀ i q p before total = b - i
 
 loop-holds : tie.Need-loop-holds Inv-loop μ-loop
-loop-holds c = let a = c .before .args in (omega arith, c .before .pre .0, (omega arith, λ q. absurd (omega arith)), omega arith, omega arith, λ ds l z. blocking-first (a .t) ds (drop (a .base) (a .body .now)) (drop (a .dir) (a .body .now)) l)
+loop-holds c = let a = c .before .args in (omega arith, c .before .pre .0, omega arith, omega arith, omega arith, λ ds l z. blocking-first (a .t) ds (drop (a .base) (a .body .now)) (drop (a .dir) (a .body .now)) l)
 
 one-block-requires : tie.Need-one-block-requires Inv-loop μ-loop
 one-block-requires c κs = (c .before .loop .inv .0, c .before .loop .inv .1, c .before .loop .inv .2)

@@ -4,13 +4,13 @@ use native.Mathlib.Omega.{arith}
 use lib.ListN.{length, drop, length-drop}
 use borrow.Author.Tests.{not-true, not-false}
 use borrow.Author.Needs.{needs}
-use Rattle.dictionary.specs.Answers.{cellAt, Within}
+use Rattle.dictionary.specs.Answers.{cellAt}
 use Rattle.dictionary.proofs.VersionTwo.{Passing, passing-first, passing-done, passing-stand, passing-refused, passing-low, passing-other, passing-short, passing-on}
 use Rattle.dictionary.proofs.block_entries.Statement.{statement}
 use Rattle.dictionary.proofs.block_entries.Tie as tie
 
 abbrev Inv-loop : tie.InvT-loop
-Inv-loop body t n at i₀ p₀ last₀ first₀ i p last first = (at ≤ p) × (p ≤ length body) × Within t body last × (first .end ≤ length body) × (i ≤ n)
+Inv-loop body t n at i₀ p₀ last₀ first₀ i p last first = (at ≤ p) × (p ≤ length body) × (last .end ≤ length body) × (first .end ≤ length body) × (i ≤ n)
     × Passing t n (cellAt body last₀) (cellAt body first₀) (drop at body) i (cellAt body last) (cellAt body first) (drop p body)
 
 abbrev μ-loop : tie.MeasureT-loop
@@ -32,7 +32,7 @@ enum-known-e : tie.Need-enum-known-e Inv-loop μ-loop
 enum-known-e c = search needs
 
 is-past-requires : tie.Need-is-past-requires Inv-loop μ-loop
-is-past-requires c κs = let w = rw (c .before .e .given .1) at (c .before .before .before .value-end .ensures) in (c .before .before .before .before .before .loop .inv .2, w .3, w .2)
+is-past-requires c κs = let w = rw (c .before .e .given .1) at (c .before .before .before .value-end .ensures) in (c .before .before .before .before .before .loop .inv .2, omega arith, w .2)
 
 returns-2 : tie.Need-returns-2 Inv-loop μ-loop
 returns-2 c = let w = rw (c .before .before .before .e .given .1) at (c .before .before .before .before .before .value-end .ensures) in passing-low (c .before .before .before .before .before .before .before .loop .inv .5) (c .before .before .before .before .before .before .loop-test .taken) (w .0) (c .before .is-past .ensures) (not-true _ (c .if1 .taken))
@@ -63,7 +63,7 @@ loop-again c =
     let w = rw (c .before .before .before .before .before .before .e .given .1) at (c .before .before .before .before .before .before .before .before .value-end .ensures) in (
       omega arith,
       omega arith,
-      (w .2, λ q. w .3),
+      w .2,
       omega arith,
       omega arith,
       passing-on (c .before .before .before .before .before .before .before .before .before .before .before .before .args .body .now) (c .before .before .before .before .before .before .before .before .before .before .loop .p) (c .before .before .before .before .before .before .e .given .0 .0) (c .before .before .before .before .before .before .before .before .before .before .loop .inv .5) (c .before .before .before .before .before .before .before .before .before .loop-test .taken) w (c .before .before .before .before .is-past .ensures) (not-false _ (c .before .before .before .if1 .left)) (c .before .before .is-head .ensures) (not-false _ (c .before .if2 .left)) (omega arith),

@@ -1,10 +1,9 @@
--- `is_past` meets its contract, by whether the span has bytes. A number's bytes are there, which `less` requires. Assumes nothing.
+-- `is_past` meets its contract, by whether the span has bytes. Assumes nothing.
 use Prim.Native.Nat.{_-_}
 use mathlib.Core.Path.{_∙_}
-use native.Mathlib.Omega.{arith}
 use lib.ListN.{take, drop}
 use borrow.Author.Needs.{needs}
-use Rattle.dictionary.proofs.VersionTwo.{past-none, past-some, part-length}
+use Rattle.dictionary.proofs.VersionTwo.{past-none, past-some}
 use Rattle.dictionary.proofs.is_past.Statement.{statement}
 use Rattle.dictionary.proofs.is_past.Tie as tie
 
@@ -27,12 +26,7 @@ part-less-end-2 : tie.Need-part-less-end-2
 part-less-end-2 c = search needs
 
 less-requires : tie.Need-less-requires
-less-requires c κs =
-    let a = c .before .before .before .before .args in
-    let w = c .before .before .before .before .pre .0 .1 (c .before .before .if1 .taken) in (
-      rw (part-length (a .body .now) (a .before .start) (a .before .end) (omega arith) (omega arith)) (omega arith),
-      rw (part-length (a .body .now) (a .p) (a .e) (omega arith) (omega arith)) (omega arith),
-    )
+less-requires c κs = search needs
 
 returns : tie.Need-returns
 returns c = let a = c .before .before .before .before .before .args in c .less .ensures ∙ past-some (a .body .now) (a .before) (take (a .e - a .p) (drop (a .p) (a .body .now))) (a .t) (c .before .before .before .if1 .taken)

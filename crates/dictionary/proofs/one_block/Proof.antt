@@ -107,7 +107,7 @@ returns-8 c =
         block-listed (a .t) (a .body .now) (a .base) (a .q) (a .p) (k .before .e .given .0 .0) (b .pre .0) (b .pre .1) (found k) (cellAt (a .body .now) (a .before)) d ds l .1,
         (
           x .0 .0,
-          λ es f. block-passed (a .t) (a .body .now) (a .base) (a .q) (a .p) (k .before .e .given .0 .0) (b .pre .0) (b .pre .1) (found k) (cellAt (a .body .now) (a .before)) d ds l es f (c .before .before .before .before .before .before .before .before .before .be32 .ensures .0) (c .before .before .before .before .before .before .before .before .if2 .left) (omega arith) (c .before .before .before .before .before .before .be322 .ensures .0) (c .before .before .before .before .before .if4 .left) (c .before .before .before .before .if5 .left) x,
+          λ es f. block-passed (a .t) (a .body .now) (a .base) (a .q) (a .p) (k .before .e .given .0 .0) (b .pre .0) (b .pre .1) (found k) (cellAt (a .body .now) (a .before)) d ds l es f (c .before .before .before .before .before .before .before .before .before .be32 .ensures .0) (c .before .before .before .before .before .before .before .before .if2 .left) (omega arith) (c .before .before .before .before .before .before .be322 .ensures .0) (c .before .before .before .before .before .if4 .left) (c .before .before .before .before .if5 .left) (c .before .next .given .0 .1 .0) x,
           x .0 .2,
           λ more g. block-stand (a .t) (a .body .now) (a .p) (x .0 .0 ++ more) (omega arith) (c .before .before .before .before .before .before .be322 .ensures .0) (c .before .before .before .before .before .if4 .left) (simp length-append (omega (arith, x .0 .2))) (x .0 .3 more g),
         ),

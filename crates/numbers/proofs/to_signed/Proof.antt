@@ -1,6 +1,7 @@
 -- `to_signed` meets its contract: below 2^31 the number is itself, from there on -1 less what is missing to 2^32 - 1.
 use Prim.Native.Nat.{_-_}
 use native.Mathlib.Omega.{arith}
+use mir.Syntax.{w32}
 use borrow.Author.Needs.{needs}
 use Rattle.numbers.specs.Signed.{down-fits, signed-low, signed-high}
 use Rattle.numbers.proofs.to_signed.Statement.{statement}
@@ -16,13 +17,13 @@ cast-result-2 : tie.Need-cast-result-2
 cast-result-2 c = search needs
 
 sub-result-2 : tie.Need-sub-result-2
-sub-result-2 c = down-fits (4294967295 - c .before .args .x) (omega arith)
+sub-result-2 c = down-fits w32 (4294967295 - c .before .args .x) (omega arith)
 
 returns : tie.Need-returns
-returns c = signed-low (c .before .args .x) (c .if1 .taken)
+returns c = signed-low w32 4 (c .before .args .x) (c .if1 .taken) (c .if1 .taken)
 
 returns-2 : tie.Need-returns-2
-returns-2 c = signed-high (c .before .args .x) (c .before .fits .x .fits) (c .if1 .left)
+returns-2 c = signed-high w32 4 (c .before .args .x) (c .if1 .left) (omega arith)
 
 pub to-signed-spec : {M : Type 1} → statement M
 to-signed-spec =

@@ -1,8 +1,7 @@
--- `less` meets its contract: strings by their bytes behind the length, numbers by their ranks. Assumes nothing.
+-- `less` meets its contract: strings by their bytes behind the length, numbers by the order of the signed numbers. Assumes nothing.
 use mathlib.Core.Path.{_∙_}
 use native.Mathlib.Omega.{arith}
 use borrow.Author.Needs.{needs}
-use Rattle.stored_value.proofs.Widths.{number-widths}
 use Rattle.stored_value.proofs.Steps.{less-string, less-number}
 use Rattle.stored_value.proofs.less.Statement.{statement}
 use Rattle.stored_value.proofs.less.Tie as tie
@@ -19,22 +18,18 @@ returns c =
     let w = c .before .before .width-of in
     c .bytes-less .ensures ∙ less-string (a .t) (a .a .now) (a .b .now) (w .result) (w .ensures .0) (c .before .if1 .taken)
 
-rank-requires : tie.Need-rank-requires
-rank-requires c κs =
-    let w = c .before .width-of in
-    (omega arith, number-widths (c .before .before .before .before .args .t) (w .result) (w .ensures .0) (c .if1 .left))
+signed-requires : tie.Need-signed-requires
+signed-requires c κs = omega arith
 
-rank-requires-2 : tie.Need-rank-requires-2
-rank-requires-2 c κs =
-    let w = c .before .before .width-of in
-    (omega arith, number-widths (c .before .before .before .before .before .args .t) (w .result) (w .ensures .0) (c .before .if1 .left))
+signed-requires-2 : tie.Need-signed-requires-2
+signed-requires-2 c κs = omega arith
 
 returns-2 : tie.Need-returns-2
 returns-2 c =
     let a = c .before .before .before .before .before .before .args in
     let w = c .before .before .before .width-of in
-    let x = c .before .rank in
-    let y = c .rank2 in
+    let x = c .before .signed in
+    let y = c .signed2 in
     less-number (a .t) (a .a .now) (a .b .now) (w .result) (w .ensures .0) (c .before .before .if1 .left) (x .result) (y .result) (x .ensures) (y .ensures)
 
 pub less-spec : {M : Type 1} → statement M
@@ -44,6 +39,6 @@ less-spec =
     width-of-requires
     bytes-less-requires
     returns
-    rank-requires
-    rank-requires-2
+    signed-requires
+    signed-requires-2
     returns-2)

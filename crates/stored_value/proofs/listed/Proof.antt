@@ -1,6 +1,7 @@
 -- `listed` meets its contract: of literals that are read, those passed have not the bytes of `v`, and those that are left give the whole. Assumes nothing.
 use Prim.Native.Nat.{ℕ, _+_, _-_, _≤_}
 use mathlib.Core.Path.{_≡_, sym, _∙_}
+use mathlib.Core.Bool.{true, false}
 use mathlib.Core.List.{List, []}
 use native.Mathlib.Omega.{arith}
 use lib.ListN.{length, drop}
@@ -8,6 +9,7 @@ use borrow.Author.Needs.{needs}
 use Rattle.refusal.specs.declared.Refusal.the-variants.{Literal}
 use Rattle.refusal.specs.Reading.{ok}
 use Rattle.stored_value.specs.Reading as reading
+use Rattle.stored_value.specs.Laws.{lists-by}
 use Rattle.stored_value.proofs.Steps.{size-refused, size-bytes, size-within}
 use Rattle.stored_value.proofs.Passed.{Left, left-start, left-done, left-refused, left-found, left-next}
 use Rattle.stored_value.proofs.listed.Statement.{statement}
@@ -32,12 +34,13 @@ enum-told : tie.Need-enum-told Inv-loop μ-loop
 enum-told c = search needs
 
 returns : tie.Need-returns Inv-loop μ-loop
-returns c ls e =
+returns c =
     let l = c .before .before .before .before .loop in
     let a = c .before .before .before .before .before .before .before .args in
     let r = c .before .before .size in
     let v = size-refused (reading.valueSize Literal Literal (a .t) (drop (l .p) (a .literals .now))) (r .result) (c .enum-told .given .0 .0) (r .ensures) (c .enum-told .given .1) in
-    absurd (left-refused (a .t) (a .v .now) (a .literals .now) ls (l .p) (omega arith) (l .inv .1 ls e) (c .enum-told .given .0 .0) v)
+    lists-by (a .v .now) false (reading.literals (a .t) 1024 [] (a .literals .now))
+    (λ ls e. absurd (left-refused (a .t) (a .v .now) (a .literals .now) ls (l .p) (omega arith) (l .inv .1 ls e) (c .enum-told .given .0 .0) v))
 
 enum-known-n : tie.Need-enum-known-n Inv-loop μ-loop
 enum-known-n c = search needs
@@ -80,12 +83,14 @@ same-requires : tie.Need-same-requires Inv-loop μ-loop
 same-requires c κs = search needs
 
 returns-2 : tie.Need-returns-2 Inv-loop μ-loop
-returns-2 c ls e =
+returns-2 c =
     let k = c .before .before .before in
     let l = k .before .before .before .before .before .loop in
     let b = k .before .before .before .before .before .before in
     let a = b .before .before .args in
-    sym (left-found (a .t) (a .v .now) (a .literals .now) ls (l .p) (omega arith) (l .inv .1 ls e) (k .before .n .given .0 .0) (found k) (λ i. b .shared-slice-known2 .given i .fits) (sym (c .before .same .ensures) ∙ c .if1 .taken))
+    let here = sym (c .before .same .ensures) ∙ c .if1 .taken in
+    lists-by (a .v .now) true (reading.literals (a .t) 1024 [] (a .literals .now))
+    (λ ls e. sym (left-found (a .t) (a .v .now) (a .literals .now) ls (l .p) (omega arith) (l .inv .1 ls e) (k .before .n .given .0 .0) (found k) (λ i. b .shared-slice-known2 .given i .fits) here))
 
 loop-less : tie.Need-loop-less Inv-loop μ-loop
 loop-less c = omega (arith, within (c .before .before .before))
@@ -100,10 +105,11 @@ loop-again c =
     )
 
 returns-3 : tie.Need-returns-3 Inv-loop μ-loop
-returns-3 c ls e =
+returns-3 c =
     let l = c .before .loop in
     let a = c .before .before .before .before .args in
-    sym (left-done (a .t) (a .v .now) (a .literals .now) ls (l .p) (omega arith) (l .inv .1 ls e))
+    lists-by (a .v .now) false (reading.literals (a .t) 1024 [] (a .literals .now))
+    (λ ls e. sym (left-done (a .t) (a .v .now) (a .literals .now) ls (l .p) (omega arith) (l .inv .1 ls e)))
 
 pub listed-spec : {M : Type 1} → statement M
 listed-spec =
