@@ -1,2 +1,147 @@
-//! The command line.
-fn main() {}
+//! The command line: asks index files and deletion files, and says the answer in one line.
+
+#![deny(missing_docs)]
+#![forbid(unsafe_code)]
+
+mod args;
+mod calendar;
+mod literal;
+mod output;
+
+use std::fs::File;
+use std::io::{self, BufWriter, Read, Write};
+use std::path::Path;
+use std::process::ExitCode;
+
+use poddurance::{ask, audit, locate, raw, read_deletions, subtract, Error, Literals, Refusal, RowField, LIMIT};
+
+use args::{Command, Deletions, Job, BITMAP};
+use output::{Outcome, Part};
+
+/// Wrong usage, a file that can't be read, or an answer that can't be written.
+const FAILED: u8 = 2;
+
+fn main() -> ExitCode {
+    let job = match args::parse(std::env::args_os().skip(1)) {
+        Ok(job) => job,
+        Err(message) => return failed(&format!("{message}\nSee 'poddurance --help'.")),
+    };
+    match run(job) {
+        Ok(status) => ExitCode::from(status),
+        Err(message) => failed(&message),
+    }
+}
+
+fn failed(message: &str) -> ExitCode {
+    // With nowhere to say it, the exit status still does.
+    let _ = writeln!(io::stderr(), "poddurance: {message}");
+    ExitCode::from(FAILED)
+}
+
+fn run(job: Job) -> Result<u8, String> {
+    let mut out = BufWriter::new(io::stdout().lock());
+    let written = match job.command {
+        Command::Help => out.write_all(include_bytes!("help.txt")).map(|()| 0),
+        Command::Version => writeln!(out, "poddurance {}", env!("CARGO_PKG_VERSION")).map(|()| 0),
+        command => {
+            let outcome = carry_out(command)?;
+            let said = if job.json { outcome.write_json(job.rows, &mut out) } else { outcome.write_text(job.rows, &mut out) };
+            said.map(|()| outcome.exit_status())
+        }
+    };
+    // An answer that was cut short must not pass for one.
+    written.and_then(|status| out.flush().map(|()| status)).map_err(|error| format!("can't write the answer: {error}"))
+}
+
+fn carry_out(command: Command) -> Result<Outcome, String> {
+    Ok(match command {
+        Command::Help | Command::Version => unreachable!("these have been answered"),
+        Command::Locate { file, column, kind } => place(&read(&file)?, column, kind),
+        Command::Audit { file, column, ty } => {
+            let bytes = read(&file)?;
+            in_index(&bytes, column, |body| {
+                let field = audit(body, ty, RowField::for_body(body))?;
+                Ok(Outcome::Accepted { rows: field.rows() })
+            })
+        }
+        Command::Ask { file, column, ty, question, literals, deletions } => {
+            let bytes = read(&file)?;
+            let answered = in_index(&bytes, column, |body| {
+                let literals = Literals::of(ty, &literals)?;
+                let answer = ask(body, question, &literals, RowField::for_body(body))?;
+                Ok(Outcome::Answered { field: answer.into_field(), removed: None })
+            });
+            drop(bytes);
+            match (answered, deletions) {
+                (Outcome::Answered { field, .. }, Some(deletions)) => without(field, &deletions)?,
+                (outcome, _) => outcome,
+            }
+        }
+        Command::Deletions { deletions, rows } => {
+            let bytes = read(&deletions.file)?;
+            match RowField::for_rows(rows).and_then(|field| read_deletions(&bytes, deletions.bin, field)) {
+                Ok(field) => Outcome::Deleted { field },
+                Err(refusal) => Outcome::Refused { refusal, part: Part::Deletions },
+            }
+        }
+    })
+}
+
+/// Where the index is; its start is a number that only the raw call has.
+fn place(bytes: &[u8], column: String, kind: String) -> Outcome {
+    match raw::locate(&[], bytes, column.as_bytes(), kind.as_bytes()) {
+        (raw::ACCEPTED, start, length) => Outcome::Found { column, kind, start, length },
+        (raw::ABSENT, ..) => Outcome::Absent { column, kind },
+        (number, ..) => match Refusal::from_number(number) {
+            Some(refusal) => Outcome::Refused { refusal, part: Part::Index },
+            None => unreachable!("{number} is no answer of the library"),
+        },
+    }
+}
+
+/// What the bitmap index on the column answers.
+fn in_index(bytes: &[u8], column: String, answer: impl FnOnce(&[u8]) -> Result<Outcome, Error>) -> Outcome {
+    let answered = match locate(&[], bytes, &column, BITMAP) {
+        Ok(Some(body)) => answer(body),
+        Ok(None) => return Outcome::Absent { column, kind: BITMAP.to_string() },
+        Err(refusal) => Err(refusal.into()),
+    };
+    match answered {
+        Ok(outcome) => outcome,
+        Err(error) => Outcome::Refused { refusal: refusal_of(error), part: Part::Index },
+    }
+}
+
+/// The rows that are left when those of the bin are taken away. The deletion file is read where nothing is left to take away too:
+/// a refused one is never an answer.
+fn without(mut field: RowField, deletions: &Deletions) -> Result<Outcome, String> {
+    let bytes = read(&deletions.file)?;
+    let counts = RowField::for_rows(field.rows())
+        .and_then(|room| read_deletions(&bytes, deletions.bin, room))
+        .map_err(Error::from)
+        .and_then(|deleted| subtract(&mut field, &deleted));
+    Ok(match counts {
+        Ok(counts) => Outcome::Answered { field, removed: Some(counts.removed) },
+        Err(error) => Outcome::Refused { refusal: refusal_of(error), part: Part::DeletionsBesideIndex },
+    })
+}
+
+fn refusal_of(error: Error) -> Refusal {
+    match error {
+        Error::Refused(refusal) => refusal,
+        Error::RowsDiffer { .. } => unreachable!("each field was made for the row count it is used with"),
+    }
+}
+
+/// A file's bytes, and of one over the limit just enough that the library finds it over the limit.
+fn read(path: &Path) -> Result<Vec<u8>, String> {
+    let most = LIMIT + 1;
+    let read = || -> io::Result<Vec<u8>> {
+        let file = File::open(path)?;
+        let mut bytes = Vec::new();
+        bytes.try_reserve_exact(file.metadata()?.len().min(most) as usize)?;
+        file.take(most).read_to_end(&mut bytes)?;
+        Ok(bytes)
+    };
+    read().map_err(|error| format!("can't read {}: {error}", path.display()))
+}

@@ -1,0 +1,445 @@
+//! The command line, run as a user runs it on files written here.
+
+use std::ffi::OsStr;
+use std::fs::{self, File};
+use std::path::{Path, PathBuf};
+use std::process::{Command, Stdio};
+use std::sync::atomic::{AtomicUsize, Ordering};
+
+/// A folder of its own for each test, removed with it.
+struct Folder(PathBuf);
+
+impl Folder {
+    fn new() -> Folder {
+        static NUMBER: AtomicUsize = AtomicUsize::new(0);
+        let name = format!("poddurance-{}-{}", std::process::id(), NUMBER.fetch_add(1, Ordering::Relaxed));
+        let path = std::env::temp_dir().join(name);
+        fs::create_dir(&path).unwrap();
+        Folder(path)
+    }
+
+    fn write(&self, name: &str, bytes: &[u8]) -> String {
+        let path = self.0.join(name);
+        fs::write(&path, bytes).unwrap();
+        path.to_str().unwrap().to_string()
+    }
+}
+
+impl Drop for Folder {
+    fn drop(&mut self) {
+        let _ = fs::remove_dir_all(&self.0);
+    }
+}
+
+/// Exit status, standard output, standard error.
+fn run<S: AsRef<OsStr>>(words: &[S]) -> (i32, String, String) {
+    let output = Command::new(env!("CARGO_BIN_EXE_poddurance")).args(words).stdin(Stdio::null()).output().unwrap();
+    let text = |bytes: Vec<u8>| String::from_utf8(bytes).unwrap();
+    (output.status.code().unwrap(), text(output.stdout), text(output.stderr))
+}
+
+/// Runs and expects a status, a first line and nothing on standard error.
+#[track_caller]
+fn says<S: AsRef<OsStr> + std::fmt::Debug>(words: &[S], status: i32, line: &str) {
+    assert_eq!(run(words), (status, format!("{line}\n"), String::new()), "{words:?}");
+}
+
+/// Runs and expects wrong usage, with these words on standard error and nothing on standard output.
+#[track_caller]
+fn complains(words: &[&str], part: &str) {
+    let (status, out, err) = run(words);
+    assert_eq!((status, out.as_str()), (2, ""), "{words:?}");
+    assert!(err.starts_with("poddurance: ") && err.contains(part), "{err}");
+}
+
+const SMALL: [u8; 24] = [1, 0, 0, 0, 3, 0, 0, 0, 2, 1, 255, 255, 255, 253, 7, 255, 255, 255, 255, 9, 255, 255, 255, 254];
+
+/// An index file with one index on one column.
+fn index_file(column: &str, kind: &str, body: &[u8]) -> Vec<u8> {
+    let mut entry = vec![0, column.len() as u8];
+    entry.extend(column.as_bytes());
+    entry.extend([0, 0, 0, 1, 0, kind.len() as u8]);
+    entry.extend(kind.as_bytes());
+    let head = (20 + entry.len() + 8 + 4) as u32;
+    let mut file = 1_493_475_289_347_502u64.to_be_bytes().to_vec();
+    for number in [1, head, 1] {
+        file.extend(number.to_be_bytes());
+    }
+    file.extend(entry);
+    for number in [head, body.len() as u32, 0] {
+        file.extend(number.to_be_bytes());
+    }
+    file.extend(body);
+    file
+}
+
+/// A bitmap of rows below 65,536 in one container of values.
+fn bitmap(rows: &[u16]) -> Vec<u8> {
+    let mut bytes = vec![0x3A, 0x30, 0, 0, 1, 0, 0, 0, 0, 0];
+    bytes.extend((rows.len() as u16 - 1).to_le_bytes());
+    bytes.extend([16, 0, 0, 0]);
+    bytes.extend(rows.iter().flat_map(|row| row.to_le_bytes()));
+    bytes
+}
+
+/// Document 01's login, click and purchase of 6 rows, as a STRING column.
+fn events() -> Vec<u8> {
+    let entries = [("login", bitmap(&[0, 2, 5])), ("click", bitmap(&[1, 4])), ("purchase", bitmap(&[3]))];
+    let mut body = vec![1, 0, 0, 0, 6, 0, 0, 0, 3, 0];
+    let mut offset = 0u32;
+    for (value, rows) in &entries {
+        body.extend((value.len() as u32).to_be_bytes());
+        body.extend(value.as_bytes());
+        body.extend(offset.to_be_bytes());
+        offset += rows.len() as u32;
+    }
+    body.extend(entries.iter().flat_map(|(_, rows)| rows));
+    body
+}
+
+/// A deletion file with these bitmaps.
+fn deletion_file(bitmaps: &[Vec<u8>]) -> Vec<u8> {
+    let mut file = vec![1];
+    for bitmap in bitmaps {
+        let mut bin = 1_581_511_376u32.to_be_bytes().to_vec();
+        bin.extend(bitmap);
+        file.extend((bin.len() as u32).to_be_bytes());
+        file.extend(&bin);
+        file.extend(crc32(&bin).to_be_bytes());
+    }
+    file
+}
+
+/// CRC-32 by its definition, bit by bit.
+fn crc32(bytes: &[u8]) -> u32 {
+    !bytes.iter().fold(u32::MAX, |crc, byte| {
+        (0..8).fold(crc ^ u32::from(*byte), |crc, _| if crc & 1 == 1 { (crc >> 1) ^ 0xEDB8_8320 } else { crc >> 1 })
+    })
+}
+
+#[test]
+fn locates() {
+    let folder = Folder::new();
+    let file = &folder.write("index", &index_file("s", "bitmap", &SMALL));
+    says(&["locate", file, "s"], 0, "found: bitmap index on column \"s\", 24 bytes at 47");
+    says(&["locate", file, "s", "bitmap"], 0, "found: bitmap index on column \"s\", 24 bytes at 47");
+    says(&["locate", file, "x"], 1, "absent: no bitmap index on column \"x\"");
+    says(&["locate", file, "s", "bloom-filter"], 1, "absent: no bloom-filter index on column \"s\"");
+    says(&["locate", file, "s", "--json"], 0, r#"{"answer":"found","column":"s","kind":"bitmap","start":47,"length":24}"#);
+    says(&["locate", file, "\"\n", "--json"], 1, r#"{"answer":"absent","column":"\"\u000a","kind":"bitmap"}"#);
+}
+
+#[test]
+fn the_file_that_document_01_writes_out() {
+    let written = [
+        0, 5, 0x4E, 0x4E, 0xD0, 0x1A, 0x35, 0xAE, 0, 0, 0, 1, 0, 0, 0, 0x2F, 0, 0, 0, 1, 0, 1, 0x73, 0, 0, 0, 1, 0, 6, 0x62,
+        0x69, 0x74, 0x6D, 0x61, 0x70, 0, 0, 0, 0x2F, 0, 0, 0, 0x18, 0, 0, 0, 0,
+    ];
+    assert_eq!(index_file("s", "bitmap", &SMALL), [&written[..], &SMALL].concat());
+}
+
+#[test]
+fn audits() {
+    let folder = Folder::new();
+    let file = &folder.write("index", &index_file("s", "bitmap", &SMALL));
+    says(&["audit", file, "s", "TINYINT"], 0, "accepted: 3 rows, each in exactly one place");
+    says(&["audit", file, "s", "tinyint", "--json"], 0, r#"{"answer":"accepted","rows":3}"#);
+    says(&["audit", file, "x", "TINYINT"], 1, "absent: no bitmap index on column \"x\"");
+    let other = &folder.write("other", &index_file("s", "bloom-filter", &SMALL));
+    says(&["audit", other, "s", "TINYINT"], 1, "absent: no bitmap index on column \"s\"");
+}
+
+#[test]
+fn asks() {
+    let folder = Folder::new();
+    let file = &folder.write("index", &index_file("state", "bitmap", &events()));
+    let ask = ["ask", file, "state", "STRING"];
+    let with = |more: &[&'static str]| [&ask[..], more].concat();
+    says(&with(&["EQUAL", "login"]), 0, "keep: 3 of 6 rows");
+    says(&with(&["IN", "login", "purchase", "--rows"]), 0, "keep: 4 of 6 rows\nrows: 0, 2-3, 5");
+    says(&with(&["NOT IN", "login", "--rows"]), 0, "keep: 3 of 6 rows\nrows: 1, 3-4");
+    says(&with(&["not-in", "--rows"]), 0, "keep: 6 of 6 rows\nrows: 0-5");
+    says(&with(&["in"]), 1, "skip: no row of 6");
+    says(&with(&["not_equal", "click"]), 0, "keep: 4 of 6 rows");
+    says(&with(&["equal", "logout"]), 1, "skip: no row of 6");
+    says(&with(&["is-null", "--rows"]), 1, "skip: no row of 6\nrows: none");
+    says(&with(&["is-not-null"]), 0, "keep: 6 of 6 rows");
+    says(&with(&["equal", "login", "--json"]), 0, r#"{"answer":"keep","count":3,"rows":6,"removed":null}"#);
+    says(
+        &with(&["equal", "login", "--json", "--rows"]),
+        0,
+        r#"{"answer":"keep","count":3,"rows":6,"removed":null,"ranges":[[0,0],[2,2],[5,5]]}"#,
+    );
+    says(
+        &with(&["equal", "logout", "--json", "--rows"]),
+        1,
+        r#"{"answer":"skip","count":0,"rows":6,"removed":null,"ranges":[]}"#,
+    );
+    says(&["ask", file, "x", "STRING", "IS NULL"], 1, "absent: no bitmap index on column \"x\"");
+}
+
+#[test]
+fn asks_with_deletions() {
+    let folder = Folder::new();
+    let file = &folder.write("index", &index_file("state", "bitmap", &events()));
+    let deletions = &folder.write("deletions", &deletion_file(&[bitmap(&[0, 1]), bitmap(&[0, 2, 5])]));
+    let ask = |more: &[&str], bin: &str| {
+        let words = [&["ask", file, "state", "STRING"], more, &["--deletions", deletions, "--bin", bin]].concat();
+        words.into_iter().map(String::from).collect::<Vec<_>>()
+    };
+    says(&ask(&["EQUAL", "login"], "0"), 0, "keep: 2 of 6 rows, 1 deleted row removed");
+    says(&ask(&["EQUAL", "login", "--rows"], "0"), 0, "keep: 2 of 6 rows, 1 deleted row removed\nrows: 2, 5");
+    says(&ask(&["EQUAL", "login"], "1"), 1, "skip: no row of 6, 3 deleted rows removed");
+    says(&ask(&["EQUAL", "purchase"], "1"), 0, "keep: 1 of 6 rows, 0 deleted rows removed");
+    says(&ask(&["EQUAL", "logout"], "1"), 1, "skip: no row of 6, 0 deleted rows removed");
+    says(
+        &ask(&["NOT IN", "--json", "--rows"], "1"),
+        0,
+        r#"{"answer":"keep","count":3,"rows":6,"removed":3,"ranges":[[1,1],[3,4]]}"#,
+    );
+    // A refused deletion file is no answer, also where no row was chosen.
+    for literal in ["login", "logout"] {
+        says(
+            &ask(&["EQUAL", literal], "2"),
+            3,
+            "refused: NOBIN (14), bin number not below the number of bins, in the deletion file",
+        );
+    }
+    says(
+        &ask(&["EQUAL", "login", "--json"], "2"),
+        3,
+        r#"{"answer":"refused","file":"deletions","name":"NOBIN","number":14,"meaning":"bin number not below the number of bins"}"#,
+    );
+    // A deleted row that the index doesn't have.
+    let past = &folder.write("past", &deletion_file(&[bitmap(&[6])]));
+    says(
+        &["ask", file, "state", "STRING", "IS-NOT-NULL", "--deletions", past, "--bin", "0"],
+        3,
+        "refused: RANGE (7), a row at or above the row count, in the deletion file",
+    );
+    complains(
+        &["ask", file, "state", "STRING", "IS-NULL", "--deletions", "/no such folder/d", "--bin", "0"],
+        "can't read /no such folder/d: ",
+    );
+}
+
+#[test]
+fn reads_deletions() {
+    let folder = Folder::new();
+    let file = &folder.write("deletions", &deletion_file(&[bitmap(&[0, 2, 5]), vec![0x3A, 0x30, 0, 0, 0, 0, 0, 0]]));
+    says(&["deletions", file, "0", "6"], 0, "deleted: 3 of 6 rows");
+    says(&["deletions", file, "0", "100", "--rows"], 0, "deleted: 3 of 100 rows\nrows: 0, 2, 5");
+    says(&["deletions", file, "1", "1"], 0, "deleted: 0 of 1 row");
+    says(&["deletions", file, "0", "6", "--json"], 0, r#"{"answer":"deleted","count":3,"rows":6}"#);
+    says(
+        &["deletions", file, "0", "6", "--json", "--rows"],
+        0,
+        r#"{"answer":"deleted","count":3,"rows":6,"ranges":[[0,0],[2,2],[5,5]]}"#,
+    );
+}
+
+#[test]
+fn every_refusal_of_an_index() {
+    let folder = Folder::new();
+    let whole = index_file("s", "bitmap", &SMALL);
+    let changed = |at: usize, byte: u8| {
+        let mut bytes = whole.clone();
+        bytes[at] = byte;
+        bytes
+    };
+    // The body starts at 47: its version, row count 48 to 51, value number 52 to 55, null's offset 57 to 60, the entries from 61.
+    for (bytes, line) in [
+        (vec![], "SHORT (1), the bytes end inside a field that is due, outside bitmaps"),
+        (index_file("s", "bitmap", &SMALL[..23]), "SHORT (1), the bytes end inside a field that is due, outside bitmaps"),
+        (changed(7, 0xAF), "MAGIC (2), index file or bin magic differs"),
+        (changed(11, 2), "VERSION (3), index file not 1; body not 1 or 2; deletion file not 1"),
+        (changed(47, 3), "VERSION (3), index file not 1; body not 1 or 2; deletion file not 1"),
+        (whole[..70].to_vec(), "HEAD (4), index file head breaks a rule below"),
+        (changed(66, 7), "DICT (5), dictionary breaks a rule below"),
+        (changed(67, 0), "BITMAP (6), place, length or form of a bitmap is wrong"),
+        (changed(70, 0xFC), "RANGE (7), a row at or above the row count"),
+        (changed(70, 0xFF), "TWICE (8), a row already placed"),
+        (changed(51, 4), "MISSING (9), a row never placed"),
+        (changed(54, 0x11), "LIMIT (12), a limit is passed"),
+    ] {
+        let file = &folder.write("index", &bytes);
+        let refused = &format!("refused: {line}");
+        says(&["audit", file, "s", "TINYINT"], 3, refused);
+        says(&["ask", file, "s", "TINYINT", "EQUAL", "7"], 3, refused);
+        says(&["ask", file, "s", "TINYINT", "EQUAL", "7", "--rows"], 3, refused);
+    }
+    let file = &folder.write("index", &whole[..70]);
+    says(&["locate", file, "s"], 3, "refused: HEAD (4), index file head breaks a rule below");
+    says(
+        &["locate", file, "s", "--json"],
+        3,
+        r#"{"answer":"refused","file":"index","name":"HEAD","number":4,"meaning":"index file head breaks a rule below"}"#,
+    );
+}
+
+#[test]
+fn every_refusal_of_literals() {
+    let folder = Folder::new();
+    let file = &folder.write("index", &index_file("s", "bitmap", &SMALL));
+    let misfit = "refused: LITERAL (11), literals don't fit question and type";
+    says(&["ask", file, "s", "TINYINT", "EQUAL"], 3, misfit);
+    says(&["ask", file, "s", "TINYINT", "EQUAL", "7", "9"], 3, misfit);
+    says(&["ask", file, "s", "TINYINT", "IS NULL", "7"], 3, misfit);
+
+    let many = |number: usize| [&["ask", file, "s", "TINYINT", "IN"][..], &vec!["7"; number]].concat();
+    says(&many(1_024), 0, "keep: 1 of 3 rows");
+    says(&many(1_025), 3, "refused: LIMIT (12), a limit is passed");
+
+    let strings = &folder.write("strings", &index_file("state", "bitmap", &events()));
+    let long = |length: usize| ["ask", strings, "state", "STRING", "EQUAL", &"x".repeat(length)].map(String::from);
+    says(&long(65_535), 1, "skip: no row of 6");
+    says(&long(65_536), 3, "refused: LIMIT (12), a limit is passed");
+}
+
+#[test]
+fn every_refusal_of_deletions() {
+    let folder = Folder::new();
+    let whole = deletion_file(&[bitmap(&[0, 2, 5])]);
+    let changed = |at: usize, byte: u8| {
+        let mut bytes = whole.clone();
+        bytes[at] = byte;
+        bytes
+    };
+    for (bytes, bin, rows, line) in [
+        (vec![], "0", "6", "SHORT (1), the bytes end inside a field that is due, outside bitmaps"),
+        (whole[..34].to_vec(), "0", "6", "SHORT (1), the bytes end inside a field that is due, outside bitmaps"),
+        (changed(5, 0), "0", "6", "MAGIC (2), index file or bin magic differs"),
+        (changed(0, 2), "0", "6", "VERSION (3), index file not 1; body not 1 or 2; deletion file not 1"),
+        (deletion_file(&[vec![0; 8]]), "0", "6", "BITMAP (6), place, length or form of a bitmap is wrong"),
+        (whole.clone(), "0", "5", "RANGE (7), a row at or above the row count"),
+        (whole.clone(), "0", "2147483648", "LIMIT (12), a limit is passed"),
+        (changed(34, 0), "0", "6", "CHECKSUM (13), bin checksum differs"),
+        (whole.clone(), "1", "6", "NOBIN (14), bin number not below the number of bins"),
+        (whole.clone(), "18446744073709551615", "6", "NOBIN (14), bin number not below the number of bins"),
+    ] {
+        let file = &folder.write("deletions", &bytes);
+        says(&["deletions", file, bin, rows, "--rows"], 3, &format!("refused: {line}"));
+    }
+}
+
+#[test]
+fn literals_of_every_type() {
+    let folder = Folder::new();
+    let day = 19_723i32.to_be_bytes();
+    let time = 36_060_250i32.to_be_bytes();
+    let millis = 1_704_103_200_250i64.to_be_bytes();
+    let micros = 1_704_103_200_250_001i64.to_be_bytes();
+    for (ty, stored, literals) in [
+        ("TINYINT", &[0xFD][..], &[&["-3"][..]][..]),
+        ("BOOLEAN", &[1], &[&["true"], &["TRUE"]]),
+        ("SMALLINT", &[0xFF, 0xFD], &[&["-3"], &["--", "-3"]]),
+        ("INT", &[0, 0, 0, 7], &[&["7"], &["+7"]]),
+        ("DATE", &day, &[&["2024-01-01"], &["19723"]]),
+        ("TIME", &time, &[&["10:01:00.25"], &["10:01:00.250"], &["36060250"]]),
+        ("BIGINT", &[0x80, 0, 0, 0, 0, 0, 0, 0], &[&["-9223372036854775808"]]),
+        ("TIMESTAMP", &millis, &[&["2024-01-01T10:00:00.25"], &["2024-01-01 10:00:00.250"], &["1704103200250"]]),
+        ("TIMESTAMP", &micros, &[&["2024-01-01T10:00:00.250001", "--micros"], &["1704103200250001"]]),
+        ("LOCAL ZONED TIMESTAMP", &millis, &[&["2024-01-01T10:00:00.25Z"], &["2024-01-01T10:00:00.25"]]),
+        ("local-zoned-timestamp", &micros, &[&["2024-01-01T10:00:00.250001Z", "--micros"]]),
+        ("CHAR", b"\0\0\0\x02-3", &[&["-3"]]),
+        ("VARCHAR", b"\0\0\0\0", &[&[""]]),
+        ("STRING", b"\0\0\0\x06--rows", &[&["--", "--rows"]]),
+    ] {
+        // Two rows: the value, and null.
+        let mut body = vec![1, 0, 0, 0, 2, 0, 0, 0, 1, 1, 255, 255, 255, 254];
+        body.extend(stored);
+        body.extend([255, 255, 255, 255]);
+        let file = &folder.write("index", &index_file("c", "bitmap", &body));
+        for literal in literals {
+            says(&[&["--rows", "ask", file, "c", ty, "EQUAL"], *literal].concat(), 0, "keep: 1 of 2 rows\nrows: 0");
+            says(&[&["--rows", "ask", file, "c", ty, "NOT EQUAL"], *literal].concat(), 0, "keep: 1 of 2 rows\nrows: 1");
+        }
+    }
+}
+
+#[test]
+fn wrong_usage() {
+    let folder = Folder::new();
+    let file = &folder.write("index", &index_file("s", "bitmap", &SMALL));
+    complains(&[], "a command: locate, audit, ask or deletions is missing");
+    complains(&["find", file], "\"find\" is no command");
+    complains(&["locate", file], "COLUMN is missing");
+    complains(&["audit", file, "s", "DECIMAL"], "TYPE \"DECIMAL\" is none of TINYINT, ");
+    complains(&["ask", file, "s", "TINYINT", "LIKE"], "QUESTION \"LIKE\" is none of EQUAL, ");
+    complains(&["ask", file, "s", "TINYINT", "EQUAL", "300"], "\"300\" is no TINYINT: it takes whole numbers from -128 to 127");
+    complains(&["ask", file, "s", "BOOLEAN", "EQUAL", "yes"], "\"yes\" is no BOOLEAN: it takes true and false");
+    complains(&["ask", file, "s", "DATE", "EQUAL", "2023-02-29"], "that month has no day 29");
+    complains(&["ask", file, "s", "TIME", "EQUAL", "10:01:00.0005"], "the fraction .0005 is finer than milliseconds");
+    complains(&["ask", file, "s", "TIMESTAMP", "EQUAL", "2024-01-01T10:00:00.0005"], "finer than milliseconds");
+    complains(&["ask", file, "s", "TIMESTAMP", "EQUAL", "2024-01-01T10:00:00.0000005", "--micros"], "finer than microseconds");
+    complains(&["ask", file, "s", "TINYINT", "EQUAL", "7", "--deletions", file], "--deletions needs --bin N");
+    complains(&["locate", file, "s", "--row"], "\"--row\" is no option");
+    complains(&["deletions", file, "0", "many"], "ROWS \"many\" is no whole number");
+    // Nothing is asked of a file before all words are read.
+    complains(&["ask", "/no such folder/f", "s", "TINYINT", "EQUAL", "x"], "\"x\" is no TINYINT");
+}
+
+#[test]
+fn files_that_cannot_be_read() {
+    let folder = Folder::new();
+    let missing = &folder.0.join("missing").to_str().unwrap().to_string();
+    complains(&["locate", missing, "s"], &format!("can't read {missing}: "));
+    complains(&["audit", missing, "s", "INT"], &format!("can't read {missing}: "));
+    complains(&["deletions", missing, "0", "6"], &format!("can't read {missing}: "));
+    complains(&["locate", folder.0.to_str().unwrap(), "s"], "can't read ");
+}
+
+#[test]
+fn a_file_name_that_is_no_utf_8() {
+    use std::os::unix::ffi::OsStrExt;
+    let folder = Folder::new();
+    let file = folder.0.join(OsStr::from_bytes(b"\xFFindex"));
+    fs::write(&file, index_file("s", "bitmap", &SMALL)).unwrap();
+    says(
+        &["audit".as_ref(), file.as_os_str(), "s".as_ref(), "TINYINT".as_ref()],
+        0,
+        "accepted: 3 rows, each in exactly one place",
+    );
+}
+
+#[test]
+fn help_and_version() {
+    for words in [&["--help"][..], &["ask", "--help"], &["help"], &["-h"]] {
+        let (status, out, err) = run(words);
+        assert_eq!((status, err.as_str()), (0, ""));
+        assert!(out.contains("poddurance ask FILE COLUMN TYPE QUESTION [LITERAL..] [--deletions FILE --bin N]"));
+    }
+    says(&["--version"], 0, concat!("poddurance ", env!("CARGO_PKG_VERSION")));
+}
+
+#[test]
+fn an_answer_that_cannot_be_written_is_none() {
+    if !Path::new("/dev/full").exists() {
+        return;
+    }
+    let folder = Folder::new();
+    let file = folder.write("index", &index_file("s", "bitmap", &SMALL));
+    let output = Command::new(env!("CARGO_BIN_EXE_poddurance"))
+        .args(["ask", &file, "s", "TINYINT", "EQUAL", "7"])
+        .stdout(File::options().write(true).open("/dev/full").unwrap())
+        .output()
+        .unwrap();
+    assert_eq!(output.status.code(), Some(2));
+    assert!(String::from_utf8(output.stderr).unwrap().contains("can't write the answer"));
+}
+
+#[test]
+#[ignore = "reads 2 GiB of zeros into memory"]
+fn a_file_over_the_limit() {
+    let folder = Folder::new();
+    let path = folder.0.join("large");
+    // A file of zeros that takes no room on the disk; at the limit it is read, and its magic differs.
+    let file = File::create(&path).unwrap();
+    let words = ["locate", path.to_str().unwrap(), "s"];
+    file.set_len(2_147_483_647).unwrap();
+    says(&words, 3, "refused: MAGIC (2), index file or bin magic differs");
+    for length in [1 << 31, 1 << 40] {
+        file.set_len(length).unwrap();
+        says(&words, 3, "refused: LIMIT (12), a limit is passed");
+    }
+}

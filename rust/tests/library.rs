@@ -1,0 +1,291 @@
+//! The functions at the top of the crate: what a field holds after each call, and what they don't let happen.
+
+use poddurance::{
+    ask, audit, locate, raw, read_deletions, subtract, Error, Literals, Question, Refusal, RowField, Subtracted, Type, Value,
+};
+
+/// TINYINT 7, 9, null.
+const SMALL: [u8; 24] = [1, 0, 0, 0, 3, 0, 0, 0, 2, 1, 255, 255, 255, 253, 7, 255, 255, 255, 255, 9, 255, 255, 255, 254];
+
+/// The same as version 2.
+const SMALL_2: [u8; 62] = [
+    2, 0, 0, 0, 3, 0, 0, 0, 2, 1, 255, 255, 255, 253, 255, 255, 255, 255, 0, 0, 0, 2, 7, 0, 0, 0, 0, 9, 0, 0, 0, 13, 0, 0, 0, 26,
+    0, 0, 0, 1, 7, 255, 255, 255, 255, 255, 255, 255, 255, 0, 0, 0, 1, 9, 255, 255, 255, 254, 255, 255, 255, 255,
+];
+
+/// One bin with rows 0, 2 and 5.
+const DELETIONS: [u8; 35] = [
+    1, 0, 0, 0, 26, 0x5E, 0x43, 0xF2, 0xD0, 0x3A, 0x30, 0, 0, 1, 0, 0, 0, 0, 0, 2, 0, 0x10, 0, 0, 0, 0, 0, 2, 0, 5, 0, 0x80,
+    0x72, 0x25, 0x2B,
+];
+
+/// A body of version 1 in which all rows are null, as one run in each container.
+fn nulls(rows: u32) -> Vec<u8> {
+    let mut body = vec![1];
+    body.extend(rows.to_be_bytes());
+    body.extend([0, 0, 0, 0, 1, 0, 0, 0, 0]);
+    let containers = rows.div_ceil(1 << 16);
+    body.extend(12_347u16.to_le_bytes());
+    body.extend((containers as u16 - 1).to_le_bytes());
+    body.extend(RowField::all_of(containers.into()).unwrap().as_bytes());
+    let last = |key: u32| ((rows - (key << 16)).min(1 << 16) - 1) as u16;
+    for key in 0..containers {
+        body.extend((key as u16).to_le_bytes());
+        body.extend(last(key).to_le_bytes());
+    }
+    if containers >= 4 {
+        let first = 4 + containers.div_ceil(8) + 8 * containers;
+        body.extend((0..containers).flat_map(|key| (first + 6 * key).to_le_bytes()));
+    }
+    for key in 0..containers {
+        body.extend([1, 0, 0, 0]);
+        body.extend(last(key).to_le_bytes());
+    }
+    body
+}
+
+fn seven() -> Literals {
+    Literals::of(Type::TinyInt, [7]).unwrap()
+}
+
+fn none() -> Literals {
+    Literals::none(Type::TinyInt)
+}
+
+/// A field for so many rows with rows of an earlier answer in it.
+fn used(rows: u64) -> RowField {
+    RowField::all_of(rows).unwrap()
+}
+
+#[test]
+fn the_answers_that_document_01_writes_out() {
+    for body in [&SMALL[..], &SMALL_2] {
+        let field = |question, literals: &Literals| ask(body, question, literals, used(3)).unwrap();
+        let answer = field(Question::Equal, &seven());
+        assert_eq!((answer.field().as_bytes(), answer.count(), answer.is_skip()), (&[0b001][..], 1, false));
+        let answer = field(Question::NotEqual, &seven());
+        assert_eq!((answer.field().as_bytes(), answer.count(), answer.is_skip()), (&[0b110][..], 2, false));
+        let answer = field(Question::Equal, &Literals::of(Type::TinyInt, [8]).unwrap());
+        assert_eq!((answer.field().as_bytes(), answer.count(), answer.is_skip()), (&[0][..], 0, true));
+        assert_eq!(audit(body, Type::TinyInt, used(3)), RowField::for_rows(3).map_err(Error::from));
+    }
+}
+
+#[test]
+fn a_field_with_rows_of_an_earlier_answer_holds_the_new_answer_alone() {
+    let answer = ask(&SMALL, Question::IsNull, &none(), used(3)).unwrap();
+    assert!(answer.field().iter().eq([2]));
+    assert!(read_deletions(&DELETIONS, 0, used(6)).unwrap().iter().eq([0, 2, 5]));
+    assert_eq!(audit(&SMALL, Type::TinyInt, used(3)).unwrap().count(), 0);
+}
+
+#[test]
+fn an_index_for_fewer_or_more_rows_is_no_answer() {
+    // 3 rows in the index; the field has as many bytes or more, and the library would accept each.
+    for rows in [1, 2, 4, 8, 9, 1_000] {
+        let expected = Error::RowsDiffer { expected: rows, found: 3 };
+        assert_eq!(ask(&SMALL, Question::IsNull, &none(), used(rows)), Err(expected));
+        assert_eq!(audit(&SMALL, Type::TinyInt, used(rows)), Err(expected));
+    }
+    assert_eq!(ask(&SMALL, Question::IsNull, &none(), used(0)), Err(Error::Refused(Refusal::Room)));
+    assert_eq!(audit(&SMALL, Type::TinyInt, used(0)), Err(Error::Refused(Refusal::Room)));
+    let long = nulls(9);
+    assert_eq!(audit(&long, Type::TinyInt, used(8)), Err(Error::Refused(Refusal::Room)));
+}
+
+#[test]
+fn a_field_of_another_data_file_is_not_subtracted() {
+    for (first, second) in [(6, 7), (7, 6), (0, 1), (8, 16), (6, 1_000)] {
+        let mut rows = used(first);
+        assert_eq!(subtract(&mut rows, &used(second)), Err(Error::RowsDiffer { expected: first, found: second }));
+        assert_eq!(rows, used(first));
+    }
+}
+
+#[test]
+fn subtracts() {
+    let mut rows = used(6);
+    let deleted = read_deletions(&DELETIONS, 0, RowField::for_rows(6).unwrap()).unwrap();
+    assert_eq!(subtract(&mut rows, &deleted), Ok(Subtracted { left: 3, removed: 3 }));
+    assert!(rows.iter().eq([1, 3, 4]));
+    assert_eq!(subtract(&mut rows, &deleted), Ok(Subtracted { left: 3, removed: 0 }));
+    let mut empty = used(0);
+    assert_eq!(subtract(&mut empty, &used(0)), Ok(Subtracted { left: 0, removed: 0 }));
+}
+
+#[test]
+fn fields_sized_by_the_claim_of_a_body() {
+    for rows in [1, 7, 8, 9, 65_536, 65_537, 300_000] {
+        let body = nulls(rows);
+        let field = audit(&body, Type::Int, RowField::for_body(&body)).unwrap();
+        assert_eq!((field.rows(), field.count()), (rows.into(), 0));
+        let answer = ask(&body, Question::IsNull, &Literals::none(Type::Int), field).unwrap();
+        assert_eq!(answer.count(), rows.into());
+        assert_eq!(answer.field(), &used(rows.into()));
+    }
+    // A claim that is wrong is refused, by the bitmaps or, where it is negative or cut off, before them.
+    let mut body = SMALL;
+    body[4] = 4;
+    assert_eq!(audit(&body, Type::TinyInt, RowField::for_body(&body)), Err(Error::Refused(Refusal::Missing)));
+    body[4] = 2;
+    assert_eq!(audit(&body, Type::TinyInt, RowField::for_body(&body)), Err(Error::Refused(Refusal::Range)));
+    body[1] = 0x80;
+    assert_eq!(audit(&body, Type::TinyInt, RowField::for_body(&body)), Err(Error::Refused(Refusal::Dict)));
+    for length in 0..5 {
+        let field = RowField::for_body(&body[..length]);
+        assert_eq!(field.rows(), 0);
+        assert_eq!(audit(&body[..length], Type::TinyInt, field), Err(Error::Refused(Refusal::Short)));
+    }
+}
+
+#[test]
+fn locate_hands_back_a_part_of_the_buffer_it_looks_at() {
+    let mut file = vec![0, 5, 0x4E, 0x4E, 0xD0, 0x1A, 0x35, 0xAE, 0, 0, 0, 1, 0, 0, 0, 47, 0, 0, 0, 1];
+    file.extend(b"\0\x01s\0\0\0\x01\0\x06bitmap\0\0\0\x2F\0\0\0\x18\0\0\0\0");
+    file.extend(SMALL);
+    let other = [0];
+    assert_eq!(locate(&file, &other, "s", "bitmap").unwrap().unwrap().as_ptr(), file[47..].as_ptr());
+    assert_eq!(locate(&[], &file, "s", "bitmap").unwrap().unwrap().as_ptr(), file[47..].as_ptr());
+    assert_eq!(locate(&other, &file, "s", "bitmap"), Err(Refusal::Short));
+    assert_eq!(locate(&[], &[], "s", "bitmap"), Err(Refusal::Short));
+    assert_eq!(locate(&[], &file, "", "bitmap"), Ok(None));
+}
+
+#[test]
+fn an_index_of_length_0_is_found() {
+    let mut file = vec![0, 5, 0x4E, 0x4E, 0xD0, 0x1A, 0x35, 0xAE, 0, 0, 0, 1, 0, 0, 0, 47, 0, 0, 0, 1];
+    file.extend(b"\0\x01s\0\0\0\x01\0\x06bitmap\0\0\0\x2F\0\0\0\0\0\0\0\0");
+    assert_eq!(locate(&[], &file, "s", "bitmap"), Ok(Some(&[][..])));
+}
+
+#[test]
+fn every_number_of_an_answer_is_a_refusal_or_named() {
+    for number in 0..=255 {
+        match Refusal::from_number(number) {
+            Some(refusal) => assert_eq!(refusal.number(), number),
+            None => assert!(!(1..=14).contains(&number)),
+        }
+    }
+    assert_eq!((raw::ACCEPTED, raw::ABSENT), (0, 255));
+}
+
+#[test]
+fn names_are_read_back() {
+    for ty in Type::ALL {
+        assert_eq!(ty.to_string().parse(), Ok(ty));
+        assert_eq!(ty.name().to_lowercase().replace(' ', "-").parse(), Ok(ty));
+    }
+    for question in Question::ALL {
+        assert_eq!(question.to_string().parse(), Ok(question));
+        assert_eq!(question.name().to_lowercase().replace(' ', "_").parse(), Ok(question));
+    }
+    assert!("IS  NULL".parse::<Question>().is_err());
+    assert!("".parse::<Type>().is_err());
+}
+
+#[test]
+fn literals_have_the_width_of_their_type() {
+    for ty in Type::ALL {
+        let value = match ty {
+            Type::Boolean => Value::Boolean(true),
+            Type::Char | Type::VarChar | Type::String => Value::String(b"x"),
+            _ => Value::Number(-1),
+        };
+        let literals = Literals::of(ty, [value, value]).unwrap();
+        assert_eq!((literals.ty(), literals.len()), (ty, 2));
+        assert_eq!(literals.as_bytes().len(), 2 * ty.width().unwrap_or(5), "{ty}");
+        // The library reads them as two, of this type.
+        let body = [1, 0, 0, 0, 0, 0, 0, 0, 0, 0];
+        let asked = |question| ask(&body, question, &literals, used(0)).map(|answer| answer.is_skip());
+        assert_eq!(asked(Question::In), Ok(true));
+        assert_eq!(asked(Question::Equal), Err(Error::Refused(Refusal::Literal)));
+    }
+}
+
+#[test]
+fn literals_that_do_not_fit_change_nothing() {
+    for (ty, least, most) in [
+        (Type::TinyInt, -128, 127),
+        (Type::SmallInt, -32_768, 32_767),
+        (Type::Int, i64::from(i32::MIN), i64::from(i32::MAX)),
+        (Type::Date, i64::from(i32::MIN), i64::from(i32::MAX)),
+        (Type::Time, i64::from(i32::MIN), i64::from(i32::MAX)),
+    ] {
+        let mut literals = Literals::of(ty, [least, most]).unwrap();
+        let before = literals.clone();
+        for value in [Value::Number(least - 1), Value::Number(most + 1), Value::Boolean(true), Value::String(b"1")] {
+            assert_eq!(literals.push(value), Err(Refusal::Literal));
+        }
+        assert_eq!(literals, before);
+    }
+    assert_eq!(Literals::of(Type::Boolean, [1]), Err(Refusal::Literal));
+    assert_eq!(Literals::of(Type::String, [1]), Err(Refusal::Literal));
+    assert_eq!(Literals::of(Type::BigInt, [i64::MIN, i64::MAX]).unwrap().as_bytes()[7..9], [0, 0x7F]);
+}
+
+#[test]
+fn rows_and_ranges_are_those_of_the_bits() {
+    // Rows by a rule of their own, in fields that end inside and at the ends of bytes and of words of 64 rows.
+    let rules: [fn(u64) -> bool; 6] =
+        [|_| true, |_| false, |row| row % 3 == 0, |row| row / 64 % 2 == 0, |row| row / 5 % 2 == 1, |row| row == 127];
+    for rows in [0, 1, 7, 8, 9, 63, 64, 65, 127, 128, 129, 200, 320, 1_000] {
+        for rule in rules {
+            let expected: Vec<u64> = (0..rows).filter(|row| rule(*row)).collect();
+            let field = field_of(rows, &expected);
+            assert_eq!(field.count(), expected.len() as u64);
+            assert_eq!(field.iter().collect::<Vec<_>>(), expected);
+            assert_eq!((&field).into_iter().collect::<Vec<_>>(), expected);
+            assert!((0..rows + 70).all(|row| field.contains(row) == (row < rows && rule(row))));
+            let ranges: Vec<_> = field.ranges().collect();
+            assert_eq!(ranges.iter().cloned().flatten().collect::<Vec<_>>(), expected);
+            assert!(ranges.windows(2).all(|pair| pair[0].end() + 1 < *pair[1].start()));
+        }
+    }
+}
+
+/// A field with these rows, from a deletion file that lists them.
+fn field_of(rows: u64, set: &[u64]) -> RowField {
+    let mut bin = vec![0x5E, 0x43, 0xF2, 0xD0, 0x3A, 0x30, 0, 0];
+    if set.is_empty() {
+        bin.extend([0; 4]);
+    } else {
+        bin.extend([1, 0, 0, 0, 0, 0]);
+        bin.extend((set.len() as u16 - 1).to_le_bytes());
+        bin.extend([16, 0, 0, 0]);
+        bin.extend(set.iter().flat_map(|row| (*row as u16).to_le_bytes()));
+    }
+    let mut file = vec![1];
+    file.extend((bin.len() as u32).to_be_bytes());
+    file.extend(&bin);
+    let crc = !bin.iter().fold(u32::MAX, |crc, byte| {
+        (0..8).fold(crc ^ u32::from(*byte), |crc, _| if crc & 1 == 1 { (crc >> 1) ^ 0xEDB8_8320 } else { crc >> 1 })
+    });
+    file.extend(crc.to_be_bytes());
+    read_deletions(&file, 0, used(rows)).unwrap()
+}
+
+#[test]
+fn all_of_sets_no_spare_bit() {
+    for rows in 0..200 {
+        let field = RowField::all_of(rows).unwrap();
+        assert_eq!((field.rows(), field.count(), field.as_bytes().len() as u64), (rows, rows, rows.div_ceil(8)));
+        assert!(field.ranges().eq((rows > 0).then(|| 0..=rows - 1)));
+    }
+}
+
+#[test]
+fn reset_leaves_no_row_of_before() {
+    for (before, after) in [(1_000, 3), (3, 1_000), (8, 8), (5, 0), (0, 5)] {
+        let mut field = used(before);
+        field.reset(after).unwrap();
+        assert_eq!(field, RowField::for_rows(after).unwrap());
+        assert_eq!(field.reset(poddurance::LIMIT + 1), Err(Refusal::Limit));
+        assert_eq!(field.rows(), after);
+    }
+}
+
+#[test]
+fn a_field_shows_its_rows() {
+    let field = read_deletions(&DELETIONS, 0, used(6)).unwrap();
+    assert_eq!(format!("{field:?}"), "RowField for 6 rows {0..=0, 2..=2, 5..=5}");
+}
