@@ -3,8 +3,8 @@
 //! Both are given the same bytes and a cleared field, one call at a time and in changing order, and the median of all times counts.
 //! Clearing the field is not timed. Before that, answers, counts and fields of both are compared.
 //!
-//! Without cargo's `--bench`, as in `cargo test --benches`, or with PODDURANCE_QUICK set, each call is timed a few times only, to see that
-//! everything runs.
+//! Without cargo's `--bench`, as in `cargo test --benches`, or with PODDURANCE_QUICK set, inputs are smaller and each call is timed a few
+//! times only, to see that everything runs.
 
 use std::fs;
 use std::hint::black_box;
@@ -19,7 +19,6 @@ use poddurance::raw;
 
 /// The rows of one Roaring container.
 const CONTAINER: u32 = 65_536;
-const MANY: u32 = 10_000_000;
 
 fn main() {
     let quick = !std::env::args().any(|word| word == "--bench") || std::env::var_os("PODDURANCE_QUICK").is_some();
@@ -27,47 +26,52 @@ fn main() {
         true => Patience { least: 3, most: 3, time: Duration::ZERO },
         false => Patience { least: 15, most: 10_001, time: Duration::from_secs(2) },
     };
+    // The distinct strings of version 2 and of version 1, and the rows of the large inputs.
+    let (two, one, rows) = if quick { (1_000, 1_000, 1_000_000) } else { (10_000, 4_096, 10_000_000) };
 
     print_machine();
-    println!("Median times; ratio: library / plain reader. Share of memcpy's speed: a memcpy of as many bytes as the input has (Subtract:");
-    println!("as the first field has), timed in turn with the two, divided by their time.\n");
     print_line("input", "call", ["library", "plain", "ratio", "library/memcpy", "plain/memcpy"].map(str::to_string));
     print_line("---", "---", ["--:"; 5].map(str::to_string));
 
     let mut random = Random::new(1);
-    let few = |value: &str| types::literals(types::STRING, &[value]);
+    let literal = |value: &str| types::literals(types::STRING, &[value]);
 
-    let input = one_run();
-    measure_index("65,536 rows of one value, as one run", &input, &few("running"), false, &patience);
-    let input = bits(&mut random);
-    measure_index("65,536 rows of two values in turn at random, as bits", &input, &few("running"), false, &patience);
-    let input = scattered(&mut random);
-    measure_index(
-        "65,536 rows, 4,000 scattered ones of a value as an array, the others null as bits",
-        &input,
-        &few("fault"),
-        false,
-        &patience,
-    );
-    let input = many_values(&mut random, 10_000, 2);
-    measure_index("65,536 rows of 10,000 strings at random, version 2", &input, &few(&pump(5_000)), false, &patience);
-    let thousand: Vec<String> = (0..1_000).map(|i| pump(10 * i)).collect();
-    let literals = types::literals(types::STRING, &thousand);
+    measure_index("65,536 rows, one run", &one_run(), &literal("running"), false, &patience);
+    measure_index("65,536 rows, bits", &bits(&mut random), &literal("running"), false, &patience);
+    measure_index("65,536 rows, 4,000 scattered", &scattered(&mut random), &literal("fault"), false, &patience);
+
+    let what = format!("{} strings, version 2", grouped(two));
+    let input = strings(&mut random, two, 2);
+    measure_index(&what, &input, &literal(&pump(two / 2)), false, &patience);
+    let every_tenth: Vec<String> = (0..two).step_by(10).map(pump).collect();
+    let literals = types::literals(types::STRING, &every_tenth);
     let call = Call::Ask { body: &input.body, ty: input.ty, question: types::IN, literals: &literals };
-    measure("the same, IN with 1,000 literals", &call, input.rows, None, &patience);
-    let input = many_values(&mut random, 4_096, 1);
-    measure_index("65,536 rows of 4,096 strings at random, version 1", &input, &few(&pump(2_048)), false, &patience);
-    let input = many_rows(&mut random);
-    let literal = types::literals(types::INT, &[42i32.to_be_bytes()]);
-    measure_index("10,000,000 rows of 100 INT values at random, as arrays", &input, &literal, true, &patience);
+    measure(&what, &call, input.rows, None, &patience);
 
-    let (file, deleted) = deletions(&mut random);
-    let call = Call::ReadDeletions { file: &file, rows: MANY };
-    measure("10,000,000 rows, 1 in 10 deleted at random, as bits", &call, MANY, Some(file.len()), &patience);
+    let what = format!("{} strings, version 1", grouped(one));
+    measure_index(&what, &strings(&mut random, one, 1), &literal(&pump(one / 2)), false, &patience);
+
+    let what = format!("{} rows", grouped(rows as usize));
+    let number = types::literals(types::INT, &[42i32.to_be_bytes()]);
+    measure_index(&format!("{what}, 100 values"), &many_rows(&mut random, rows), &number, true, &patience);
+
+    let (file, deleted) = deletions(&mut random, rows);
+    measure(&what, &Call::ReadDeletions { file: &file, rows }, rows, Some(file.len()), &patience);
     let first = random.bytes(deleted.len());
-    let call = Call::Subtract { first: &first, second: &deleted, rows: MANY };
-    measure("10,000,000 rows, 1 in 2 set, less 1 in 10", &call, MANY, Some(first.len()), &patience);
+    let call = Call::Subtract { first: &first, second: &deleted, rows };
+    measure(&what, &call, rows, Some(first.len()), &patience);
+
+    print!("{LEGEND}");
 }
+
+const LEGEND: &str = "
+Median times. ratio: library's time / plain reader's. /memcpy: share of memcpy's speed, that is, the time of a memcpy of as many bytes as
+the body or file has (Subtract: as the first field has) / the reader's time.
+one run: all rows have one value. bits: each row has one of two values at random. 4,000 scattered: these rows at random have a value, in an
+array, the others are null, in bits. strings: 65,536 rows, each with a name of 10 bytes at random. Ask IN has every tenth of the names as
+literals, Ask EQUAL one. 100 values: INT, each row with one at random, in arrays. Read deletions: each row is deleted with a chance of 1 in 10, in bits.
+Subtract: these rows from a field with each row set with a chance of 1 in 2.
+";
 
 // Inputs
 
@@ -113,7 +117,7 @@ fn pump(number: usize) -> String {
 }
 
 /// Names of pumps; a value of a single row has no bitmap.
-fn many_values(random: &mut Random, number: usize, version: u8) -> Input {
+fn strings(random: &mut Random, number: usize, version: u8) -> Input {
     let mut values: Vec<(Vec<u8>, Vec<u32>)> = (0..number).map(|i| (pump(i).into_bytes(), Vec::new())).collect();
     for row in 0..CONTAINER {
         values[random.below(number)].1.push(row);
@@ -122,23 +126,23 @@ fn many_values(random: &mut Random, number: usize, version: u8) -> Input {
     Input::new(&groups, &Layout::version(version).with_blocks_of(500))
 }
 
-fn many_rows(random: &mut Random) -> Input {
+fn many_rows(random: &mut Random, rows: u32) -> Input {
     let mut values: Vec<(Vec<u8>, Vec<u32>)> = (0..100i32).map(|i| (i.to_be_bytes().to_vec(), Vec::new())).collect();
-    for row in 0..MANY {
+    for row in 0..rows {
         values[random.below(100)].1.push(row);
     }
-    let groups = Groups { ty: types::INT, rows: MANY, nulls: Vec::new(), values };
+    let groups = Groups { ty: types::INT, rows, nulls: Vec::new(), values };
     Input::new(&groups, &Layout::version(2))
 }
 
 /// A deletion file with one bin, and its rows as a field.
-fn deletions(random: &mut Random) -> (Vec<u8>, Vec<u8>) {
-    let rows: Vec<u32> = (0..MANY).filter(|_| random.percent(10)).collect();
-    let mut field = vec![0; field_size(MANY)];
-    for row in &rows {
+fn deletions(random: &mut Random, rows: u32) -> (Vec<u8>, Vec<u8>) {
+    let deleted: Vec<u32> = (0..rows).filter(|_| random.percent(10)).collect();
+    let mut field = vec![0; field_size(rows)];
+    for row in &deleted {
         field[*row as usize / 8] |= 1 << (row % 8);
     }
-    (deletion_file(&[bitmap(&rows, &BitmapForm::WithoutRuns)]), field)
+    (deletion_file(&[bitmap(&deleted, &BitmapForm::WithoutRuns)]), field)
 }
 
 fn field_size(rows: u32) -> usize {
@@ -289,7 +293,7 @@ fn median(mut times: Vec<Duration>) -> Duration {
 
 fn print_line(what: &str, call: &str, numbers: [String; 5]) {
     let [library, plain, ratio, of_library, of_plain] = numbers;
-    println!("| {what:<81} | {call:<14} | {library:>9} | {plain:>9} | {ratio:>7} | {of_library:>14} | {of_plain:>12} |");
+    println!("| {what:<28} | {call:<14} | {library:>9} | {plain:>9} | {ratio:>7} | {of_library:>14} | {of_plain:>12} |");
 }
 
 fn shown(time: Duration) -> String {
@@ -298,6 +302,14 @@ fn shown(time: Duration) -> String {
         ..1e3 => format!("{nanoseconds} ns"),
         ..1e6 => format!("{:.2} µs", nanoseconds / 1e3),
         _ => format!("{:.2} ms", nanoseconds / 1e6),
+    }
+}
+
+/// A number with a comma before each three digits.
+fn grouped(number: usize) -> String {
+    match number {
+        0..1_000 => number.to_string(),
+        _ => format!("{},{:03}", grouped(number / 1_000), number % 1_000),
     }
 }
 
