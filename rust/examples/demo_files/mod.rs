@@ -1,0 +1,81 @@
+//! The files of `demo/`, made from one table of telemetry. The example `make_demo` writes them, and the test `demo` compares them with
+//! those in the repository.
+
+use plain::types;
+use plain::writer::{bitmap, body, deletion_file, index_file, BitmapForm, Column, Groups, Layout};
+
+/// State and alarm of a pump at one time; an alarm that the pump didn't report is null.
+pub type Sample = (&'static str, Option<bool>);
+
+const OFF: Option<bool> = Some(false);
+const ON: Option<bool> = Some(true);
+
+/// A line per minute, a sample per pump: rows 0 to 2 are the first minute, and so on.
+pub const SAMPLES: [[Sample; 3]; 8] = [
+    [("running", OFF), ("running", OFF), ("idle", None)],
+    [("running", OFF), ("running", OFF), ("idle", None)],
+    [("running", OFF), ("running", ON), ("running", OFF)],
+    [("running", OFF), ("fault", ON), ("running", OFF)],
+    [("running", OFF), ("fault", ON), ("running", OFF)],
+    [("running", OFF), ("fault", ON), ("running", OFF)],
+    [("running", None), ("idle", OFF), ("running", OFF)],
+    [("running", None), ("idle", OFF), ("running", ON)],
+];
+
+/// The rows that bin 0 of the deletion file lists, those of the data file of the samples.
+pub const DELETED: [u32; 3] = [3, 13, 20];
+
+/// The rows of bin 1, which is of another data file, with 40 rows.
+pub const DELETED_ELSEWHERE: [u32; 2] = [7, 31];
+
+/// A sample of the state `fault`, which the damaged files have lost or doubled.
+const FAULT_ROW: u32 = 16;
+
+/// The column `state`, a STRING.
+pub fn state() -> Column {
+    let cells: Vec<Option<&str>> = SAMPLES.iter().flatten().map(|(state, _)| Some(*state)).collect();
+    Column::strings(&cells)
+}
+
+/// The column `alarm`, a BOOLEAN.
+pub fn alarm() -> Column {
+    let cells = SAMPLES.iter().flatten().map(|(_, alarm)| alarm.map(|on| vec![u8::from(on)])).collect();
+    Column::new(types::BOOLEAN, cells)
+}
+
+/// Each file's name and bytes.
+pub fn files() -> Vec<(&'static str, Vec<u8>)> {
+    let (states, alarms) = (state().groups(), alarm().groups());
+    let deletions = [bitmap(&DELETED, &BitmapForm::Smallest), bitmap(&DELETED_ELSEWHERE, &BitmapForm::Smallest)];
+    vec![
+        ("pumps-v1.index", pumps(&states, &alarms, 1)),
+        ("pumps-v2.index", pumps(&states, &alarms, 2)),
+        ("pumps-row-lost.index", pumps(&row_lost(states.clone()), &alarms, 1)),
+        ("pumps-row-doubled.index", pumps(&row_doubled(states), &alarms, 2)),
+        ("pumps.deletions", deletion_file(&deletions)),
+    ]
+}
+
+fn pumps(states: &Groups, alarms: &Groups, version: u8) -> Vec<u8> {
+    let layout = Layout::version(version).with_form(BitmapForm::Smallest);
+    index_file(&[("state", "bitmap", &body(states, &layout)), ("alarm", "bitmap", &body(alarms, &layout))])
+}
+
+/// The writer adds the last `fault` sample to no bitmap. All lengths and cardinalities are those of what is there.
+fn row_lost(mut states: Groups) -> Groups {
+    rows_of(&mut states, "fault").retain(|row| *row != FAULT_ROW);
+    states
+}
+
+/// The writer adds one sample twice, as `fault` and as `running`.
+fn row_doubled(mut states: Groups) -> Groups {
+    let running = rows_of(&mut states, "running");
+    running.push(FAULT_ROW);
+    running.sort_unstable();
+    states
+}
+
+fn rows_of<'a>(states: &'a mut Groups, state: &str) -> &'a mut Vec<u32> {
+    let entry = states.values.iter_mut().find(|(value, _)| value == state.as_bytes());
+    &mut entry.expect("the state is among the samples").1
+}
