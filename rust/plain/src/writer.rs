@@ -373,12 +373,13 @@ fn lay_bitmaps(groups: &Groups, layout: &Layout, has_null: bool) -> (Traced, Vec
             out.raw("gap", gap);
         }
         let bitmap = bitmap_traced(rows, &place.form);
-        let offset = match (place.reuse, overlap(&out.bytes, &bitmap.bytes)) {
-            (true, Some((offset, there))) => {
+        let shared = if place.reuse { overlap(&out.bytes, &bitmap.bytes) } else { None };
+        let offset = match shared {
+            Some((offset, there)) => {
                 out.bytes.extend_from_slice(&bitmap.bytes[there..]);
                 offset
             }
-            _ => {
+            None => {
                 let offset = out.bytes.len();
                 out.append(&bitmap);
                 offset
