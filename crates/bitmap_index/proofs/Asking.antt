@@ -152,7 +152,7 @@ module _ (q : ℕ) (ls : List (List ℕ)) (s : List ℕ) (h : Head) (es : List E
       record { so = rw z; buffer = rw z (w .1) }
 
   pub after-audit : {n : ℕ} → a ≡ Rows n → {r : Answered} {after : List ℕ}
-      → Answers r (answerOf (h .rows) (placeAll (h .rows) (drop (h .region) s) (chosenOf q ls (nullsOf h ++ es)) mid)) (cleared (h .rows) mid) after
+      → Answers r (answerOf (h .rows) (placeAll (h .rows) (drop (h .region .0) s) (chosenOf q ls (nullsOf h ++ es)) mid)) (cleared (h .rows) mid) after
       → Answers r (answeredAfter q ls f (dictionaryOf s h es)) (cleared (h .rows) f) after
   unfolding answeredAfter andThen answered answerOf
   after-audit e {r} {after} p =

@@ -3,8 +3,9 @@ use Prim.Native.Nat.{ℕ, _+_, _-_, _≤_, _<_}
 use mathlib.Core.Path.{_≡_}
 use mathlib.Core.Bool.{Bool, true, false, cond}
 use mathlib.Core.List.{List, [], _∷_, _++_}
-use lib.Dec.{ltb}
-use lib.ListN.{length, take, drop}
+use lib.Dec.{eqb, ltb}
+use lib.IntN.{pos}
+use lib.ListN.{length, take, drop, getD}
 use Rattle.numbers.specs.Meaning.{beAt}
 use Rattle.refusal.specs.declared.Refusal.the-variants.{Short, Dict}
 use Rattle.stored_value.specs.Meaning.{Cell, null, value, width}
@@ -25,7 +26,7 @@ use Rattle.dictionary.specs.declared.Blocks.{Blocks}
 use Rattle.dictionary.specs.declared.Walked.{Walked}
 use Rattle.dictionary.specs.Layout.{Entry, someHas}
 use Rattle.dictionary.specs.Reading.{Dictionary, Listing, counted, nullOf, entriesOne, listings, entriesTwo, blocksOf, blocked, dictionary}
-use Rattle.dictionary.specs.Code.{Stand}
+use Rattle.dictionary.specs.Code.{nulls, Stand}
 
 -- a value at a position, and where it ends
 abbrev pub ValueAt : ℕ → List ℕ → ℕ → Value → Type 0
@@ -42,13 +43,11 @@ CountAt most s at (Count.Refused r) = (f : ℕ → List ℕ → Out Dictionary) 
 CountAt most s at (Is n) = ((f : ℕ → List ℕ → Out Dictionary) → counted most (drop at s) f ≡ f n (drop (at + 4) s)) × (at + 4 ≤ length s) × (n ≤ most)
 
 -- null's entry, if there is one, at a position
-abbrev pub nulls : Bool → ℕ → ℕ → List Entry
-nulls has offset extent = cond has (record { cell = null; offset = offset; extent = extent } ∷ []) []
-
 abbrev pub NullAt : Bool → Bool → List ℕ → ℕ → Null → Type 0
 NullAt two has s at (Null.Refused r) = (f : List Entry → List ℕ → Out Dictionary) → nullOf two has (drop at s) f ≡ refuse r
 NullAt two has s at (Numbers offset extent next) =
     ((f : List Entry → List ℕ → Out Dictionary) → nullOf two has (drop at s) f ≡ f (nulls has offset extent) (drop next s)) × (next ≤ length s)
+    × (has ≡ false → (offset ≡ pos 0) × (extent ≡ 0))
 
 -- the entries of either version
 abbrev pub entriesOf : Bool → ℕ → ℕ → ℕ → List Entry → List ℕ → Out Dictionary
@@ -59,6 +58,7 @@ abbrev pub FixedOf : List ℕ → Fixed → Type 0
 FixedOf s (Fixed.Refused r) = (t : ℕ) → dictionary t s ≡ refuse r
 FixedOf s (Fields two has rows count) =
     ((t : ℕ) → dictionary t s ≡ nullOf two has (drop 10 s) (λ ns s. entriesOf two t rows count ns s)) × (10 ≤ length s) × (count ≤ 65536)
+    × (two ≡ eqb (getD s 0 0) 2)
 
 -- ---- version 2
 

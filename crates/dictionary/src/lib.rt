@@ -5,39 +5,42 @@ ghost use mathlib.Core.Bool.{true, false, cond};
 ghost use mathlib.Core.List.{List, _∷_};
 ghost use lib.Dec.{eqb, leb};
 ghost use lib.ListN.{length, take, drop};
+ghost use Rattle.numbers.specs.Meaning.{beAt, signed32};
 ghost use Rattle.stored_value.specs.Meaning.{width};
 ghost use Rattle.dictionary.specs.Layout.{Entry};
 ghost use Rattle.dictionary.specs.Reading.{past, heads};
-ghost use Rattle.dictionary.specs.Code.{tail, extentAt, Stand, Tells, Steps};
+ghost use Rattle.dictionary.specs.Code.{tail, extentAt, noEntry, entryFrom, nextOf, Stand, Tells, Steps};
 ghost use Rattle.dictionary.specs.Answers.{ValueAt, TakenAt, CountAt, NullAt, FixedOf, DirectoryAt, cellAt, Within, PassedAt, BlockAt, BlocksAt, WalkedAt};
 use numbers::Position;
 use refusal::Refusal;
 use stored_value::Sized;
 
-// What a sound dictionary says: where its entries and the region of bitmaps begin, and null's entry if it has one.
+// What a sound dictionary says: the row count, the number of values, whether the version is 2; whether null has an entry, and that entry's offset and
+// extent, 0 where it has none; where the values' entries begin, and where the region of bitmaps does (01's "body of bitmaps").
 pub struct Head {
     pub rows: u64,
     pub count: u64,
     pub two: bool,
     pub has_null: bool,
-    pub null_offset: u64,
+    pub null_offset: i32,
     pub null_extent: u64,
-    pub entries: usize,
-    pub region: usize,
+    pub entries: Position,
+    pub region: Position,
 }
 
+// What is read of any bytes as a dictionary: the first rule that is broken, or what a sound one says.
 pub enum Checked {
     Refused(Refusal),
     Found(Head),
 }
 
-// The entry at a cursor: where its value stands, its offset and extent, and the next cursor.
+// The entry at a cursor: where its value stands, its offset and extent; and the next cursor, a position and the number of entries left in the open block.
 pub struct EntryAt {
-    pub start: usize,
-    pub end: usize,
-    pub offset: u64,
+    pub start: Position,
+    pub end: Position,
+    pub offset: i32,
     pub extent: u64,
-    pub at: usize,
+    pub next_at: Position,
     pub left: u64,
 }
 
@@ -56,7 +59,7 @@ enum Count {
 enum Null {
     Refused(Refusal),
     Numbers {
-        offset: u64,
+        offset: i32,
         extent: u64,
         next: usize,
     },
@@ -184,6 +187,14 @@ fn fixed_fields(body: &[u8]) -> Fixed
     }
 }
 
+// The offset at a position, signed.
+fn offset_at(body: &[u8], at: usize) -> i32
+    requires { ⌜ at + 4 ≤ length (now body) ⌝ }
+    ensures { λ r. ⌜ (r ≡ signed32 (beAt 4 (now (body .entry)) at)) × (beAt 4 (now (body .entry)) at < 4294967296) ⌝ }
+{
+    numbers::to_signed(numbers::be32(body, Position(at)) as u32)
+}
+
 // Null's entry, if there is one.
 fn null_entry(body: &[u8], two: bool, has: bool, at: usize) -> Null
     requires { ⌜ at ≤ length (now body) ⌝ }
@@ -199,7 +210,7 @@ fn null_entry(body: &[u8], two: bool, has: bool, at: usize) -> Null
     if body.len() - at < 4 {
         return Null::Refused(Refusal::Short);
     }
-    let offset = numbers::be32(body, Position(at));
+    let offset = offset_at(body, at);
     let p = at + 4;
     if !two {
         return Null::Numbers {
@@ -550,8 +561,8 @@ pub fn read(body: &[u8], t: u32) -> Checked
                         has_null: has_null,
                         null_offset: offset,
                         null_extent: extent,
-                        entries: entries,
-                        region: region,
+                        entries: Position(entries),
+                        region: Position(region),
                     });
                 }
             },
@@ -581,20 +592,22 @@ fn extent_at(body: &[u8], two: bool, e: usize) -> u64
 }
 
 // What `next` answers where no entry stands.
-fn no_entry() -> EntryAt {
+fn no_entry() -> EntryAt
+    ensures { λ r. ⌜ r ≡ noEntry ⌝ }
+{
     EntryAt {
-        start: 0,
-        end: 0,
+        start: Position(0),
+        end: Position(0),
         offset: 0,
         extent: 0,
-        at: 0,
+        next_at: Position(0),
         left: 0,
     }
 }
 
 // The entry at `at` with `n` left in its block, itself among them.
 fn entry_at(body: &[u8], t: u32, two: bool, at: usize, n: u64) -> EntryAt
-    ensures { λ r. ⌜ ((e : Entry) (es : List Entry) → 1 ≤ n → Stand t two n (drop at (now (body .entry))) (e ∷ es) → Steps t two (now (body .entry)) r e es) ⌝ }
+    ensures { λ r. ⌜ r ≡ entryFrom t two (now (body .entry)) at n ⌝ }
 {
     if n == 0 {
         return no_entry();
@@ -609,30 +622,32 @@ fn entry_at(body: &[u8], t: u32, two: bool, at: usize, n: u64) -> EntryAt
                 return no_entry();
             }
             return EntryAt {
-                start: at,
-                end: e,
-                offset: numbers::be32(body, Position(e)),
+                start: Position(at),
+                end: Position(e),
+                offset: offset_at(body, e),
                 extent: extent_at(body, two, e),
-                at: e + w,
+                next_at: Position(e + w),
                 left: n - 1,
             };
         }
     }
 }
 
-// The entry at a cursor: a position, and the number of entries left in the block that is open, 0 where a block's number is due.
-pub fn next(body: &[u8], t: u32, two: bool, at: usize, left: u64) -> EntryAt
-    ensures { λ r. ⌜ ((e : Entry) (es : List Entry) → Stand t two left (drop at (now (body .entry))) (e ∷ es) → Steps t two (now (body .entry)) r e es) ⌝ }
+// The entry at a cursor: a position, and the number of entries left in the block that is open, 0 where a block's number is due. Where entries stand there,
+// it is the first of them, and the cursor behind it comes with it; where none does, `noEntry`.
+pub fn next(body: &[u8], t: u32, two: bool, at: Position, left: u64) -> EntryAt
+    ensures { λ r. ⌜ (r ≡ nextOf t two (now (body .entry)) (at .0) left) × ((e : Entry) (es : List Entry) → Stand t two left (drop (at .0) (now (body .entry))) (e ∷ es) → Steps t two (now (body .entry)) r e es) ⌝ }
 {
+    let p = at.0;
     if left == 0 {
-        if body.len() < at {
+        if body.len() < p {
             return no_entry();
         }
-        if body.len() - at < 4 {
+        if body.len() - p < 4 {
             return no_entry();
         }
-        let n = numbers::be32(body, Position(at));
-        return entry_at(body, t, two, at + 4, n);
+        let n = numbers::be32(body, at);
+        return entry_at(body, t, two, p + 4, n);
     }
-    entry_at(body, t, two, at, left)
+    entry_at(body, t, two, p, left)
 }
