@@ -10,7 +10,7 @@ use Rattle.refusal.specs.Meaning.{limit}
 use Rattle.refusal.specs.declared.Refusal.{Refusal}
 use Rattle.refusal.specs.declared.Refusal.the-variants.{Missing, Room, Literal, Limit}
 use Rattle.row_field.specs.Meaning.{zeroed, cleared, size, count}
-use Rattle.refusal.specs.Reading.{refuse, check, andThen}
+use Rattle.refusal.specs.Reading.{Out, refuse, ok, check, andThen}
 use Rattle.stored_value.specs.Reading.{literals}
 use Rattle.dictionary.specs.declared.Checked.{Checked}
 use Rattle.dictionary.specs.declared.Checked.the-variants.{Found}
@@ -18,7 +18,7 @@ use Rattle.dictionary.specs.declared.Head.{Head}
 use Rattle.dictionary.specs.Layout.{Entry}
 use Rattle.dictionary.specs.Reading.{dictionary}
 use Rattle.dictionary.specs.Code.{nullsOf, Tells}
-use Rattle.bitmap_index.specs.Reading.{placeAll, roomFor, prepared, audited, audit, zeroedFrom, auditBuffer, auditedBy}
+use Rattle.bitmap_index.specs.Reading.{placeAll, roomFor, prepared, audited, audit, zeroedFrom, auditBuffer, auditedBy, auditOut, numbersOf}
 use Rattle.bitmap_index.specs.declared.Audited.{Audited}
 use Rattle.bitmap_index.specs.declared.Audited.the-variants.{Rows}
 use Rattle.bitmap_index.specs.declared.Outcome.{Outcome}
@@ -113,6 +113,11 @@ module _ (t : ℕ) (s f : List ℕ) where
             )
 
 -- ---- the whole
+
+pub audit-numbers : (o : Out ℕ) {a : Audited} → a ≡ auditedBy o → auditOut a ≡ numbersOf o
+unfolding auditOut numbersOf auditedBy
+audit-numbers (refuse r) e = rw e
+audit-numbers (ok n) e = rw e
 
 module _ (t : ℕ) (s f : List ℕ) {c : Checked} where
   pub sound : {h : Head} → c ≡ Found h → Readied t s f c → Sound t s h

@@ -74,7 +74,7 @@ filled n o = andThen o (λ full. check (eqb (count full n) n) Missing (ok n))
 
 -- an answer of n rows: the buffer, and how many rows it has
 unfoldable pub answerOf : ℕ → Out (List ℕ) → Out Answer
-answerOf n o = andThen o (λ chosen. ok (record { buffer = chosen; matched = count chosen n }))
+answerOf n o = andThen o (λ marked. ok (record { buffer = marked; matched = count marked n }))
 
 -- all that comes before a byte of the field is written: the refusal, or the dictionary, with its entries where the head says
 abbrev pub Readied : ℕ → List ℕ → List ℕ → Checked → Type 0

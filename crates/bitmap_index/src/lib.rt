@@ -3,13 +3,14 @@ ghost use mathlib.Core.Path.{_≡_};
 ghost use mathlib.Core.List.{List, [], _∷_, _++_};
 ghost use Prim.Native.Nat.{ℕ, _<_, _≤_};
 ghost use lib.IntN.{pos, negsuc};
-ghost use lib.ListN.{length, drop};
+ghost use lib.ListN.{length};
+ghost use Rattle.refusal.specs.Reading.{ok, andThen};
 ghost use Rattle.row_field.specs.Meaning.{cleared};
 ghost use Rattle.stored_value.specs.Meaning.{null, value};
 ghost use Rattle.dictionary.specs.Code.{nullsOf, firstLeft, entryAt};
 ghost use Rattle.dictionary.specs.Layout.{Entry};
 ghost use Rattle.bitmap_index.specs.Meaning as meaning;
-ghost use Rattle.bitmap_index.specs.Reading.{extentOf, placeAt, audited, auditBuffer, chosenOf, asked, askBuffer, auditedBy, answeredBy};
+ghost use Rattle.bitmap_index.specs.Reading.{extentOf, placeAt, audited, auditBuffer, chosenOf, asked, askBuffer, auditedBy, auditOut, answeredBy, askOut, numbersOf};
 ghost use Rattle.bitmap_index.specs.Reading as reading;
 ghost use Rattle.bitmap_index.specs.Code as code;
 ghost use Rattle.bitmap_index.specs.Code.{Placing, placeOf, picked, ReadAs, Laid, Sound, dictionaryOf, filled, answerOf, Readied, Asks, Answers, answeredAfter};
@@ -306,9 +307,10 @@ fn prepare(body: &[u8], t: u32, field: &[u8]) -> Checked
     }
 }
 
-// Audit (document 01): every rule of the body as a column of type t, in a field with room for its rows. The field is left zero.
+// Audit (document 01): every rule of the body as a column of type t, in a field with room for its rows. A refusal up to and at ROOM leaves the buffer as it
+// was, and any other answer the field zero.
 pub fn audit(body: &[u8], t: u32, field: &mut [u8]) -> Audited
-    ensures { λ r. ⌜ (r ≡ auditedBy (reading.audit t (now (body .entry)) (now (field .entry)))) × (now (field .exit) ≡ auditBuffer t (now (body .entry)) (now (field .entry))) ⌝ }
+    ensures { λ r. ⌜ (r ≡ auditedBy (reading.audit t (now (body .entry)) (now (field .entry)))) × (now (field .exit) ≡ auditBuffer t (now (body .entry)) (now (field .entry))) × (auditOut r ≡ numbersOf (reading.audit t (now (body .entry)) (now (field .entry)))) ⌝ }
 {
     let prepared = prepare(body, t, field);
     match prepared {
@@ -402,9 +404,9 @@ fn ask_field(
 }
 
 // Ask (document 01): tests the literals, audits the whole body, then says skip where no row is chosen, and else keep and how many are. The rows are then
-// set in the field, and no others.
+// set in the field, and no others; a refusal leaves the buffer as Audit's does.
 pub fn ask(body: &[u8], t: u32, question: u32, literals: &[u8], field: &mut [u8]) -> Answered
-    ensures { λ r. ⌜ (r ≡ answeredBy (reading.ask t question (now (literals .entry)) (now (body .entry)) (now (field .entry)))) × (now (field .exit) ≡ askBuffer t question (now (literals .entry)) (now (body .entry)) (now (field .entry))) ⌝ }
+    ensures { λ r. ⌜ (r ≡ answeredBy (reading.ask t question (now (literals .entry)) (now (body .entry)) (now (field .entry)))) × (now (field .exit) ≡ askBuffer t question (now (literals .entry)) (now (body .entry)) (now (field .entry))) × (askOut r ≡ numbersOf (andThen (reading.ask t question (now (literals .entry)) (now (body .entry)) (now (field .entry))) (λ a. ok (a .matched)))) ⌝ }
 {
     let tested = test_question(body, t, question, literals);
     if let Outcome::Refused(r) = tested {

@@ -26,7 +26,7 @@ use Rattle.dictionary.specs.declared.Walked.{Walked}
 use Rattle.dictionary.specs.declared.Value.{Value}
 use Rattle.dictionary.specs.Layout.{Entry}
 use Rattle.dictionary.specs.Reading.{Dictionary, Listing, listings, past, heads, entriesTwo, behind, blocksOf, blocked}
-use Rattle.dictionary.specs.Code.{entryOf, Stand}
+use Rattle.dictionary.specs.Code.{entryOf, position, Stand}
 use Rattle.dictionary.specs.Answers.{ValueAt, CountAt, Listed, DirectoryAt, cellAt, PassedAt, BlockAt, BlocksAt, WalkedAt}
 use Rattle.dictionary.specs.Steps.{offset-behind, drop-past, value-ok, value-refused, word-at, word-short, stand-cons, stand-opening}
 
@@ -413,7 +413,7 @@ module _ (t n : ℕ) (s : List ℕ) (at : ℕ) where
               unfolding check
               two-sum q rows ns = two-read rows ns ∙ simp (eq-eqb offset (next - (e + 4)) h, ne-eqb sum n q)
 
-              pub two-ends : sum ≡ n → WalkedAt true t n s at (Walked.Ends (e + 4) next)
+              pub two-ends : sum ≡ n → WalkedAt true t n s at (Walked.Ends (position (e + 4)) (position next))
               unfolding check es
               two-ends q = (
                 es,

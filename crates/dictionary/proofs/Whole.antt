@@ -7,6 +7,7 @@ use lib.IntN.{ℤ}
 use mir.Syntax.{w32}
 use mir.Val.{SFits, toZ, ofZ}
 use mir.Facts.{toZ-ofZ}
+use Rattle.numbers.specs.declared.Position.{Position}
 use Rattle.refusal.specs.declared.Refusal.{Refusal}
 use Rattle.refusal.specs.Reading.{refuse}
 use Rattle.dictionary.specs.declared.Checked.{Checked}
@@ -14,7 +15,7 @@ use Rattle.dictionary.specs.declared.Fixed.{Fixed}
 use Rattle.dictionary.specs.declared.Null.{Null}
 use Rattle.dictionary.specs.declared.Walked.{Walked}
 use Rattle.dictionary.specs.Reading.{dictionary}
-use Rattle.dictionary.specs.Code.{position, nulls, Tells}
+use Rattle.dictionary.specs.Code.{nulls, Tells}
 use Rattle.dictionary.specs.Answers.{FixedOf, NullAt, WalkedAt}
 
 pub walked-two : (t n : ℕ) (s : List ℕ) (at : ℕ) (two : Bool) (r : Walked) → two ≡ true → WalkedAt true t n s at r → WalkedAt two t n s at r
@@ -31,8 +32,8 @@ module _ (t : ℕ) (s : List ℕ) {x : Fixed} {two has : Bool} {rows count : ℕ
     pub read-refused : {r : Refusal} → z ≡ Walked.Refused r → dictionary t s ≡ refuse r
     read-refused h = (rw e at f) .0 t ∙ (rw g at n) .0 _ ∙ (rw h at w) rows (nulls has offset extent)
 
-    pub read-found : {entries region : ℕ} → SFits w32 offset → z ≡ Walked.Ends entries region
-        → Tells t s (Checked.Found (record { rows = rows; count = count; two = two; «has_null» = has; «null_offset» = toZ w32 (ofZ w32 offset); «null_extent» = extent; entries = position entries; region = position region }))
+    pub read-found : {entries region : Position} → SFits w32 offset → z ≡ Walked.Ends entries region
+        → Tells t s (Checked.Found (record { rows = rows; count = count; two = two; «has_null» = has; «null_offset» = toZ w32 (ofZ w32 offset); «null_extent» = extent; entries = entries; region = region }))
     read-found k h =
         let v = rw h at w in
         rw (toZ-ofZ k)

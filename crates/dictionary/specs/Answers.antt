@@ -120,5 +120,5 @@ BlocksAt t b s dir base (Blocks.End next sum) =
 abbrev pub WalkedAt : Bool → ℕ → ℕ → List ℕ → ℕ → Walked → Type 0
 WalkedAt two t n s at (Walked.Refused r) = (rows : ℕ) (ns : List Entry) → entriesOf two t rows n ns (drop at s) ≡ refuse r
 WalkedAt two t n s at (Walked.Ends entries region) =
-    (es : List Entry) × ((rows : ℕ) (ns : List Entry) → entriesOf two t rows n ns (drop at s) ≡ ok (record { rows = rows; entries = ns ++ es; region = drop region s }))
-    × (length es ≡ n) × Stand t two (cond two 0 n) (drop entries s) es × (entries ≤ length s) × (region ≤ length s)
+    (es : List Entry) × ((rows : ℕ) (ns : List Entry) → entriesOf two t rows n ns (drop at s) ≡ ok (record { rows = rows; entries = ns ++ es; region = drop (region .0) s }))
+    × (length es ≡ n) × Stand t two (cond two 0 n) (drop (entries .0) s) es × (entries .0 ≤ length s) × (region .0 ≤ length s)

@@ -2,7 +2,7 @@
 -- Version 1 has no blocks: all its entries are left from the start.
 use mathlib.Core.Path.{_≡_}
 use Prim.Native.Nat.{ℕ, _+_, _-_, _≤_, _<_}
-use mathlib.Core.Bool.{Bool, true, false, cond}
+use mathlib.Core.Bool.{Bool, false, cond}
 use mathlib.Core.List.{List, [], _∷_, _++_}
 use lib.Dec.{eqb, leb}
 use lib.IntN.{ℤ, pos}
@@ -20,7 +20,7 @@ use Rattle.dictionary.specs.declared.Checked.the-variants.{Refused, Foun
 use Rattle.dictionary.specs.declared.Head.{Head}
 use Rattle.dictionary.specs.declared.EntryAt.{EntryAt}
 use Rattle.dictionary.specs.Layout.{Entry, minusOne}
-use Rattle.dictionary.specs.Reading.{Dictionary, dictionary}
+use Rattle.dictionary.specs.Reading.{dictionary}
 
 -- both numbers of each entry are 32-bit patterns
 abbrev pub Patterns : List Entry → Type 0

@@ -1,12 +1,12 @@
 -- The cursor over entries: of entries that stand at it, the definition of the entry at a cursor gives the first, and the cursor of the rest. Assumes nothing.
 use Prim.Native.Nat.{ℕ, _+_, _-_, _≤_, _<_}
-use mathlib.Core.Path.{_≡_, refl, ap, sym, _∙_}
+use mathlib.Core.Path.{_≡_, refl, sym, _∙_}
 use mathlib.Core.Bool.{Bool, true, false}
 use mathlib.Core.List.{List, _∷_}
 use native.Mathlib.Decide.{decLt}
 use native.Mathlib.Omega.{arith}
 use lib.IntN.{ℤ}
-use lib.ListN.{length, take, drop, length-drop}
+use lib.ListN.{length, drop, length-drop}
 use lib.Seq.{drop-drop}
 use borrow.Author.Tests.{le-leb, lt-leb, ne-eqb}
 use Rattle.numbers.specs.Meaning.{big, beAt, signed32}
@@ -14,7 +14,6 @@ use Rattle.numbers.specs.Laws.{Bytes, numberAt-drop, numberAt-lt}
 use Rattle.refusal.specs.declared.Refusal.{Refusal}
 use Rattle.refusal.specs.declared.Refusal.the-variants.{Short, Dict}
 use Rattle.refusal.specs.Reading.{refuse, ok}
-use Rattle.stored_value.specs.Meaning.{value}
 use Rattle.stored_value.specs.Reading.{valueSize}
 use Rattle.dictionary.specs.declared.EntryAt.{EntryAt}
 use Rattle.dictionary.specs.Layout.{Entry, minusOne}

@@ -1,6 +1,6 @@
 // A body's dictionary (document 01, "Bitmap body"), of either version: its head and entries checked in byte order, and a cursor over the entries.
 ghost use mathlib.Core.Path.{_≡_};
-ghost use Prim.Native.Nat.{ℕ, _+_, _-_, _<_, _≤_};
+ghost use Prim.Native.Nat.{_+_, _-_, _<_, _≤_};
 ghost use mathlib.Core.Bool.{true, false, cond};
 ghost use mathlib.Core.List.{List, _∷_};
 ghost use lib.Dec.{eqb, leb};
@@ -114,7 +114,7 @@ enum Blocks {
 // Where the entries begin, and the region of bitmaps.
 enum Walked {
     Refused(Refusal),
-    Ends { entries: usize, region: usize },
+    Ends { entries: Position, region: Position },
 }
 
 // A count of four bytes, negative ones refused.
@@ -291,8 +291,8 @@ fn entries_one(body: &[u8], t: u32, n: u64, at: usize) -> Walked
         i = i + 1;
     }
     Walked::Ends {
-        entries: at,
-        region: p,
+        entries: Position(at),
+        region: Position(p),
     }
 }
 
@@ -510,8 +510,8 @@ fn entries_two(body: &[u8], t: u32, n: u64, at: usize) -> Walked
                 return Walked::Refused(Refusal::Dict);
             }
             return Walked::Ends {
-                entries: base,
-                region: next,
+                entries: Position(base),
+                region: Position(next),
             };
         }
     }
@@ -561,8 +561,8 @@ pub fn read(body: &[u8], t: u32) -> Checked
                         has_null: has_null,
                         null_offset: offset,
                         null_extent: extent,
-                        entries: Position(entries),
-                        region: Position(region),
+                        entries: entries,
+                        region: region,
                     });
                 }
             },
