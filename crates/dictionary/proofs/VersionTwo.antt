@@ -200,7 +200,7 @@ module _ {t n : ℕ} {before head : Cell} {start : List ℕ} {i : ℕ} {b h : Ce
 
 -- the same at the code's positions: the value stands from p to e
 pub passing-on : {t n : ℕ} {before head : Cell} {start : List ℕ} {i : ℕ} {b h : Cell} (s : List ℕ) (p e : ℕ) → Passing t n before head start i b h (drop p s) → i < n
-    → ValueAt t s p (Value.To e) → {x y : Bool} → x ≡ past t b (take (e - p) (drop p s)) → x ≡ true → y ≡ heads h (take (e - p) (drop p s)) → y ≡ true → e + 8 ≤ length s
+    → ValueAt t s p (Value.To (position e)) → {x y : Bool} → x ≡ past t b (take (e - p) (drop p s)) → x ≡ true → y ≡ heads h (take (e - p) (drop p s)) → y ≡ true → e + 8 ≤ length s
     → Passing t n before head start (i + 1) (cellAt s (record { start = p; end = e })) null (drop (e + 8) s)
 passing-on s p e st lt v g c d m r =
     let l : e - p + 8 ≤ length (drop p s) = simp length-drop (omega arith) in
@@ -221,7 +221,7 @@ behind-at : (s : List ℕ) (base p : ℕ) → base ≤ p → p ≤ length s → 
 unfolding behind
 behind-at s base p h l = simp length-drop (omega arith)
 
-module _ (t : ℕ) (s : List ℕ) (base q p e : ℕ) (from : base ≤ p) (to : p ≤ length s) (v : ValueAt t s q (Value.To e))
+module _ (t : ℕ) (s : List ℕ) (base q p e : ℕ) (from : base ≤ p) (to : p ≤ length s) (v : ValueAt t s q (Value.To (position e)))
     (before : Cell) (d : Listing) (ds : List Listing) (l : Listed t (drop q s) (d ∷ ds)) where
   pub block-listed : (e + 4 ≤ length s) × Listed t (drop (e + 4) s) ds
   block-listed =
@@ -276,7 +276,7 @@ module _ (t : ℕ) (s : List ℕ) (base q p e : ℕ) (from : base ≤ p) (to : p
               → blocksOf t (d ∷ ds) (drop base s) before es (drop p s) f ≡ refuse r
           block-refused x = block-sound ∙ x es _
 
-          pub block-passed : {next : ℕ} {last : Span} → (x : PassedAt t n before (cellAt s (record { start = q; end = e })) s (p + 4) (Passed.To next last))
+          pub block-passed : {next : ℕ} {last : Span} → (x : PassedAt t n before (cellAt s (record { start = q; end = e })) s (p + 4) (Passed.To (position next) last))
               → blocksOf t (d ∷ ds) (drop base s) before es (drop p s) f ≡ blocksOf t ds (drop base s) (cellAt s last) (es ++ x .0 .0) (drop next s) f
           block-passed x = block-sound ∙ x .0 .1 es _
 
@@ -324,7 +324,7 @@ module _ {t : ℕ} {ds : List Listing} {before : Cell} {i sum : ℕ} (s : List �
       by [] l z = absurd (omega arith)
       by (d ∷ left) l z = x d left l (st .es) f
 
-  pub blocking-next : (listing next number : ℕ) (last : Span) → BlockAt t before s base q p (Block.Ends listing next last number)
+  pub blocking-next : (listing next number : ℕ) (last : Span) → BlockAt t before s base q p (Block.Ends (position listing) (position next) last number)
       → Blocking t ds (drop base s) (i + 1) (drop listing s) (cellAt s last) (sum + number) (drop next s)
   blocking-next listing next number last x = by (st .left) (st .listed) (st .count) (st .so)
     where
@@ -381,7 +381,7 @@ module _ (t n : ℕ) (s : List ℕ) (at : ℕ) where
       pub two-directory : {r : Refusal} → DirectoryAt t b s (at + 4) (Directory.Refused r) → WalkedAt true t n s at (Walked.Refused r)
       two-directory d rows ns = two-fit rows ns ∙ d _
 
-      module _ {e : ℕ} (d : DirectoryAt t b s (at + 4) (Directory.Ends e)) where
+      module _ {e : ℕ} (d : DirectoryAt t b s (at + 4) (Directory.Ends (position e))) where
         pub two-short : length s - e < 4 → WalkedAt true t n s at (Walked.Refused Short)
         two-short h rows ns = two-fit rows ns ∙ d .1 _ ∙ word-short 4 s e _ h
 
@@ -393,7 +393,7 @@ module _ (t n : ℕ) (s : List ℕ) (at : ℕ) where
           pub two-broken : {r : Refusal} → BlocksAt t b s (at + 4) (e + 4) (Blocks.Refused r) → WalkedAt true t n s at (Walked.Refused r)
           two-broken z rows ns = two-opened rows ns ∙ z (d .0) (d .2) (d .3) _
 
-          module _ {next sum : ℕ} (z : BlocksAt t b s (at + 4) (e + 4) (Blocks.End next sum)) where
+          module _ {next sum : ℕ} (z : BlocksAt t b s (at + 4) (e + 4) (Blocks.End (position next) sum)) where
             es : List Entry
             es = z .0 (d .0) (d .2) (d .3) .0
 

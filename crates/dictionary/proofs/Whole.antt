@@ -28,7 +28,7 @@ module _ (t : ℕ) (s : List ℕ) {x : Fixed} {two has : Bool} {rows count : ℕ
   pub read-null : {r : Refusal} → y ≡ Null.Refused r → dictionary t s ≡ refuse r
   read-null g = (rw e at f) .0 t ∙ (rw g at n) _
 
-  module _ {offset : ℤ} {extent next : ℕ} (g : y ≡ Null.Numbers offset extent next) {z : Walked} (w : WalkedAt two t count s next z) where
+  module _ {offset : ℤ} {extent : ℕ} {next : Position} (g : y ≡ Null.Numbers offset extent next) {z : Walked} (w : WalkedAt two t count s (next .0) z) where
     pub read-refused : {r : Refusal} → z ≡ Walked.Refused r → dictionary t s ≡ refuse r
     read-refused h = (rw e at f) .0 t ∙ (rw g at n) .0 _ ∙ (rw h at w) rows (nulls has offset extent)
 

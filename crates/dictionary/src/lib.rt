@@ -47,7 +47,7 @@ pub struct EntryAt {
 // Where a value ends.
 enum Value {
     Refused(Refusal),
-    To(usize),
+    To(Position),
 }
 
 enum Count {
@@ -61,7 +61,7 @@ enum Null {
     Numbers {
         offset: i32,
         extent: u64,
-        next: usize,
+        next: Position,
     },
 }
 
@@ -85,21 +85,21 @@ struct Span {
 // Where a directory's listings end.
 enum Directory {
     Refused(Refusal),
-    Ends(usize),
+    Ends(Position),
 }
 
 // Where entries of a block end, and the last one's value.
 enum Passed {
     Refused(Refusal),
-    To { next: usize, last: Span },
+    To { next: Position, last: Span },
 }
 
 // Where a block and its listing end, its last value, and its number of entries.
 enum Block {
     Refused(Refusal),
     Ends {
-        listing: usize,
-        next: usize,
+        listing: Position,
+        next: Position,
         last: Span,
         number: u64,
     },
@@ -108,7 +108,7 @@ enum Block {
 // Where the last block ends, and the number of entries of all.
 enum Blocks {
     Refused(Refusal),
-    End { next: usize, sum: u64 },
+    End { next: Position, sum: u64 },
 }
 
 // Where the entries begin, and the region of bitmaps.
@@ -204,7 +204,7 @@ fn null_entry(body: &[u8], two: bool, has: bool, at: usize) -> Null
         return Null::Numbers {
             offset: 0,
             extent: 0,
-            next: at,
+            next: Position(at),
         };
     }
     if body.len() - at < 4 {
@@ -216,7 +216,7 @@ fn null_entry(body: &[u8], two: bool, has: bool, at: usize) -> Null
         return Null::Numbers {
             offset: offset,
             extent: 4294967295,
-            next: p,
+            next: Position(p),
         };
     }
     if body.len() - p < 4 {
@@ -225,7 +225,7 @@ fn null_entry(body: &[u8], two: bool, has: bool, at: usize) -> Null
     Null::Numbers {
         offset: offset,
         extent: numbers::be32(body, Position(p)),
-        next: p + 4,
+        next: Position(p + 4),
     }
 }
 
@@ -238,7 +238,7 @@ fn value_end(body: &[u8], t: u32, at: usize) -> Value
             return Value::Refused(r);
         }
         Sized::Bytes(n) => {
-            return Value::To(at + n);
+            return Value::To(Position(at + n));
         }
     }
 }
@@ -254,7 +254,8 @@ fn taken(body: &[u8], t: u32, at: usize, i: u64, v: &[u8]) -> bool
             Value::Refused(_) => {
                 return false;
             }
-            Value::To(e) => {
+            Value::To(to) => {
+                let e = to.0;
                 if numbers::same(v, &body[p..e]) {
                     return true;
                 }
@@ -278,7 +279,8 @@ fn entries_one(body: &[u8], t: u32, n: u64, at: usize) -> Walked
             Value::Refused(r) => {
                 return Walked::Refused(r);
             }
-            Value::To(e) => {
+            Value::To(to) => {
+                let e = to.0;
                 if taken(body, t, at, i, &body[p..e]) {
                     return Walked::Refused(Refusal::Dict);
                 }
@@ -308,7 +310,8 @@ fn directory_end(body: &[u8], t: u32, n: u64, at: usize) -> Directory
             Value::Refused(r) => {
                 return Directory::Refused(r);
             }
-            Value::To(e) => {
+            Value::To(to) => {
+                let e = to.0;
                 if body.len() - e < 4 {
                     return Directory::Refused(Refusal::Short);
                 }
@@ -317,7 +320,7 @@ fn directory_end(body: &[u8], t: u32, n: u64, at: usize) -> Directory
         }
         i = i + 1;
     }
-    Directory::Ends(p)
+    Directory::Ends(Position(p))
 }
 
 // Whether the value from p to e is past the one before, if there is one.
@@ -360,7 +363,8 @@ fn block_entries(body: &[u8], t: u32, n: u64, at: usize, before: Span, head: Spa
             Value::Refused(r) => {
                 return Passed::Refused(r);
             }
-            Value::To(e) => {
+            Value::To(to) => {
+                let e = to.0;
                 if !is_past(body, t, last, p, e) {
                     return Passed::Refused(Refusal::Dict);
                 }
@@ -378,7 +382,7 @@ fn block_entries(body: &[u8], t: u32, n: u64, at: usize, before: Span, head: Spa
         i = i + 1;
     }
     Passed::To {
-        next: p,
+        next: Position(p),
         last: last,
     }
 }
@@ -392,7 +396,8 @@ fn one_block(body: &[u8], t: u32, base: usize, q: usize, p: usize, before: Span)
         Value::Refused(r) => {
             return Block::Refused(r);
         }
-        Value::To(e) => {
+        Value::To(to) => {
+            let e = to.0;
             if body.len() - e < 4 {
                 return Block::Refused(Refusal::Short);
             }
@@ -416,7 +421,7 @@ fn one_block(body: &[u8], t: u32, base: usize, q: usize, p: usize, before: Span)
                 }
                 Passed::To { next, last } => {
                     return Block::Ends {
-                        listing: e + 4,
+                        listing: Position(e + 4),
                         next: next,
                         last: last,
                         number: n,
@@ -448,8 +453,8 @@ fn all_blocks(body: &[u8], t: u32, b: u64, dir: usize, base: usize) -> Blocks
                 last,
                 number,
             } => {
-                q = listing;
-                p = next;
+                q = listing.0;
+                p = next.0;
                 before = last;
                 total = total + number;
             }
@@ -457,7 +462,7 @@ fn all_blocks(body: &[u8], t: u32, b: u64, dir: usize, base: usize) -> Blocks
         i = i + 1;
     }
     Blocks::End {
-        next: p,
+        next: Position(p),
         sum: total,
     }
 }
@@ -491,7 +496,7 @@ fn entries_two(body: &[u8], t: u32, n: u64, at: usize) -> Walked
         Directory::Refused(r) => {
             return Walked::Refused(r);
         }
-        Directory::Ends(e) => e,
+        Directory::Ends(to) => to.0,
     };
     if body.len() - e < 4 {
         return Walked::Refused(Refusal::Short);
@@ -503,7 +508,8 @@ fn entries_two(body: &[u8], t: u32, n: u64, at: usize) -> Walked
             return Walked::Refused(r);
         }
         Blocks::End { next, sum } => {
-            if offset != (next - base) as u64 {
+            let p = next.0;
+            if offset != (p - base) as u64 {
                 return Walked::Refused(Refusal::Dict);
             }
             if sum != n {
@@ -511,7 +517,7 @@ fn entries_two(body: &[u8], t: u32, n: u64, at: usize) -> Walked
             }
             return Walked::Ends {
                 entries: Position(base),
-                region: Position(next),
+                region: Position(p),
             };
         }
     }
@@ -549,7 +555,7 @@ pub fn read(body: &[u8], t: u32) -> Checked
                 offset,
                 extent,
                 next,
-            } => match entries(body, t, two, count, next) {
+            } => match entries(body, t, two, count, next.0) {
                 Walked::Refused(r) => {
                     return Checked::Refused(r);
                 }
@@ -616,7 +622,8 @@ fn entry_at(body: &[u8], t: u32, two: bool, at: usize, n: u64) -> EntryAt
         Value::Refused(_) => {
             return no_entry();
         }
-        Value::To(e) => {
+        Value::To(to) => {
+            let e = to.0;
             let w = behind_value(two);
             if body.len() - e < w {
                 return no_entry();

@@ -54,7 +54,7 @@ loop-again c =
       x .3,
       omega arith,
       omega (arith, x .4),
-      λ ds l z. blocking-next (a .body .now) (a .base) (o .q) (o .p) (o .inv .5 ds l z) (omega arith) (g .0) (g .1 .0) (g .1 .1 .1 .0) (g .1 .1 .0) x,
+      λ ds l z. blocking-next (a .body .now) (a .base) (o .q) (o .p) (o .inv .5 ds l z) (omega arith) (g .0 .0) (g .1 .0 .0) (g .1 .1 .1 .0) (g .1 .1 .0) x,
     )
 
 returns-2 : tie.Need-returns-2 Inv-loop μ-loop

@@ -30,14 +30,14 @@ returns-2 c =
     let a = c .before .before .before .before .before .before .args in
     c .no-entry2 .ensures ∙ entry-lost (a .t) (a .two) (a .body .now) (a .at) (a .n) (omega arith) (rw (c .before .enum-told .given .1) at (c .before .before .before .value-end .ensures))
 
-enum-known-e : tie.Need-enum-known-e
-enum-known-e c = search needs
+enum-known-to : tie.Need-enum-known-to
+enum-known-to c = search needs
 
 behind-value-requires : tie.Need-behind-value-requires
 behind-value-requires c κs = search needs
 
 sub-if2 : tie.Need-sub-if2
-sub-if2 c = let w = rw (c .before .before .e .given .1) at (c .before .before .before .before .value-end .ensures) in omega arith
+sub-if2 c = let w = rw (c .before .before .to .given .1) at (c .before .before .before .before .value-end .ensures) in omega arith
 
 no-entry-requires-3 : tie.Need-no-entry-requires-3
 no-entry-requires-3 c κs = search needs
@@ -45,26 +45,26 @@ no-entry-requires-3 c κs = search needs
 returns-3 : tie.Need-returns-3
 returns-3 c =
     let a = c .before .before .before .before .before .before .before .before .before .args in
-    let w = rw (c .before .before .before .before .e .given .1) at (c .before .before .before .before .before .before .value-end .ensures) in
+    let w = rw (c .before .before .before .before .to .given .1) at (c .before .before .before .before .before .before .value-end .ensures) in
     c .no-entry3 .ensures ∙ made-none (a .t) (a .two) (a .body .now) (a .at) (a .n) (omega arith) (w .0) (omega arith) (c .before .before .behind-value .ensures .0) (omega arith)
 
 offset-at-requires : tie.Need-offset-at-requires
-offset-at-requires c κs = let w = rw (c .before .before .before .e .given .1) at (c .before .before .before .before .before .value-end .ensures) in let l = c .before .behind-value .ensures in omega arith
+offset-at-requires c κs = let w = rw (c .before .before .before .to .given .1) at (c .before .before .before .before .before .value-end .ensures) in let l = c .before .behind-value .ensures in omega arith
 
 extent-at-requires : tie.Need-extent-at-requires
-extent-at-requires c κs = let w = rw (c .before .before .before .before .e .given .1) at (c .before .before .before .before .before .before .value-end .ensures) in let l = c .before .before .behind-value .ensures in omega arith
+extent-at-requires c κs = let w = rw (c .before .before .before .before .to .given .1) at (c .before .before .before .before .before .before .value-end .ensures) in let l = c .before .before .behind-value .ensures in omega arith
 
-add-t10 : tie.Need-add-t10
-add-t10 c = let w = rw (c .before .before .before .before .before .e .given .1) at (c .before .before .before .before .before .before .before .value-end .ensures) in let l = c .before .before .before .behind-value .ensures in omega arith
+add-t11 : tie.Need-add-t11
+add-t11 c = let w = rw (c .before .before .before .before .before .to .given .1) at (c .before .before .before .before .before .before .before .value-end .ensures) in let l = c .before .before .before .behind-value .ensures in omega arith
 
-sub-t18 : tie.Need-sub-t18
-sub-t18 c = omega arith
+sub-t19 : tie.Need-sub-t19
+sub-t19 c = omega arith
 
 returns-4 : tie.Need-returns-4
 returns-4 c =
     let a = c .before .before .before .before .before .before .before .before .before .before .args in
-    let e = c .before .before .before .before .before .e .given .0 .0 in
-    let w = rw (c .before .before .before .before .before .e .given .1) at (c .before .before .before .before .before .before .before .value-end .ensures) in
+    let e = c .before .before .before .before .before .to .given .0 .0 .0 in
+    let w = rw (c .before .before .before .before .before .to .given .1) at (c .before .before .before .before .before .before .before .value-end .ensures) in
     let o = c .before .offset-at .ensures in
     made (a .t) (a .two) (a .body .now) (a .at) (a .n) (omega arith) (w .0) (omega arith) (c .before .before .before .behind-value .ensures .0) (omega arith) (signed-passed (beAt 4 (a .body .now) e) (o .0) (o .1)) (c .extent-at .ensures)
 
@@ -78,13 +78,13 @@ entry-at-spec =
     enum-told
     no-entry-requires-2
     returns-2
-    enum-known-e
+    enum-known-to
     behind-value-requires
     sub-if2
     no-entry-requires-3
     returns-3
     offset-at-requires
     extent-at-requires
-    add-t10
-    sub-t18
+    add-t11
+    sub-t19
     returns-4)

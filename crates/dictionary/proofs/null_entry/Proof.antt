@@ -44,8 +44,8 @@ returns-4 c =
 be32-requires : tie.Need-be32-requires
 be32-requires c κs = search needs
 
-add-t8 : tie.Need-add-t8
-add-t8 c = search needs
+add-t9 : tie.Need-add-t9
+add-t9 c = search needs
 
 returns-5 : tie.Need-returns-5
 returns-5 c =
@@ -67,5 +67,5 @@ null-entry-spec =
     sub-if4
     returns-4
     be32-requires
-    add-t8
+    add-t9
     returns-5)
