@@ -77,11 +77,11 @@ DirectoryAt t n s at (Directory.Ends next) =
 
 -- the value that a span has, none where it has no bytes
 abbrev pub cellAt : List ℕ → Span → Cell
-cellAt s c = cond (ltb (c .start) (c .end)) (value (take (c .end - c .start) (drop (c .start) s))) null
+cellAt s c = cond (ltb (c .start .0) (c .end .0)) (value (take (c .end .0 - c .start .0) (drop (c .start .0) s))) null
 
 -- a span within s, of no bytes or of enough for a number of type t
 abbrev pub Within : ℕ → List ℕ → Span → Type 0
-Within t s c = (c .end ≤ length s) × (c .start < c .end → c .start + width t ≤ c .end)
+Within t s c = (c .end .0 ≤ length s) × (c .start .0 < c .end .0 → c .start .0 + width t ≤ c .end .0)
 
 -- n entries of a block at a position, behind `before` and headed by `head`: where they end, and the last value
 abbrev pub PassedAt : ℕ → ℕ → Cell → Cell → List ℕ → ℕ → Passed → Type 0

@@ -78,8 +78,8 @@ enum Fixed {
 
 // A value's place; none where it has no bytes.
 struct Span {
-    start: usize,
-    end: usize,
+    start: Position,
+    end: Position,
 }
 
 // Where a directory's listings end.
@@ -328,8 +328,8 @@ fn is_past(body: &[u8], t: u32, before: Span, p: usize, e: usize) -> bool
     requires { ⌜ Within t (now body) before × (p + width t ≤ e) × (e ≤ length (now body)) ⌝ }
     ensures { λ r. ⌜ r ≡ past t (cellAt (now (body .entry)) before) (take (e - p) (drop p (now (body .entry)))) ⌝ }
 {
-    let b = before.start;
-    let z = before.end;
+    let b = before.start.0;
+    let z = before.end.0;
     if b < z {
         return stored_value::less(t, &body[b..z], &body[p..e]);
     }
@@ -338,11 +338,11 @@ fn is_past(body: &[u8], t: u32, before: Span, p: usize, e: usize) -> bool
 
 // Whether the value from p to e is the directory's, if that must head a block.
 fn is_head(body: &[u8], head: Span, p: usize, e: usize) -> bool
-    requires { ⌜ (head .end ≤ length (now body)) × (p ≤ e) × (e ≤ length (now body)) ⌝ }
+    requires { ⌜ (head .end .0 ≤ length (now body)) × (p ≤ e) × (e ≤ length (now body)) ⌝ }
     ensures { λ r. ⌜ r ≡ heads (cellAt (now (body .entry)) head) (take (e - p) (drop p (now (body .entry)))) ⌝ }
 {
-    let b = head.start;
-    let z = head.end;
+    let b = head.start.0;
+    let z = head.end.0;
     if b < z {
         return numbers::same(&body[b..z], &body[p..e]);
     }
@@ -351,7 +351,7 @@ fn is_head(body: &[u8], head: Span, p: usize, e: usize) -> bool
 
 // Version 2: the n entries of a block from `at` on. Values rise strictly, the first from `before`, and the first is `head`, the directory's.
 fn block_entries(body: &[u8], t: u32, n: u64, at: usize, before: Span, head: Span) -> Passed
-    requires { ⌜ (at ≤ length (now body)) × Within t (now body) before × (head .end ≤ length (now body)) ⌝ }
+    requires { ⌜ (at ≤ length (now body)) × Within t (now body) before × (head .end .0 ≤ length (now body)) ⌝ }
     ensures { λ r. ⌜ PassedAt t n (cellAt (now (body .entry)) before) (cellAt (now (body .entry)) head) (now (body .entry)) at r ⌝ }
 {
     let mut i: u64 = 0;
@@ -374,8 +374,14 @@ fn block_entries(body: &[u8], t: u32, n: u64, at: usize, before: Span, head: Spa
                 if body.len() - e < 8 {
                     return Passed::Refused(Refusal::Short);
                 }
-                last = Span { start: p, end: e };
-                first = Span { start: 0, end: 0 };
+                last = Span {
+                    start: Position(p),
+                    end: Position(e),
+                };
+                first = Span {
+                    start: Position(0),
+                    end: Position(0),
+                };
                 p = e + 8;
             }
         }
@@ -415,13 +421,18 @@ fn one_block(body: &[u8], t: u32, base: usize, q: usize, p: usize, before: Span)
             if 2147483648 <= n {
                 return Block::Refused(Refusal::Dict);
             }
-            match block_entries(body, t, n, p + 4, before, Span { start: q, end: e }) {
+            let first = Span {
+                start: Position(q),
+                end: Position(e),
+            };
+            match block_entries(body, t, n, p + 4, before, first) {
                 Passed::Refused(r) => {
                     return Block::Refused(r);
                 }
                 Passed::To { next, last } => {
+                    let listing = e + 4;
                     return Block::Ends {
-                        listing: Position(e + 4),
+                        listing: Position(listing),
                         next: next,
                         last: last,
                         number: n,
@@ -440,7 +451,10 @@ fn all_blocks(body: &[u8], t: u32, b: u64, dir: usize, base: usize) -> Blocks
     let mut i: u64 = 0;
     let mut q = dir;
     let mut p = base;
-    let mut before = Span { start: 0, end: 0 };
+    let mut before = Span {
+        start: Position(0),
+        end: Position(0),
+    };
     let mut total: u64 = 0;
     while i < b {
         match one_block(body, t, base, q, p, before) {

@@ -10,7 +10,7 @@ use Rattle.dictionary.proofs.block_entries.Statement.{statement}
 use Rattle.dictionary.proofs.block_entries.Tie as tie
 
 abbrev Inv-loop : tie.InvT-loop
-Inv-loop body t n at i₀ p₀ last₀ first₀ i p last first = (at ≤ p) × (p ≤ length body) × Within t body last × (first .end ≤ length body) × (i ≤ n)
+Inv-loop body t n at i₀ p₀ last₀ first₀ i p last first = (at ≤ p) × (p ≤ length body) × Within t body last × (first .end .0 ≤ length body) × (i ≤ n)
     × Passing t n (cellAt body last₀) (cellAt body first₀) (drop at body) i (cellAt body last) (cellAt body first) (drop p body)
 
 abbrev μ-loop : tie.MeasureT-loop

@@ -30,7 +30,7 @@ less-requires : tie.Need-less-requires
 less-requires c κs =
     let a = c .before .before .before .before .args in
     let w = c .before .before .before .before .pre .0 .1 (c .before .before .if1 .taken) in (
-      rw (part-length (a .body .now) (a .before .start) (a .before .end) (omega arith) (omega arith)) (omega arith),
+      rw (part-length (a .body .now) (a .before .start .0) (a .before .end .0) (omega arith) (omega arith)) (omega arith),
       rw (part-length (a .body .now) (a .p) (a .e) (omega arith) (omega arith)) (omega arith),
     )
 

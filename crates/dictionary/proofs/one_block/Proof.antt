@@ -94,8 +94,8 @@ returns-7 c = λ d ds l es f.
 enum-known-next : tie.Need-enum-known-next
 enum-known-next c = search needs
 
-add-t28 : tie.Need-add-t28
-add-t28 c = search needs
+add-listing : tie.Need-add-listing
+add-listing c = search needs
 
 returns-8 : tie.Need-returns-8
 returns-8 c =
@@ -141,5 +141,5 @@ one-block-spec =
     enum-known-r-2
     returns-7
     enum-known-next
-    add-t28
+    add-listing
     returns-8)
