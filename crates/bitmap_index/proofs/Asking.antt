@@ -1,7 +1,7 @@
 -- Ask, stage by stage: the question, the audit, then the rows of the chosen entries and their count. Assumes nothing.
-use Prim.Native.Nat.{ℕ, _<_, _≤_}
+use Prim.Native.Nat.{ℕ, zero, suc, _<_, _≤_}
 use mathlib.Core.Path.{_≡_, refl, sym, _∙_}
-use mathlib.Core.Bool.{Bool, true, false}
+use mathlib.Core.Bool.{Bool, true, false, cond}
 use mathlib.Core.List.{List, [], _∷_, _++_}
 use native.Mathlib.Omega.{arith}
 use lib.Dec.{eqb}
@@ -21,7 +21,7 @@ use Rattle.dictionary.specs.declared.Head.{Head}
 use Rattle.dictionary.specs.Layout.{Entry}
 use Rattle.dictionary.specs.Code.{nullsOf}
 use Rattle.bitmap_index.specs.Meaning.{takes, keeps}
-use Rattle.bitmap_index.specs.Reading.{placeAll, prepared, audited, answered, asked, ask, askPrepared, bufferOf, zeroedFrom, askBuffer, chosenOf, auditedBy, answeredBy}
+use Rattle.bitmap_index.specs.Reading.{Answer, placeAll, prepared, audited, answered, asked, ask, askPrepared, bufferOf, zeroedFrom, askBuffer, chosenOf, auditedBy, answeredBy, askOut, numbersOf}
 use Rattle.bitmap_index.specs.declared.Audited.{Audited}
 use Rattle.bitmap_index.specs.declared.Audited.the-variants.{Rows}
 use Rattle.bitmap_index.specs.declared.Answered.{Answered}
@@ -30,6 +30,17 @@ use Rattle.bitmap_index.specs.declared.Outcome.{Outcome}
 use Rattle.bitmap_index.specs.declared.Outcome.the-variants.{Done}
 use Rattle.bitmap_index.specs.Code.{Placing, picks, picked, answerOf, ReadAs, Laid, dictionaryOf, Readied, Asks, answeredAfter, Answers}
 use Rattle.bitmap_index.proofs.Auditing.{zeroed-again}
+
+-- ---- the answer's number and count
+
+pub ask-numbers : (o : Out Answer) {a : Answered} → a ≡ answeredBy o → askOut a ≡ numbersOf (andThen o (λ b. ok (b .matched)))
+unfolding askOut numbersOf answeredBy andThen keeps
+ask-numbers (refuse r) e = rw e
+ask-numbers (ok b) e = rw e (counts (b .matched))
+  where
+    counts : (n : ℕ) → askOut (cond (keeps n) (Keep n) Skip) ≡ (0, n)
+    counts zero = refl
+    counts (suc n) = rw (ne-eqb (suc n) 0 (λ q. omega arith))
 
 -- ---- the question
 
@@ -151,7 +162,7 @@ module _ (q : ℕ) (ls : List (List ℕ)) (s : List ℕ) (h : Head) (es : List E
       record { so = rw z; buffer = rw z (w .1) }
 
   pub after-audit : {n : ℕ} → a ≡ Rows n → {r : Answered} {after : List ℕ}
-      → Answers r (answerOf (h .rows) (placeAll (h .rows) (drop (h .region) s) (chosenOf q ls (nullsOf h ++ es)) mid)) (cleared (h .rows) mid) after
+      → Answers r (answerOf (h .rows) (placeAll (h .rows) (drop (h .region .0) s) (chosenOf q ls (nullsOf h ++ es)) mid)) (cleared (h .rows) mid) after
       → Answers r (answeredAfter q ls f (dictionaryOf s h es)) (cleared (h .rows) f) after
   unfolding answeredAfter andThen answered answerOf
   after-audit e {r} {after} p =

@@ -6,12 +6,11 @@ use mathlib.Core.List.{List, [], _∷_, _++_}
 use lib.Dec.{leb}
 use lib.ListN.{length, drop}
 use borrow.Author.Tests.{eq-eqb, ne-eqb, le-leb, lt-leb, le-ltb, lt-ltb}
-use Rattle.numbers.specs.Laws.{Bytes}
 use Rattle.refusal.specs.Meaning.{limit}
 use Rattle.refusal.specs.declared.Refusal.{Refusal}
 use Rattle.refusal.specs.declared.Refusal.the-variants.{Missing, Room, Literal, Limit}
 use Rattle.row_field.specs.Meaning.{zeroed, cleared, size, count}
-use Rattle.refusal.specs.Reading.{refuse, check, andThen}
+use Rattle.refusal.specs.Reading.{Out, refuse, ok, check, andThen}
 use Rattle.stored_value.specs.Reading.{literals}
 use Rattle.dictionary.specs.declared.Checked.{Checked}
 use Rattle.dictionary.specs.declared.Checked.the-variants.{Found}
@@ -19,13 +18,12 @@ use Rattle.dictionary.specs.declared.Head.{Head}
 use Rattle.dictionary.specs.Layout.{Entry}
 use Rattle.dictionary.specs.Reading.{dictionary}
 use Rattle.dictionary.specs.Code.{nullsOf, Tells}
-use Rattle.bitmap_index.specs.Reading.{placeAll, roomFor, prepared, audited, audit, zeroedFrom, auditBuffer, auditedBy}
+use Rattle.bitmap_index.specs.Reading.{placeAll, roomFor, prepared, audited, audit, zeroedFrom, auditBuffer, auditedBy, auditOut, numbersOf}
 use Rattle.bitmap_index.specs.declared.Audited.{Audited}
 use Rattle.bitmap_index.specs.declared.Audited.the-variants.{Rows}
 use Rattle.bitmap_index.specs.declared.Outcome.{Outcome}
 use Rattle.bitmap_index.specs.declared.Outcome.the-variants.{Done}
 use Rattle.bitmap_index.specs.Code.{Placing, picks, picked, filled, ReadAs, Laid, Sound, dictionaryOf, Readied}
-use Rattle.bitmap_index.proofs.Patterns.{dictionary-patterns}
 
 -- an audit picks every entry, whatever the question
 all-picked : (q : ℕ) (ls : List (List ℕ)) (es : List Entry) → picked true q ls es ≡ es
@@ -70,7 +68,7 @@ zeroed-again (suc k) (x ∷ f) = ap (λ (t : List ℕ). 0 ∷ t) (zeroed-again k
 
 module _ (s : List ℕ) (h : Head) (es : List Entry) (f full : List ℕ) {clear after : List ℕ} {a : Audited} where
   pub then-zero : clear ≡ cleared (h .rows) f
-      → (a ≡ auditedBy (filled (h .rows) (placeAll (h .rows) (drop (h .region) s) (nullsOf h ++ es) clear))) × (cleared (h .rows) full ≡ cleared (h .rows) clear)
+      → (a ≡ auditedBy (filled (h .rows) (placeAll (h .rows) (drop (h .region .0) s) (nullsOf h ++ es) clear))) × (cleared (h .rows) full ≡ cleared (h .rows) clear)
       → after ≡ cleared (h .rows) full → (a ≡ auditedBy (audited f (dictionaryOf s h es))) × (after ≡ cleared (h .rows) f)
   unfolding audited filled
   then-zero c w z = (rw (← c) (w .0), z ∙ w .1 ∙ rw c (zeroed-again (size (h .rows)) f))
@@ -105,16 +103,21 @@ module _ (t : ℕ) (s f : List ℕ) where
             let d : Tells t s (Found h) = rw e at w in
             in-dictionary ∙ rw (d .1, ← o, n)
 
-        pub ready : has ≡ true → Bytes s → Readied t s f (Found h)
+        pub ready : has ≡ true → Readied t s f (Found h)
         unfolding andThen roomFor check
-        ready y b =
+        ready y =
             let d : Tells t s (Found h) = rw e at w in (
               d .0,
               in-dictionary ∙ rw (d .1, ← o, y),
-              record { many = d .2; stand = d .3; patterns = dictionary-patterns t s b (d .1); region = d .5 },
+              record { many = d .2; stand = d .3; region = d .5 },
             )
 
 -- ---- the whole
+
+pub audit-numbers : (o : Out ℕ) {a : Audited} → a ≡ auditedBy o → auditOut a ≡ numbersOf o
+unfolding auditOut numbersOf auditedBy
+audit-numbers (refuse r) e = rw e
+audit-numbers (ok n) e = rw e
 
 module _ (t : ℕ) (s f : List ℕ) {c : Checked} where
   pub sound : {h : Head} → c ≡ Found h → Readied t s f c → Sound t s h

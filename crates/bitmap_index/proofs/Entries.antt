@@ -1,15 +1,18 @@
 -- The rows of several entries, one after the other: what is placed first, then the rest. Assumes nothing.
-use Prim.Native.Nat.{ℕ, _<_}
+use Prim.Native.Nat.{ℕ}
 use mathlib.Core.Path.{_≡_, refl, sym, ap, _∙_}
 use mathlib.Core.Bool.{Bool, true, false, cond}
 use mathlib.Core.List.{List, [], _∷_, _++_}
+use mir.Syntax.{w32}
+use mir.Val.{toZ}
 use Rattle.numbers.specs.Meaning.{signed32}
 use Rattle.refusal.specs.declared.Refusal.{Refusal}
 use Rattle.stored_value.specs.Meaning.{null}
 use Rattle.refusal.specs.Reading.{Out, refuse, ok, andThen}
 use Rattle.dictionary.specs.declared.Head.{Head}
-use Rattle.dictionary.specs.Code.{Patterns, nullsOf}
+use Rattle.dictionary.specs.Code.{pattern, nullsOf}
 use Rattle.dictionary.specs.Layout.{Entry}
+use Rattle.dictionary.specs.Offsets.{read-signed}
 use Rattle.bitmap_index.specs.Reading.{placeAt, place, placeAll}
 use Rattle.bitmap_index.specs.declared.Outcome.{Outcome}
 use Rattle.bitmap_index.specs.declared.Outcome.the-variants.{Done}
@@ -28,20 +31,17 @@ module _ (n : ℕ) (region : List ℕ) where
     unfolding picked placeAll
     passed-over h = record { so = rw (← p, h); kept = refl }
 
-    pub one-placed : picked? ≡ true → {r : Outcome} {after : List ℕ} → Placing n r (placeAt (signed32 (e .offset)) (e .extent) n region f) f after
+    pub one-placed : picked? ≡ true → {r : Outcome} {after : List ℕ} → Placing n r (placeAt (toZ w32 (e .offset)) (e .extent) n region f) f after
         → Placing n r (placeAll n region (picked all q ls (e ∷ [])) f) f after
     unfolding picked placeAll place
-    one-placed h w = rw (← p, h) (rw (ends (placeAt (signed32 (e .offset)) (e .extent) n region f)) w)
+    one-placed h w = rw (← p, h, ends (placeAt (signed32 (e .offset)) (e .extent) n region f)) (rw (read-signed (e .offset)) at w)
 
 -- ---- null's entry, if there is one
 
 abbrev nullEntry : Head → Entry
-nullEntry h = record { cell = null; offset = h .«null_offset»; extent = h .«null_extent» }
+nullEntry h = record { cell = null; offset = pattern (h .«null_offset»); extent = h .«null_extent» }
 
 module _ (h : Head) where
-  pub null-fits : Patterns (nullsOf h) → h .«has_null» ≡ true → h .«null_offset» < 4294967296
-  null-fits p e = (let w : Patterns (nullEntry h ∷ []) = rw e at p in w .0)
-
   module _ (n : ℕ) (region : List ℕ) (all : Bool) (q : ℕ) (ls : List (List ℕ)) (f : List ℕ) where
     pub null-none : h .«has_null» ≡ false → Placing n Done (placeAll n region (picked all q ls (nullsOf h)) f) f f
     unfolding picked placeAll
@@ -51,7 +51,7 @@ module _ (h : Head) where
       pub null-passed : picked? ≡ false → Placing n Done (placeAll n region (picked all q ls (nullsOf h)) f) f f
       null-passed t = rw e (passed-over n region all q ls (nullEntry h) f p t)
 
-      pub null-placed : picked? ≡ true → {r : Outcome} {after : List ℕ} → Placing n r (placeAt (signed32 (h .«null_offset»)) (h .«null_extent») n region f) f after
+      pub null-placed : picked? ≡ true → {r : Outcome} {after : List ℕ} → Placing n r (placeAt (toZ w32 (pattern (h .«null_offset»))) (h .«null_extent») n region f) f after
           → Placing n r (placeAll n region (picked all q ls (nullsOf h)) f) f after
       null-placed t w = rw e (one-placed n region all q ls (nullEntry h) f p t w)
 

@@ -3,7 +3,6 @@ pub mod Offsets
 pub mod Placing
 pub mod Choosing
 pub mod Entries
-pub mod Patterns
 pub mod Walking
 pub mod Auditing
 pub mod Asking

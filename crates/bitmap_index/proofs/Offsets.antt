@@ -3,7 +3,6 @@ use Prim.Native.Nat.{ℕ, suc, _-_, _<_}
 use mathlib.Core.Path.{_≡_, refl, ap, _∙_}
 use mathlib.Core.Bool.{true, false}
 use native.Mathlib.Nat.{lt-trans}
-use native.Mathlib.Decide.{decLt}
 use native.Mathlib.Omega.{arith}
 use lib.Dec.{T, lit<}
 use lib.IntN.{ℤ, pos, negsuc, _-ℤ_, natAbs}
@@ -11,17 +10,7 @@ use lib.Signed.{ltZ, nonNeg}
 use mir.Syntax.{w32, w64}
 use mir.Val.{SFits, Fits, toZ, ofZ}
 use mir.Facts.{toZ-ofZ}
-use borrow.Author.Tests.{ltb-true, lt-ltb, le-ltb}
-use Rattle.numbers.specs.Meaning.{signed32}
-
-signed-fits-go : (x : ℕ) → x < 4294967296 → Dec (x < 2147483648) → SFits w32 (signed32 x)
-signed-fits-go x h (yes l) = rw (lt-ltb x 2147483648 l) (record { sfits = l })
-signed-fits-go x h (no l) =
-    let g : 4294967295 - x < 2147483648 = omega arith in
-    rw (le-ltb x 2147483648 (omega arith)) (record { sfits = g })
-
-pub signed-fits : (x : ℕ) → x < 4294967296 → SFits w32 (signed32 x)
-signed-fits x h = signed-fits-go x h (decLt x 2147483648)
+use borrow.Author.Tests.{ltb-true, le-ltb}
 
 -- the row of a negative number, and what the code computes for it
 pub record Single (z : ℤ) : Type 0 where

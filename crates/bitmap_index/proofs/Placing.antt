@@ -12,7 +12,7 @@ use lib.Signed.{ltZ}
 use mir.Syntax.{w32}
 use mir.Val.{SFits, toZ, ofZ}
 use borrow.Author.Tests.{lt-ltb, le-ltb, leb-false, eq-eqb, ne-eqb}
-use Rattle.numbers.specs.Meaning.{signed32, number}
+use Rattle.numbers.specs.Meaning.{number}
 use Rattle.refusal.specs.declared.Refusal.{Refusal}
 use Rattle.refusal.specs.declared.Refusal.the-variants.{Bitmap, Range, Twice}
 use Rattle.row_field.specs.Meaning.{bit, mark, markAll, zeroed, cleared, size}
@@ -25,7 +25,7 @@ use Rattle.refusal.specs.Reading.{ok, check}
 use Rattle.bitmap_index.specs.Reading.{extentOf, once, placeBitmap, placeAt}
 use Rattle.bitmap_index.specs.declared.Outcome.{Outcome}
 use Rattle.bitmap_index.specs.Code.{Placing}
-use Rattle.bitmap_index.proofs.Offsets.{signed-fits, of, row-is, at, place-is}
+use Rattle.bitmap_index.proofs.Offsets.{of, row-is, at, place-is}
 
 -- ---- no byte behind the field changes
 
@@ -120,17 +120,13 @@ module _ (o e n : ℕ) (region f : List ℕ) where
 
 -- ---- an entry's rows
 
-module _ (x e n : ℕ) (region f : List ℕ) (h : x < 4294967296) {z : ℤ} (s : z ≡ signed32 x) {r : Outcome} {after : List ℕ} where
+module _ (z : ℤ) (e n : ℕ) (region f : List ℕ) (k : SFits w32 z) {r : Outcome} {after : List ℕ} where
   pub as-row : (t : ltZ (toZ w32 (ofZ w32 z)) (pos 0) ≡ true)
       → Placing n r (placeAt (negsuc (natAbs (toZ w32 (ofZ w32 (negsuc 0 -ℤ toZ w32 (ofZ w32 z)))))) 0 n [] f) f after
-      → Placing n r (placeAt (signed32 x) e n region f) f after
+      → Placing n r (placeAt z e n region f) f after
   unfolding placeAt
-  as-row t p =
-      let k : SFits w32 z = rw s (signed-fits x h) in
-      rw (← s, of z k t .so) (rw (row-is z k t) at p)
+  as-row t p = rw (of z k t .so) (rw (row-is z k t) at p)
 
   pub as-place : (t : ltZ (toZ w32 (ofZ w32 z)) (pos 0) ≡ false) → Placing n r (placeAt (pos (natAbs (toZ w32 (ofZ w32 z)))) e n region f) f after
-      → Placing n r (placeAt (signed32 x) e n region f) f after
-  as-place t p =
-      let k : SFits w32 z = rw s (signed-fits x h) in
-      rw (← s, at z k t .so) (rw (place-is z k t) at p)
+      → Placing n r (placeAt z e n region f) f after
+  as-place t p = rw (at z k t .so) (rw (place-is z k t) at p)

@@ -1,8 +1,8 @@
 -- The walk over the values' entries: what is left of them, placed from the field as it is, gives the whole. Assumes nothing.
 use Prim.Native.Nat.{ℕ, _+_, _<_, _≤_}
-use mathlib.Core.Path.{_≡_, refl, sym, ap, _∙_, subst}
+use mathlib.Core.Path.{_≡_, refl, sym, ap, _∙_}
 use mathlib.Core.Bool.{Bool}
-use mathlib.Core.List.{List, [], _∷_, _++_}
+use mathlib.Core.List.{List, [], _∷_}
 use native.Mathlib.Omega.{arith}
 use lib.ListN.{length, drop}
 use Rattle.refusal.specs.declared.Refusal.{Refusal}
@@ -10,21 +10,13 @@ use Rattle.row_field.specs.Meaning.{cleared}
 use Rattle.refusal.specs.Reading.{Out, ok, andThen}
 use Rattle.dictionary.specs.declared.Head.{Head}
 use Rattle.dictionary.specs.declared.EntryAt.{EntryAt}
-use Rattle.dictionary.specs.Code.{Patterns, Stand, Steps, nullsOf, firstLeft}
+use Rattle.dictionary.specs.Code.{Stand, Steps, entryAt, firstLeft}
 use Rattle.dictionary.specs.Layout.{Entry}
 use Rattle.bitmap_index.specs.Reading.{placeAll}
 use Rattle.bitmap_index.specs.declared.Outcome.{Outcome}
 use Rattle.bitmap_index.specs.declared.Outcome.the-variants.{Done}
-use Rattle.bitmap_index.specs.Code.{Placing, placeOf, picked, ReadAs, Laid, Sound, entryAt}
+use Rattle.bitmap_index.specs.Code.{Placing, placeOf, picked, ReadAs, Laid, Sound}
 use Rattle.bitmap_index.proofs.Entries.{place-cons}
-
-patterns-right : (xs ys : List Entry) → Patterns (xs ++ ys) → Patterns ys
-patterns-right [] ys p = p
-patterns-right (x ∷ xs) ys p = patterns-right xs ys (p .2)
-
-pub patterns-left : (xs ys : List Entry) → Patterns (xs ++ ys) → Patterns xs
-patterns-left [] ys p = tt
-patterns-left (x ∷ xs) ys p = (p .0, p .1, patterns-left xs ys (p .2))
 
 -- the picked ones of the entries es, placed in a field
 abbrev pub whole : Head → List ℕ → Bool → ℕ → List (List ℕ) → List Entry → List ℕ → Out (List ℕ)
@@ -35,7 +27,6 @@ pub record Rest (t : ℕ) (s : List ℕ) (h : Head) (all : Bool) (q : ℕ) (lite
   pub rest : List Entry
   pub many : i + length rest ≡ length es
   pub stand : Stand t (h .two) left (drop at s) rest
-  pub patterns : Patterns rest
   pub so : (ls : List (List ℕ)) → ReadAs t literals ls
       → (whole h s all q ls rest f ≡ whole h s all q ls es before) × (cleared (h .rows) f ≡ cleared (h .rows) before)
 
@@ -43,25 +34,21 @@ pub record Rest (t : ℕ) (s : List ℕ) (h : Head) (all : Bool) (q : ℕ) (lite
 pub record First (t : ℕ) (two : Bool) (s : List ℕ) (a : EntryAt) (rest : List Entry) : Type 0 where
   pub behind : List Entry
   pub so : rest ≡ entryAt s a ∷ behind
-  pub start : a .start ≤ a .end
-  pub end : a .end ≤ length s
-  pub offset : a .offset < 4294967296
-  pub stand : Stand t two (a .left) (drop (a .at) s) behind
-  pub patterns : Patterns behind
+  pub start : a .start .0 ≤ a .end .0
+  pub end : a .end .0 ≤ length s
+  pub stand : Stand t two (a .left) (drop (a .«next_at» .0) s) behind
 
-first : (t : ℕ) (two : Bool) (s : List ℕ) (a : EntryAt) (at left : ℕ) (rest : List Entry) → Stand t two left (drop at s) rest → Patterns rest → 1 ≤ length rest
+first : (t : ℕ) (two : Bool) (s : List ℕ) (a : EntryAt) (at left : ℕ) (rest : List Entry) → Stand t two left (drop at s) rest → 1 ≤ length rest
     → ((e : Entry) (es : List Entry) → Stand t two left (drop at s) (e ∷ es) → Steps t two s a e es) → First t two s a rest
-first t two s a at left [] st p h n = absurd (omega arith)
-first t two s a at left (e ∷ es) st p h n =
+first t two s a at left [] st h n = absurd (omega arith)
+first t two s a at left (e ∷ es) st h n =
     let w = n e es st in
     record {
       behind = es;
       so = ap (λ (x : Entry). x ∷ es) (w .0);
       start = w .1;
       end = w .2;
-      offset = subst (λ (x : Entry). x .offset < 4294967296) (w .0) (p .0);
       stand = w .4;
-      patterns = p .2;
     }
 
 none-left : (h : Head) (s : List ℕ) (all : Bool) (q : ℕ) (ls : List (List ℕ)) (rest : List Entry) (f : List ℕ) → length rest ≤ 0 → whole h s all q ls rest f ≡ ok f
@@ -77,11 +64,11 @@ module _ {t : ℕ} {s : List ℕ} {h : Head} {all : Bool} {q : ℕ} {literals : 
 
   module _ (a : EntryAt) (n : (e : Entry) (es : List Entry) → Stand t (h .two) left (drop at s) (e ∷ es) → Steps t (h .two) s a e es) (l : i < length es) where
     here : First t (h .two) s a (g .rest)
-    here = first t (h .two) s a at left (g .rest) (g .stand) (g .patterns) (omega (arith, g .many)) n
+    here = first t (h .two) s a at left (g .rest) (g .stand) (omega (arith, g .many)) n
 
     -- its rows, then those of the entries behind it
     in-turn : (ls : List (List ℕ)) → whole h s all q ls (g .rest) f ≡ andThen (whole h s all q ls (entryAt s a ∷ []) f) (whole h s all q ls (here .behind))
-    in-turn ls = ap (λ (x : List Entry). whole h s all q ls x f) (here .so) ∙ (place-cons (h .rows) (drop (h .region) s) all q ls (entryAt s a) (here .behind) f)
+    in-turn ls = ap (λ (x : List Entry). whole h s all q ls x f) (here .so) ∙ (place-cons (h .rows) (drop (h .region .0) s) all q ls (entryAt s a) (here .behind) f)
 
     then-refused : {after : List ℕ} {r : Refusal} (ls : List (List ℕ)) → ReadAs t literals ls
         → Placing (h .rows) (Outcome.Refused r) (whole h s all q ls (entryAt s a ∷ []) f) f after → Placing (h .rows) (Outcome.Refused r) (whole h s all q ls es before) before after
@@ -89,21 +76,20 @@ module _ {t : ℕ} {s : List ℕ} {h : Head} {all : Bool} {q : ℕ} {literals : 
     then-refused ls k p = record { so = sym (g .so ls k .0) ∙ in-turn ls ∙ rw (p .so); kept = p .kept ∙ g .so ls k .1 }
 
     then-placed : {after : List ℕ} → ((ls : List (List ℕ)) → ReadAs t literals ls → Placing (h .rows) Done (whole h s all q ls (entryAt s a ∷ []) f) f after)
-        → Rest t s h all q literals es before after (a .at) (a .left) (i + 1)
+        → Rest t s h all q literals es before after (a .«next_at» .0) (a .left) (i + 1)
     unfolding andThen
     then-placed p =
         record {
           rest = here .behind;
           many = omega (arith, g .many, ap length (here .so));
           stand = here .stand;
-          patterns = here .patterns;
           so = λ ls k. (sym (in-turn ls ∙ rw (p ls k .so)) ∙ g .so ls k .0, p ls k .kept ∙ g .so ls k .1);
         }
 
 pub record Going (t : ℕ) (s : List ℕ) (h : Head) (all : Bool) (q : ℕ) (literals before f : List ℕ) (at left i : ℕ) : Type 0 where
   pub so : (es : List Entry) → Laid t s h es → Rest t s h all q literals es before f at left i
 
-pub at-start : (t : ℕ) (s : List ℕ) (h : Head) (all : Bool) (q : ℕ) (literals f : List ℕ) {left : ℕ} → left ≡ firstLeft h → Going t s h all q literals f f (h .entries) left 0
+pub at-start : (t : ℕ) (s : List ℕ) (h : Head) (all : Bool) (q : ℕ) (literals f : List ℕ) {left : ℕ} → left ≡ firstLeft h → Going t s h all q literals f f (h .entries .0) left 0
 at-start t s h all q literals f e =
     record {
       so = λ es l.
@@ -111,7 +97,6 @@ at-start t s h all q literals f e =
             rest = es;
             many = omega arith;
             stand = rw e (l .stand);
-            patterns = patterns-right (nullsOf h) es (l .patterns);
             so = λ ls k. (refl, refl);
           };
     }
@@ -122,15 +107,15 @@ module _ {t : ℕ} {s : List ℕ} {h : Head} {all : Bool} {q : ℕ} {literals be
 
   module _ (a : EntryAt) (n : (e : Entry) (es : List Entry) → Stand t (h .two) left (drop at s) (e ∷ es) → Steps t (h .two) s a e es) (l : i < h .count) where
     -- the entry that the code found lies in the body
-    pub found : Sound t s h → (h .region ≤ length s) × (a .start ≤ a .end) × (a .end ≤ length s) × (a .offset < 4294967296)
+    pub found : Sound t s h → (h .region .0 ≤ length s) × (a .start .0 ≤ a .end .0) × (a .end .0 ≤ length s)
     found y =
         let w = here (g .so (y .entries) (y .laid)) a n (rw (y .laid .many) l) in
-        (y .laid .region, w .start, w .end, w .offset)
+        (y .laid .region, w .start, w .end)
 
     module _ {r : Outcome} {after : List ℕ} (p : (ls : List (List ℕ)) → ReadAs t literals ls → Placing (h .rows) r (whole h s all q ls (entryAt s a ∷ []) f) f after) where
       pub if-refused : {why : Refusal} → r ≡ Outcome.Refused why
           → (es : List Entry) (ls : List (List ℕ)) → Laid t s h es → ReadAs t literals ls → Placing (h .rows) (Outcome.Refused why) (whole h s all q ls es before) before after
       if-refused e es ls d k = then-refused (g .so es d) a n (rw (d .many) l) ls k (rw e at (p ls k))
 
-      pub if-placed : r ≡ Done → Going t s h all q literals before after (a .at) (a .left) (i + 1)
+      pub if-placed : r ≡ Done → Going t s h all q literals before after (a .«next_at» .0) (a .left) (i + 1)
       if-placed e = record { so = λ es d. then-placed (g .so es d) a n (rw (d .many) l) (λ ls k. rw e at (p ls k)) }

@@ -1,20 +1,19 @@
 -- What the answers of private functions say, in the reading's terms.
 use mathlib.Core.Path.{_≡_}
-use Prim.Native.Nat.{ℕ, _-_, _≤_}
+use Prim.Native.Nat.{ℕ, _≤_}
 use mathlib.Core.Bool.{Bool, _||_, cond}
 use mathlib.Core.List.{List, [], _∷_, _++_}
 use lib.Dec.{eqb}
-use lib.ListN.{length, take, drop}
+use lib.ListN.{length, drop}
 use Rattle.refusal.specs.declared.Refusal.the-variants.{Missing}
 use Rattle.row_field.specs.Meaning.{count, cleared}
-use Rattle.stored_value.specs.Meaning.{Cell, value}
+use Rattle.stored_value.specs.Meaning.{Cell}
 use Rattle.refusal.specs.Reading.{Out, refuse, ok, check, andThen}
 use Rattle.stored_value.specs.Reading.{literals}
 use Rattle.dictionary.specs.declared.Checked.{Checked}
 use Rattle.dictionary.specs.declared.Checked.the-variants.{Found}
 use Rattle.dictionary.specs.declared.Head.{Head}
-use Rattle.dictionary.specs.declared.EntryAt.{EntryAt}
-use Rattle.dictionary.specs.Code.{Patterns, Stand, nullsOf, firstLeft}
+use Rattle.dictionary.specs.Code.{Stand, nullsOf, firstLeft}
 use Rattle.dictionary.specs.Layout.{Entry}
 use Rattle.dictionary.specs.Reading.{Dictionary}
 use Rattle.bitmap_index.specs.declared.Answered.{Answered}
@@ -52,9 +51,8 @@ ReadAs t s ls = literals t 1024 [] s ≡ ok ls
 -- the entries es of the dictionary with this head stand where it says
 pub record Laid (t : ℕ) (s : List ℕ) (h : Head) (es : List Entry) : Type 0 where
   pub many : length es ≡ h .count
-  pub stand : Stand t (h .two) (firstLeft h) (drop (h .entries) s) es
-  pub patterns : Patterns (nullsOf h ++ es)
-  pub region : h .region ≤ length s
+  pub stand : Stand t (h .two) (firstLeft h) (drop (h .entries .0) s) es
+  pub region : h .region .0 ≤ length s
 
 -- there are such entries
 pub record Sound (t : ℕ) (s : List ℕ) (h : Head) : Type 0 where
@@ -62,15 +60,11 @@ pub record Sound (t : ℕ) (s : List ℕ) (h : Head) : Type 0 where
   pub laid : Laid t s h entries
 
 abbrev pub dictionaryOf : List ℕ → Head → List Entry → Dictionary
-dictionaryOf s h es = record { rows = h .rows; entries = nullsOf h ++ es; region = drop (h .region) s }
+dictionaryOf s h es = record { rows = h .rows; entries = nullsOf h ++ es; region = drop (h .region .0) s }
 
 -- the rows of entries, in a field of the head's row count
 abbrev pub placeOf : Head → List ℕ → List Entry → List ℕ → Out (List ℕ)
-placeOf h s es field = placeAll (h .rows) (drop (h .region) s) es field
-
--- the entry that the code found
-abbrev pub entryAt : List ℕ → EntryAt → Entry
-entryAt s a = record { cell = value (take (a .end - a .start) (drop (a .start) s)); offset = a .offset; extent = a .extent }
+placeOf h s es field = placeAll (h .rows) (drop (h .region .0) s) es field
 
 -- ---- what is said of the rows that were placed
 
@@ -80,7 +74,7 @@ filled n o = andThen o (λ full. check (eqb (count full n) n) Missing (ok n))
 
 -- an answer of n rows: the buffer, and how many rows it has
 unfoldable pub answerOf : ℕ → Out (List ℕ) → Out Answer
-answerOf n o = andThen o (λ chosen. ok (record { buffer = chosen; matched = count chosen n }))
+answerOf n o = andThen o (λ marked. ok (record { buffer = marked; matched = count marked n }))
 
 -- all that comes before a byte of the field is written: the refusal, or the dictionary, with its entries where the head says
 abbrev pub Readied : ℕ → List ℕ → List ℕ → Checked → Type 0

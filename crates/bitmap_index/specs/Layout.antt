@@ -1,5 +1,5 @@
--- What a writer may lay out for a column (01, "Bitmap body"). His choices: the version, the order of entries where it is free, the cuts into blocks, each
--- bitmap's form and place, its extent or -1, has-null with no null rows, values that no row has.
+-- What a writer may lay out for a column (01, "Bitmap body"). His choices: the version, the order of entries where it is free, the cuts into blocks, a single
+-- row by offset (any length beside it) or by bitmap, a bitmap's form and place, its extent or -1, unused bytes, has-null with no null rows, values of no row.
 use mathlib.Core.Path.{_≡_}
 use mathlib.Core.Logic.{_⊎_}
 use Prim.Native.Nat.{ℕ, _+_, _-_, _≤_, _<_}

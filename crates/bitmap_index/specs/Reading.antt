@@ -1,12 +1,12 @@
 -- What Audit and Ask answer for any bytes (01, "Bitmap body" and "Questions"): their stages in 01's order, each begun only where the one before passed.
 use Prim.Native.Nat.{ℕ}
-use mathlib.Core.Bool.{Bool, true, false, not, _&&_, cond}
+use mathlib.Core.Bool.{true, false, not, _&&_, cond}
 use mathlib.Core.List.{List, [], _∷_}
 use lib.Dec.{eqb, ltb, leb}
 use lib.IntN.{ℤ, pos, negsuc}
 use lib.ListN.{length, drop}
 use Rattle.numbers.specs.Meaning.{signed32}
-use Rattle.refusal.specs.Meaning.{limit}
+use Rattle.refusal.specs.Meaning.{limit, numberOf}
 use Rattle.refusal.specs.declared.Refusal.the-variants.{Range, Twice, Missing, Room, Literal, Limit}
 use Rattle.row_field.specs.Meaning.{size, bit, mark, count, cleared}
 use Rattle.roaring.specs.declared.Extent.{Extent}
@@ -70,7 +70,7 @@ audited field d =
 unfoldable pub audit : ℕ → List ℕ → List ℕ → Out ℕ
 audit t body field = andThen (prepared t body field) (audited field)
 
--- the buffer then: as it was up to ROOM, and with the field's bytes zero from there on
+-- the buffer then: as it was up to and at ROOM, and with the field's bytes zero from there on
 unfoldable pub zeroedFrom : Out Dictionary → List ℕ → List ℕ
 zeroedFrom (refuse r) field = field
 zeroedFrom (ok d) field = cleared (d .rows) field
@@ -91,8 +91,8 @@ pub record Answer : Type 0 where
 
 unfoldable pub answered : ℕ → List (List ℕ) → List ℕ → Dictionary → Out Answer
 answered q ls field d =
-    andThen (placeAll (d .rows) (d .region) (chosenOf q ls (d .entries)) (cleared (d .rows) field)) (λ chosen.
-    ok (record { buffer = chosen; matched = count chosen (d .rows) }))
+    andThen (placeAll (d .rows) (d .region) (chosenOf q ls (d .entries)) (cleared (d .rows) field)) (λ marked.
+    ok (record { buffer = marked; matched = count marked (d .rows) }))
 
 -- the limits, the type and the question, then the literals and their number
 unfoldable pub asked : ℕ → ℕ → List ℕ → List ℕ → Out (List (List ℕ))
@@ -114,14 +114,27 @@ bufferOf (ok a) otherwise = a .buffer
 unfoldable pub askBuffer : ℕ → ℕ → List ℕ → List ℕ → List ℕ → List ℕ
 askBuffer t q literal body field = bufferOf (ask t q literal body field) (zeroedFrom (askPrepared t q literal body field) field)
 
--- ---- the calls' answers
+-- ---- the calls' answers, and their numbers: the answer's, 0 for accepted and else the refusal's in 01's table; then the count, 0 with a refusal
 
 -- Audit: a refusal, or the row count
 unfoldable pub auditedBy : Out ℕ → Audited
 auditedBy (refuse r) = Audited.Refused r
 auditedBy (ok n) = Rows n
 
+unfoldable pub auditOut : Audited → ℕ × ℕ
+auditOut (Audited.Refused r) = (numberOf r, 0)
+auditOut (Rows n) = (0, n)
+
 -- Ask: a refusal, or skip where no row is chosen, else keep and how many are
 unfoldable pub answeredBy : Out Answer → Answered
 answeredBy (refuse r) = Answered.Refused r
 answeredBy (ok a) = cond (keeps (a .matched)) (Keep (a .matched)) Skip
+
+unfoldable pub askOut : Answered → ℕ × ℕ
+askOut (Answered.Refused r) = (numberOf r, 0)
+askOut Skip = (0, 0)
+askOut (Keep n) = (0, n)
+
+unfoldable pub numbersOf : Out ℕ → ℕ × ℕ
+numbersOf (refuse r) = (numberOf r, 0)
+numbersOf (ok n) = (0, n)

@@ -25,7 +25,7 @@ use Rattle.roaring.specs.Layout as roaring
 use Rattle.roaring.specs.Reading.{Read, refused, got, read, choose, anyFrom, fits, marking, fieldAfter}
 use Rattle.roaring.specs.Theorems.{read-was-laid-out, rows-rising}
 use Rattle.refusal.specs.Laws.{check-ok, then-ok}
-use Rattle.refusal.specs.Reading.{Out, refuse, ok, check, andThen}
+use Rattle.refusal.specs.Reading.{refuse, ok, andThen}
 use Rattle.stored_value.specs.Reading.{literals}
 use Rattle.dictionary.specs.Layout.{Entry, minusOne}
 use Rattle.dictionary.specs.Reading.{Dictionary, dictionary}

@@ -3,20 +3,21 @@ ghost use mathlib.Core.Path.{_≡_};
 ghost use mathlib.Core.List.{List, [], _∷_, _++_};
 ghost use Prim.Native.Nat.{ℕ, _<_, _≤_};
 ghost use lib.IntN.{pos, negsuc};
-ghost use lib.ListN.{length, drop};
-ghost use Rattle.numbers.specs.Meaning.{signed32};
+ghost use lib.ListN.{length};
+ghost use Rattle.refusal.specs.Reading.{ok, andThen};
 ghost use Rattle.row_field.specs.Meaning.{cleared};
 ghost use Rattle.stored_value.specs.Meaning.{null, value};
-ghost use Rattle.dictionary.specs.Code.{Patterns, nullsOf, firstLeft};
+ghost use Rattle.dictionary.specs.Code.{nullsOf, firstLeft, entryAt};
 ghost use Rattle.dictionary.specs.Layout.{Entry};
 ghost use Rattle.bitmap_index.specs.Meaning as meaning;
-ghost use Rattle.bitmap_index.specs.Reading.{extentOf, placeAt, audited, auditBuffer, chosenOf, asked, askBuffer, auditedBy, answeredBy};
+ghost use Rattle.bitmap_index.specs.Reading.{extentOf, placeAt, audited, auditBuffer, chosenOf, asked, askBuffer, auditedBy, auditOut, answeredBy, askOut, numbersOf};
 ghost use Rattle.bitmap_index.specs.Reading as reading;
 ghost use Rattle.bitmap_index.specs.Code as code;
-ghost use Rattle.bitmap_index.specs.Code.{Placing, placeOf, picked, ReadAs, Laid, Sound, entryAt, dictionaryOf, filled, answerOf, Readied, Asks, Answers, answeredAfter};
+ghost use Rattle.bitmap_index.specs.Code.{Placing, placeOf, picked, ReadAs, Laid, Sound, dictionaryOf, filled, answerOf, Readied, Asks, Answers, answeredAfter};
 use dictionary::Checked;
 use dictionary::EntryAt;
 use dictionary::Head;
+use numbers::Position;
 use refusal::Refusal;
 use roaring::Extent;
 use roaring::Marked;
@@ -76,10 +77,11 @@ fn extent_of(extent: u64) -> Extent
     Extent::Exactly(extent as usize)
 }
 
-// Places the rows of the bitmap at `offset` of the region of bitmaps: BITMAP, RANGE, TWICE.
-fn place_bitmap(field: &mut [u8], region: &[u8], offset: usize, extent: u64, rows: u64) -> Outcome
-    ensures { λ r. ⌜ Placing rows r (placeAt (pos offset) extent rows (now (region .entry)) (now (field .entry))) (now (field .entry)) (now (field .exit)) ⌝ }
+// Places the rows of the bitmap at a position of the region of bitmaps: BITMAP, RANGE, TWICE.
+fn place_bitmap(field: &mut [u8], region: &[u8], at: Position, extent: u64, rows: u64) -> Outcome
+    ensures { λ r. ⌜ Placing rows r (placeAt (pos (at .0)) extent rows (now (region .entry)) (now (field .entry))) (now (field .entry)) (now (field .exit)) ⌝ }
 {
+    let offset = at.0;
     if region.len() < offset {
         return Outcome::Refused(Refusal::Bitmap);
     }
@@ -96,14 +98,13 @@ fn place_bitmap(field: &mut [u8], region: &[u8], offset: usize, extent: u64, row
 }
 
 // Places an entry's rows. A negative offset stands for the single row -1 - offset, and its extent isn't looked at.
-fn place(field: &mut [u8], region: &[u8], offset: u32, extent: u64, rows: u64) -> Outcome
-    ensures { λ r. ⌜ Placing rows r (placeAt (signed32 offset) extent rows (now (region .entry)) (now (field .entry))) (now (field .entry)) (now (field .exit)) ⌝ }
+fn place(field: &mut [u8], region: &[u8], offset: i32, extent: u64, rows: u64) -> Outcome
+    ensures { λ r. ⌜ Placing rows r (placeAt offset extent rows (now (region .entry)) (now (field .entry))) (now (field .entry)) (now (field .exit)) ⌝ }
 {
-    let offset = numbers::to_signed(offset);
     if offset < 0 {
         return place_row(field, Row((-1 - offset) as u64), rows);
     }
-    place_bitmap(field, region, offset as usize, extent, rows)
+    place_bitmap(field, region, Position(offset as usize), extent, rows)
 }
 
 // Whether the question chooses the value v: EQUAL 0, NOT EQUAL 1, IN 2, NOT IN 3, IS NULL 4, IS NOT NULL 5.
@@ -169,19 +170,19 @@ fn place_entry(
     question: u32,
     literals: &[u8],
 ) -> Outcome
-    requires { ⌜ (head .region ≤ length (now body)) × (entry .start ≤ entry .end) × (entry .end ≤ length (now body)) × (entry .offset < 4294967296) ⌝ }
+    requires { ⌜ (head .region .0 ≤ length (now body)) × (entry .start .0 ≤ entry .end .0) × (entry .end .0 ≤ length (now body)) ⌝ }
     ensures { λ r. ⌜ ((ls : List (List ℕ)) → ReadAs t (now (literals .entry)) ls → Placing (head .rows) r (placeOf head (now (body .entry)) (picked all question ls (entryAt (now (body .entry)) entry ∷ [])) (now (field .entry))) (now (field .entry)) (now (field .exit))) ⌝ }
 {
-    let start = entry.start;
-    let end = entry.end;
+    let start = entry.start.0;
+    let end = entry.end.0;
     if !picks(all, question, &body[start..end], literals, t) {
         return Outcome::Done;
     }
-    let region = head.region;
+    let region = head.region.0;
     place(
         field,
         &body[region..],
-        entry.offset as u32,
+        entry.offset,
         entry.extent,
         head.rows,
     )
@@ -189,7 +190,7 @@ fn place_entry(
 
 // Places null's rows, if it has an entry and they are to be placed.
 fn place_null(field: &mut [u8], body: &[u8], head: Head, all: bool, question: u32) -> Outcome
-    requires { ⌜ (head .region ≤ length (now body)) × Patterns (nullsOf head) ⌝ }
+    requires { ⌜ head .region .0 ≤ length (now body) ⌝ }
     ensures { λ r. ⌜ ((ls : List (List ℕ)) → Placing (head .rows) r (placeOf head (now (body .entry)) (picked all question ls (nullsOf head)) (now (field .entry))) (now (field .entry)) (now (field .exit))) ⌝ }
 {
     if !head.has_null {
@@ -198,11 +199,11 @@ fn place_null(field: &mut [u8], body: &[u8], head: Head, all: bool, question: u3
     if !picks_null(all, question) {
         return Outcome::Done;
     }
-    let region = head.region;
+    let region = head.region.0;
     place(
         field,
         &body[region..],
-        head.null_offset as u32,
+        head.null_offset,
         head.null_extent,
         head.rows,
     )
@@ -230,7 +231,7 @@ fn place_entries(
         if let Outcome::Refused(r) = placed {
             return Outcome::Refused(r);
         }
-        at = entry.at;
+        at = entry.next_at;
         left = entry.left;
         i += 1;
     }
@@ -306,9 +307,10 @@ fn prepare(body: &[u8], t: u32, field: &[u8]) -> Checked
     }
 }
 
-// Audit (document 01): every rule of the body as a column of type t, in a field with room for its rows. The field is left zero.
+// Audit (document 01): every rule of the body as a column of type t, in a field with room for its rows. A refusal up to and at ROOM leaves the buffer as it
+// was, and any other answer the field zero.
 pub fn audit(body: &[u8], t: u32, field: &mut [u8]) -> Audited
-    ensures { λ r. ⌜ (r ≡ auditedBy (reading.audit t (now (body .entry)) (now (field .entry)))) × (now (field .exit) ≡ auditBuffer t (now (body .entry)) (now (field .entry))) ⌝ }
+    ensures { λ r. ⌜ (r ≡ auditedBy (reading.audit t (now (body .entry)) (now (field .entry)))) × (now (field .exit) ≡ auditBuffer t (now (body .entry)) (now (field .entry))) × (auditOut r ≡ numbersOf (reading.audit t (now (body .entry)) (now (field .entry)))) ⌝ }
 {
     let prepared = prepare(body, t, field);
     match prepared {
@@ -402,9 +404,9 @@ fn ask_field(
 }
 
 // Ask (document 01): tests the literals, audits the whole body, then says skip where no row is chosen, and else keep and how many are. The rows are then
-// set in the field, and no others.
+// set in the field, and no others; a refusal leaves the buffer as Audit's does.
 pub fn ask(body: &[u8], t: u32, question: u32, literals: &[u8], field: &mut [u8]) -> Answered
-    ensures { λ r. ⌜ (r ≡ answeredBy (reading.ask t question (now (literals .entry)) (now (body .entry)) (now (field .entry)))) × (now (field .exit) ≡ askBuffer t question (now (literals .entry)) (now (body .entry)) (now (field .entry))) ⌝ }
+    ensures { λ r. ⌜ (r ≡ answeredBy (reading.ask t question (now (literals .entry)) (now (body .entry)) (now (field .entry)))) × (now (field .exit) ≡ askBuffer t question (now (literals .entry)) (now (body .entry)) (now (field .entry))) × (askOut r ≡ numbersOf (andThen (reading.ask t question (now (literals .entry)) (now (body .entry)) (now (field .entry))) (λ a. ok (a .matched)))) ⌝ }
 {
     let tested = test_question(body, t, question, literals);
     if let Outcome::Refused(r) = tested {

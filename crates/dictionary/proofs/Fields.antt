@@ -7,9 +7,12 @@ use mathlib.Core.List.{List, []}
 use native.Mathlib.Nat.{zero-add, add-zero}
 use native.Mathlib.Omega.{arith}
 use lib.Dec.{eqb, ltb, leb}
+use lib.IntN.{ℤ}
 use lib.ListN.{length, getD, drop}
+use mir.Syntax.{w32}
+use mir.Val.{toZ, ofZ}
 use borrow.Author.Tests.{le-leb, lt-leb, lt-ltb, le-ltb, ne-eqb}
-use Rattle.numbers.specs.Meaning.{big, beAt, number}
+use Rattle.numbers.specs.Meaning.{big, beAt, number, signed32}
 use Rattle.refusal.specs.declared.Refusal.{Refusal}
 use Rattle.refusal.specs.declared.Refusal.the-variants.{Short, Dict, Limit, Version}
 use Rattle.refusal.specs.Reading.{Out, refuse, check}
@@ -18,7 +21,9 @@ use Rattle.dictionary.specs.declared.Count.the-variants.{Is}
 use Rattle.dictionary.specs.declared.Fixed.the-variants.{Fields}
 use Rattle.dictionary.specs.Layout.{Entry, minusOne}
 use Rattle.dictionary.specs.Reading.{Dictionary, counted, nullOf, entriesOne, blocked, dictionary}
-use Rattle.dictionary.specs.Answers.{CountAt, nulls, entriesOf, FixedOf}
+use Rattle.dictionary.specs.Answers.{CountAt, entriesOf, FixedOf}
+use Rattle.dictionary.specs.Code.{pattern, nulls}
+use Rattle.dictionary.specs.Offsets.{pattern-passed}
 use Rattle.dictionary.specs.Steps.{word-at, word-short}
 
 -- ---- a count
@@ -47,8 +52,12 @@ module _ (most : ℕ) (s : List ℕ) (p : ℕ) where
 
 -- ---- null's entry
 
+-- what is said of a dictionary without null's entry, where there is one
+pub has-one : {has : Bool} {P : Type 0} → has ≡ true → has ≡ false → P
+has-one y n = absurd (let z : _≡_ {A = ℕ} 0 1 = cc in omega arith)
+
 module _ (s : List ℕ) (p : ℕ) (two : Bool) {has : Bool} where
-  pub null-none : has ≡ false → (o x : ℕ) (f : List Entry → List ℕ → Out Dictionary) → nullOf two has (drop p s) f ≡ f (nulls has o x) (drop p s)
+  pub null-none : has ≡ false → (o : ℤ) (x : ℕ) (f : List Entry → List ℕ → Out Dictionary) → nullOf two has (drop p s) f ≡ f (nulls has o x) (drop p s)
   unfolding nullOf
   null-none n o x f = rw n
 
@@ -61,8 +70,11 @@ module _ (s : List ℕ) (p : ℕ) (two : Bool) {has : Bool} where
         go false = word-short 4 s p _ h
         go true = word-short 4 s p _ h
 
-    module _ (h : p + 4 ≤ length s) {n : ℕ} (e : n ≡ beAt 4 s p) where
-      pub null-one : two ≡ false → (f : List Entry → List ℕ → Out Dictionary) → nullOf two has (drop p s) f ≡ f (nulls has n minusOne) (drop (p + 4) s)
+    module _ (h : p + 4 ≤ length s) {z : ℤ} (o : z ≡ signed32 (beAt 4 s p)) (i : beAt 4 s p < 4294967296) where
+      e : pattern (toZ w32 (ofZ w32 z)) ≡ beAt 4 s p
+      e = pattern-passed (beAt 4 s p) o i
+
+      pub null-one : two ≡ false → (f : List Entry → List ℕ → Out Dictionary) → nullOf two has (drop p s) f ≡ f (nulls has (toZ w32 (ofZ w32 z)) minusOne) (drop (p + 4) s)
       unfolding nullOf
       null-one w f = rw (y, w, e) (word-at 4 s p _ h)
 
@@ -72,7 +84,7 @@ module _ (s : List ℕ) (p : ℕ) (two : Bool) {has : Bool} where
         null-cut l f = rw (y, w) (word-at 4 s p _ h ∙ word-short 4 s (p + 4) _ l)
 
         pub null-two : p + 4 + 4 ≤ length s → {m : ℕ} → m ≡ beAt 4 s (p + 4) → (f : List Entry → List ℕ → Out Dictionary)
-            → nullOf two has (drop p s) f ≡ f (nulls has n m) (drop (p + 4 + 4) s)
+            → nullOf two has (drop p s) f ≡ f (nulls has (toZ w32 (ofZ w32 z)) m) (drop (p + 4 + 4) s)
         unfolding nullOf
         null-two l d f = rw (y, w, e, d) (word-at 4 s p _ h ∙ word-at 4 s (p + 4) _ l)
 
@@ -148,4 +160,4 @@ module _ (s : List ℕ) where
 
             pub fixed-fields : h ≤ 1 → FixedOf s (Fields (eqb v 2) (eqb h 1) rows n)
             unfolding check
-            fixed-fields w = (λ t. flagged t ∙ simp (le-leb h 1 w), r, omega (arith, N, most-le (eqb v 2)))
+            fixed-fields w = (λ t. flagged t ∙ simp (le-leb h 1 w), r, omega (arith, N, most-le (eqb v 2)), rw e)

@@ -1,5 +1,4 @@
 -- What only the proofs cite.
 pub mod Fields
 pub mod VersionTwo
-pub mod Cursor
 pub mod Whole

@@ -26,7 +26,7 @@ use Rattle.dictionary.specs.declared.Walked.{Walked}
 use Rattle.dictionary.specs.declared.Value.{Value}
 use Rattle.dictionary.specs.Layout.{Entry}
 use Rattle.dictionary.specs.Reading.{Dictionary, Listing, listings, past, heads, entriesTwo, behind, blocksOf, blocked}
-use Rattle.dictionary.specs.Code.{entryOf, Stand}
+use Rattle.dictionary.specs.Code.{entryOf, position, Stand}
 use Rattle.dictionary.specs.Answers.{ValueAt, CountAt, Listed, DirectoryAt, cellAt, PassedAt, BlockAt, BlocksAt, WalkedAt}
 use Rattle.dictionary.specs.Steps.{offset-behind, drop-past, value-ok, value-refused, word-at, word-short, stand-cons, stand-opening}
 
@@ -91,25 +91,25 @@ module _ {t n : ℕ} {start : List ℕ} {i : ℕ} {rest : List ℕ} (st : Listin
 -- ---- the value before, and the directory's
 
 module _ (s : List ℕ) (c : Span) (w : List ℕ) where
-  cell-none : c .end ≤ c .start → cellAt s c ≡ null
-  cell-none h = rw (le-ltb (c .start) (c .end) h)
+  cell-none : c .end .0 ≤ c .start .0 → cellAt s c ≡ null
+  cell-none h = rw (le-ltb (c .start .0) (c .end .0) h)
 
-  cell-some : c .start < c .end → cellAt s c ≡ value (take (c .end - c .start) (drop (c .start) s))
-  cell-some h = rw (lt-ltb (c .start) (c .end) h)
+  cell-some : c .start .0 < c .end .0 → cellAt s c ≡ value (take (c .end .0 - c .start .0) (drop (c .start .0) s))
+  cell-some h = rw (lt-ltb (c .start .0) (c .end .0) h)
 
-  pub past-none : (t : ℕ) → c .end ≤ c .start → true ≡ past t (cellAt s c) w
+  pub past-none : (t : ℕ) → c .end .0 ≤ c .start .0 → true ≡ past t (cellAt s c) w
   unfolding past
   past-none t h = rw (cell-none h)
 
-  pub past-some : (t : ℕ) → c .start < c .end → less t (take (c .end - c .start) (drop (c .start) s)) w ≡ past t (cellAt s c) w
+  pub past-some : (t : ℕ) → c .start .0 < c .end .0 → less t (take (c .end .0 - c .start .0) (drop (c .start .0) s)) w ≡ past t (cellAt s c) w
   unfolding past
   past-some t h = rw (cell-some h)
 
-  pub heads-none : c .end ≤ c .start → true ≡ heads (cellAt s c) w
+  pub heads-none : c .end .0 ≤ c .start .0 → true ≡ heads (cellAt s c) w
   unfolding heads
   heads-none h = rw (cell-none h)
 
-  pub heads-some : c .start < c .end → same (take (c .end - c .start) (drop (c .start) s)) w ≡ heads (cellAt s c) w
+  pub heads-some : c .start .0 < c .end .0 → same (take (c .end .0 - c .start .0) (drop (c .start .0) s)) w ≡ heads (cellAt s c) w
   unfolding heads
   heads-some h = rw (cell-some h)
 
@@ -196,11 +196,11 @@ module _ {t n : ℕ} {before head : Cell} {start : List ℕ} {i : ℕ} {b h : Ce
 
 -- the same at the code's positions: the value stands from p to e
 pub passing-on : {t n : ℕ} {before head : Cell} {start : List ℕ} {i : ℕ} {b h : Cell} (s : List ℕ) (p e : ℕ) → Passing t n before head start i b h (drop p s) → i < n
-    → ValueAt t s p (Value.To e) → {x y : Bool} → x ≡ past t b (take (e - p) (drop p s)) → x ≡ true → y ≡ heads h (take (e - p) (drop p s)) → y ≡ true → e + 8 ≤ length s
-    → Passing t n before head start (i + 1) (cellAt s (record { start = p; end = e })) null (drop (e + 8) s)
+    → ValueAt t s p (Value.To (position e)) → {x y : Bool} → x ≡ past t b (take (e - p) (drop p s)) → x ≡ true → y ≡ heads h (take (e - p) (drop p s)) → y ≡ true → e + 8 ≤ length s
+    → Passing t n before head start (i + 1) (cellAt s (record { start = position p; end = position e })) null (drop (e + 8) s)
 passing-on s p e st lt v g c d m r =
     let l : e - p + 8 ≤ length (drop p s) = simp length-drop (omega arith) in
-    rw (drop-past s p e 8 (omega arith), ← cell-some s (record { start = p; end = e }) [] (v .1)) at (passing-next st lt (v .0) g c d m l)
+    rw (drop-past s p e 8 (omega arith), ← cell-some s (record { start = position p; end = position e }) [] (v .1)) at (passing-next st lt (v .0) g c d m l)
 
 -- ---- a block: its listing stands at q, with a value that ends at e, and the block at p
 
@@ -217,7 +217,7 @@ behind-at : (s : List ℕ) (base p : ℕ) → base ≤ p → p ≤ length s → 
 unfolding behind
 behind-at s base p h l = simp length-drop (omega arith)
 
-module _ (t : ℕ) (s : List ℕ) (base q p e : ℕ) (from : base ≤ p) (to : p ≤ length s) (v : ValueAt t s q (Value.To e))
+module _ (t : ℕ) (s : List ℕ) (base q p e : ℕ) (from : base ≤ p) (to : p ≤ length s) (v : ValueAt t s q (Value.To (position e)))
     (before : Cell) (d : Listing) (ds : List Listing) (l : Listed t (drop q s) (d ∷ ds)) where
   pub block-listed : (e + 4 ≤ length s) × Listed t (drop (e + 4) s) ds
   block-listed =
@@ -228,12 +228,12 @@ module _ (t : ℕ) (s : List ℕ) (base q p e : ℕ) (from : base ≤ p) (to : p
   module _ (es : List Entry) (f : List Entry → List ℕ → Out Dictionary) where
     block-turn : blocksOf t (d ∷ ds) (drop base s) before es (drop p s) f ≡ check (eqb (beAt 4 s e) (p - base)) Dict
         (number big 4 (refuse Short) (drop p s) (λ n s'. check (leb 1 n && ltb n 2147483648) Dict
-        (entriesTwo t n before (cellAt s (record { start = q; end = e })) es s' (λ before es s'. blocksOf t ds (drop base s) before es s' f))))
+        (entriesTwo t n before (cellAt s (record { start = position q; end = position e })) es s' (λ before es s'. blocksOf t ds (drop base s) before es s' f))))
     unfolding blocksOf
     block-turn =
         let h = listed-head t (drop q s) (e - q) d ds (v .0) l in
         let o = offset-behind s q e (omega arith) in
-        let c = cell-some s (record { start = q; end = e }) [] (v .1) in
+        let c = cell-some s (record { start = position q; end = position e }) [] (v .1) in
         simp (h .0, o, behind-at s base p from to, c)
 
     pub block-misplaced : {a : ℕ} → a ≡ beAt 4 s e → (a ≡ p - base → ⊥) → blocksOf t (d ∷ ds) (drop base s) before es (drop p s) f ≡ refuse Dict
@@ -242,7 +242,7 @@ module _ (t : ℕ) (s : List ℕ) (base q p e : ℕ) (from : base ≤ p) (to : p
 
     module _ {a : ℕ} (g : a ≡ beAt 4 s e) (h : a ≡ p - base) where
       block-placed : blocksOf t (d ∷ ds) (drop base s) before es (drop p s) f ≡ number big 4 (refuse Short) (drop p s) (λ n s'. check (leb 1 n && ltb n 2147483648) Dict
-          (entriesTwo t n before (cellAt s (record { start = q; end = e })) es s' (λ before es s'. blocksOf t ds (drop base s) before es s' f)))
+          (entriesTwo t n before (cellAt s (record { start = position q; end = position e })) es s' (λ before es s'. blocksOf t ds (drop base s) before es s' f)))
       unfolding check
       block-placed = block-turn ∙ simp (← g, eq-eqb a (p - base) h)
 
@@ -251,7 +251,7 @@ module _ (t : ℕ) (s : List ℕ) (base q p e : ℕ) (from : base ≤ p) (to : p
 
       module _ (r : p + 4 ≤ length s) {n : ℕ} (m : n ≡ beAt 4 s p) where
         block-numbered : blocksOf t (d ∷ ds) (drop base s) before es (drop p s) f ≡ check (leb 1 n && ltb n 2147483648) Dict
-            (entriesTwo t n before (cellAt s (record { start = q; end = e })) es (drop (p + 4) s) (λ before es s'. blocksOf t ds (drop base s) before es s' f))
+            (entriesTwo t n before (cellAt s (record { start = position q; end = position e })) es (drop (p + 4) s) (λ before es s'. blocksOf t ds (drop base s) before es s' f))
         block-numbered = block-placed ∙ rw m (word-at 4 s p _ r)
 
         pub block-none : n < 1 → blocksOf t (d ∷ ds) (drop base s) before es (drop p s) f ≡ refuse Dict
@@ -264,15 +264,15 @@ module _ (t : ℕ) (s : List ℕ) (base q p e : ℕ) (from : base ≤ p) (to : p
 
         module _ (c : 1 ≤ n) (u : n < 2147483648) where
           block-sound : blocksOf t (d ∷ ds) (drop base s) before es (drop p s) f
-              ≡ entriesTwo t n before (cellAt s (record { start = q; end = e })) es (drop (p + 4) s) (λ before es s'. blocksOf t ds (drop base s) before es s' f)
+              ≡ entriesTwo t n before (cellAt s (record { start = position q; end = position e })) es (drop (p + 4) s) (λ before es s'. blocksOf t ds (drop base s) before es s' f)
           unfolding check
           block-sound = block-numbered ∙ simp (le-leb 1 n c, lt-ltb n 2147483648 u)
 
-          pub block-refused : {r : Refusal} → PassedAt t n before (cellAt s (record { start = q; end = e })) s (p + 4) (Passed.Refused r)
+          pub block-refused : {r : Refusal} → PassedAt t n before (cellAt s (record { start = position q; end = position e })) s (p + 4) (Passed.Refused r)
               → blocksOf t (d ∷ ds) (drop base s) before es (drop p s) f ≡ refuse r
           block-refused x = block-sound ∙ x es _
 
-          pub block-passed : {next : ℕ} (last : Span) (x : PassedAt t n before (cellAt s (record { start = q; end = e })) s (p + 4) (Passed.To next last))
+          pub block-passed : {next : ℕ} (last : Span) (x : PassedAt t n before (cellAt s (record { start = position q; end = position e })) s (p + 4) (Passed.To (position next) last))
               → blocksOf t (d ∷ ds) (drop base s) before es (drop p s) f ≡ blocksOf t ds (drop base s) (cellAt s last) (es ++ x .0 .0) (drop next s) f
           block-passed last x = block-sound ∙ x .0 .1 es _
 
@@ -320,7 +320,7 @@ module _ {t : ℕ} {ds : List Listing} {before : Cell} {i sum : ℕ} (s : List �
       by [] l z = absurd (omega arith)
       by (d ∷ left) l z = x d left l (st .es) f
 
-  pub blocking-next : (listing next number : ℕ) (last : Span) → BlockAt t before s base q p (Block.Ends listing next last number)
+  pub blocking-next : (listing next number : ℕ) (last : Span) → BlockAt t before s base q p (Block.Ends (position listing) (position next) last number)
       → Blocking t ds (drop base s) (i + 1) (drop listing s) (cellAt s last) (sum + number) (drop next s)
   blocking-next listing next number last x = by (st .left) (st .listed) (st .count) (st .so)
     where
@@ -377,7 +377,7 @@ module _ (t n : ℕ) (s : List ℕ) (at : ℕ) where
       pub two-directory : {r : Refusal} → DirectoryAt t b s (at + 4) (Directory.Refused r) → WalkedAt true t n s at (Walked.Refused r)
       two-directory d rows ns = two-fit rows ns ∙ d _
 
-      module _ {e : ℕ} (d : DirectoryAt t b s (at + 4) (Directory.Ends e)) where
+      module _ {e : ℕ} (d : DirectoryAt t b s (at + 4) (Directory.Ends (position e))) where
         pub two-short : length s - e < 4 → WalkedAt true t n s at (Walked.Refused Short)
         two-short h rows ns = two-fit rows ns ∙ d .1 _ ∙ word-short 4 s e _ h
 
@@ -389,7 +389,7 @@ module _ (t n : ℕ) (s : List ℕ) (at : ℕ) where
           pub two-broken : {r : Refusal} → BlocksAt t b s (at + 4) (e + 4) (Blocks.Refused r) → WalkedAt true t n s at (Walked.Refused r)
           two-broken z rows ns = two-opened rows ns ∙ z (d .0) (d .2) (d .3) _
 
-          module _ {next sum : ℕ} (z : BlocksAt t b s (at + 4) (e + 4) (Blocks.End next sum)) where
+          module _ {next sum : ℕ} (z : BlocksAt t b s (at + 4) (e + 4) (Blocks.End (position next) sum)) where
             es : List Entry
             es = z .0 (d .0) (d .2) (d .3) .0
 
@@ -409,7 +409,7 @@ module _ (t n : ℕ) (s : List ℕ) (at : ℕ) where
               unfolding check
               two-sum q rows ns = two-read rows ns ∙ simp (eq-eqb offset (next - (e + 4)) h, ne-eqb sum n q)
 
-              pub two-ends : sum ≡ n → WalkedAt true t n s at (Walked.Ends (e + 4) next)
+              pub two-ends : sum ≡ n → WalkedAt true t n s at (Walked.Ends (position (e + 4)) (position next))
               unfolding check es
               two-ends q = (
                 es,

@@ -1,14 +1,15 @@
 -- The bytes of a body's dictionary and what lies behind it (01, "Bitmap body"): entries, null's and each value's, in either version. The writer's choices
--- are the order of entries where it is free, and the cuts into blocks. Offsets and extents (01's lengths) are 32-bit patterns.
+-- are the order of entries where it is free, and the cuts into blocks. `region` is 01's body of bitmaps. That offsets and extents are 32-bit patterns
+-- follows from the places (`Placed` in bitmap_index) and the body's limit.
 use mathlib.Core.Path.{_≡_}
-use Prim.Native.Nat.{ℕ, _+_, _≤_, _<_}
+use Prim.Native.Nat.{ℕ, _+_, _≤_}
 use mathlib.Core.Bool.{Bool, true, false, _||_}
 use mathlib.Core.List.{List, [], _∷_, _++_}
 use lib.ListN.{length}
 use Rattle.numbers.specs.Meaning.{All, be}
 use Rattle.stored_value.specs.Meaning.{Cell, null, value, Value, sameCell, less}
 
--- a stored cell, null's or a value's, with the two numbers that say where its rows are
+-- a stored cell, null's or a value's, with the two numbers that say where its rows are: 01's offset, and 01's length, here `extent`
 pub record Entry : Type 0 where
   pub cell : Cell
   pub offset : ℕ

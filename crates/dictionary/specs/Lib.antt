@@ -8,3 +8,5 @@ pub mod Order
 pub mod Theorems
 pub mod Answers
 pub mod Steps
+pub mod Offsets
+pub mod Cursor

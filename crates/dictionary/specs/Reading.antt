@@ -15,7 +15,7 @@ use Rattle.dictionary.specs.Layout.{Entry, someHas, minusOne}
 unfoldable pub counted : {A : Type 0} → ℕ → List ℕ → (ℕ → List ℕ → Out A) → Out A
 counted most s k = number big 4 (refuse Short) s (λ n s. check (ltb n 2147483648) Dict (check (leb n most) Limit (k n s)))
 
--- what a dictionary says: the row count, the entries in stored order, null's first, and the bytes from the region of bitmaps on
+-- what a dictionary says: the row count, the entries in stored order, null's first, and the bytes of the region, 01's body of bitmaps
 pub record Dictionary : Type 0 where
   pub rows : ℕ
   pub entries : List Entry
@@ -56,7 +56,7 @@ entriesTwo t (suc n) before head es s k =
     (number big 4 (refuse Short) s (λ offset s. number big 4 (refuse Short) s (λ extent s.
     entriesTwo t n (value v) null (es ++ (record { cell = value v; offset = offset; extent = extent } ∷ [])) s k))))
 
--- how far behind base's start s begins, s being the end of base
+-- how far behind base's start s begins, s being a suffix of base
 unfoldable pub behind : List ℕ → List ℕ → ℕ
 behind base s = length base - length s
 

@@ -21,7 +21,7 @@ use Rattle.stored_value.specs.Reading.{valueSize, valueOf, sizedBy}
 use Rattle.dictionary.specs.declared.Value.{Value}
 use Rattle.dictionary.specs.Layout.{Entry, minusOne, someHas}
 use Rattle.dictionary.specs.Reading.{Dictionary, entriesOne}
-use Rattle.dictionary.specs.Code.{tail, entryOf, Stand}
+use Rattle.dictionary.specs.Code.{tail, entryOf, position, Stand}
 use Rattle.dictionary.specs.Answers.{ValueAt}
 
 -- ---- what is accepted passed its tests
@@ -76,7 +76,7 @@ module _ (t : ℕ) (s : List ℕ) (at : ℕ) {x : Sized} (e : x ≡ sizedBy (val
   pub value-none : {r : Refusal} → x ≡ Sized.Refused r → ValueAt t s at (Value.Refused r)
   value-none {r} b = sized-refused (valueSize Short Dict t (drop at s)) x r e b
 
-  pub value-to : {n : ℕ} → x ≡ Bytes n → ValueAt t s at (Value.To (at + n))
+  pub value-to : {n : ℕ} → x ≡ Bytes n → ValueAt t s at (Value.To (position (at + n)))
   value-to {n} b =
       let o = sized-ok (valueSize Short Dict t (drop at s)) x n e b in
       let w = size-within t (drop at s) n o in

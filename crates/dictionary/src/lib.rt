@@ -5,45 +5,48 @@ ghost use mathlib.Core.Bool.{true, false, cond};
 ghost use mathlib.Core.List.{List, _∷_};
 ghost use lib.Dec.{eqb, leb};
 ghost use lib.ListN.{length, take, drop};
+ghost use Rattle.numbers.specs.Meaning.{beAt, signed32};
 ghost use Rattle.dictionary.specs.Layout.{Entry};
 ghost use Rattle.dictionary.specs.Reading.{past, heads};
-ghost use Rattle.dictionary.specs.Code.{tail, extentAt, Stand, Tells, Steps};
+ghost use Rattle.dictionary.specs.Code.{tail, extentAt, noEntry, entryFrom, nextOf, Stand, Tells, Steps};
 ghost use Rattle.dictionary.specs.Answers.{ValueAt, TakenAt, CountAt, NullAt, FixedOf, DirectoryAt, cellAt, PassedAt, BlockAt, BlocksAt, WalkedAt};
 use numbers::Position;
 use refusal::Refusal;
 use stored_value::Sized;
 
-// What a sound dictionary says: where its entries and the region of bitmaps begin, and null's entry if it has one.
+// What a sound dictionary says: the row count, the number of values, whether the version is 2; whether null has an entry, and that entry's offset and
+// extent, 0 where it has none; where the values' entries begin, and where the region of bitmaps does (01's "body of bitmaps").
 pub struct Head {
     pub rows: u64,
     pub count: u64,
     pub two: bool,
     pub has_null: bool,
-    pub null_offset: u64,
+    pub null_offset: i32,
     pub null_extent: u64,
-    pub entries: usize,
-    pub region: usize,
+    pub entries: Position,
+    pub region: Position,
 }
 
+// What is read of any bytes as a dictionary: the first rule that is broken, or what a sound one says.
 pub enum Checked {
     Refused(Refusal),
     Found(Head),
 }
 
-// The entry at a cursor: where its value stands, its offset and extent, and the next cursor.
+// The entry at a cursor: where its value stands, its offset and extent; and the next cursor, a position and the number of entries left in the open block.
 pub struct EntryAt {
-    pub start: usize,
-    pub end: usize,
-    pub offset: u64,
+    pub start: Position,
+    pub end: Position,
+    pub offset: i32,
     pub extent: u64,
-    pub at: usize,
+    pub next_at: Position,
     pub left: u64,
 }
 
 // Where a value ends.
 enum Value {
     Refused(Refusal),
-    To(usize),
+    To(Position),
 }
 
 enum Count {
@@ -55,9 +58,9 @@ enum Count {
 enum Null {
     Refused(Refusal),
     Numbers {
-        offset: u64,
+        offset: i32,
         extent: u64,
-        next: usize,
+        next: Position,
     },
 }
 
@@ -74,28 +77,28 @@ enum Fixed {
 
 // A value's place; none where it has no bytes.
 struct Span {
-    start: usize,
-    end: usize,
+    start: Position,
+    end: Position,
 }
 
 // Where a directory's listings end.
 enum Directory {
     Refused(Refusal),
-    Ends(usize),
+    Ends(Position),
 }
 
 // Where entries of a block end, and the last one's value.
 enum Passed {
     Refused(Refusal),
-    To { next: usize, last: Span },
+    To { next: Position, last: Span },
 }
 
 // Where a block and its listing end, its last value, and its number of entries.
 enum Block {
     Refused(Refusal),
     Ends {
-        listing: usize,
-        next: usize,
+        listing: Position,
+        next: Position,
         last: Span,
         number: u64,
     },
@@ -104,13 +107,13 @@ enum Block {
 // Where the last block ends, and the number of entries of all.
 enum Blocks {
     Refused(Refusal),
-    End { next: usize, sum: u64 },
+    End { next: Position, sum: u64 },
 }
 
 // Where the entries begin, and the region of bitmaps.
 enum Walked {
     Refused(Refusal),
-    Ends { entries: usize, region: usize },
+    Ends { entries: Position, region: Position },
 }
 
 // A count of four bytes, negative ones refused.
@@ -183,6 +186,14 @@ fn fixed_fields(body: &[u8]) -> Fixed
     }
 }
 
+// The offset at a position, signed.
+fn offset_at(body: &[u8], at: usize) -> i32
+    requires { ⌜ at + 4 ≤ length (now body) ⌝ }
+    ensures { λ r. ⌜ (r ≡ signed32 (beAt 4 (now (body .entry)) at)) × (beAt 4 (now (body .entry)) at < 4294967296) ⌝ }
+{
+    numbers::to_signed(numbers::be32(body, Position(at)) as u32)
+}
+
 // Null's entry, if there is one.
 fn null_entry(body: &[u8], two: bool, has: bool, at: usize) -> Null
     requires { ⌜ at ≤ length (now body) ⌝ }
@@ -192,19 +203,19 @@ fn null_entry(body: &[u8], two: bool, has: bool, at: usize) -> Null
         return Null::Numbers {
             offset: 0,
             extent: 0,
-            next: at,
+            next: Position(at),
         };
     }
     if body.len() - at < 4 {
         return Null::Refused(Refusal::Short);
     }
-    let offset = numbers::be32(body, Position(at));
+    let offset = offset_at(body, at);
     let p = at + 4;
     if !two {
         return Null::Numbers {
             offset: offset,
             extent: 4294967295,
-            next: p,
+            next: Position(p),
         };
     }
     if body.len() - p < 4 {
@@ -213,7 +224,7 @@ fn null_entry(body: &[u8], two: bool, has: bool, at: usize) -> Null
     Null::Numbers {
         offset: offset,
         extent: numbers::be32(body, Position(p)),
-        next: p + 4,
+        next: Position(p + 4),
     }
 }
 
@@ -226,7 +237,7 @@ fn value_end(body: &[u8], t: u32, at: usize) -> Value
             return Value::Refused(r);
         }
         Sized::Bytes(n) => {
-            return Value::To(at + n);
+            return Value::To(Position(at + n));
         }
     }
 }
@@ -242,7 +253,8 @@ fn taken(body: &[u8], t: u32, at: usize, i: u64, v: &[u8]) -> bool
             Value::Refused(_) => {
                 return false;
             }
-            Value::To(e) => {
+            Value::To(to) => {
+                let e = to.0;
                 if numbers::same(v, &body[p..e]) {
                     return true;
                 }
@@ -266,7 +278,8 @@ fn entries_one(body: &[u8], t: u32, n: u64, at: usize) -> Walked
             Value::Refused(r) => {
                 return Walked::Refused(r);
             }
-            Value::To(e) => {
+            Value::To(to) => {
+                let e = to.0;
                 if taken(body, t, at, i, &body[p..e]) {
                     return Walked::Refused(Refusal::Dict);
                 }
@@ -279,8 +292,8 @@ fn entries_one(body: &[u8], t: u32, n: u64, at: usize) -> Walked
         i = i + 1;
     }
     Walked::Ends {
-        entries: at,
-        region: p,
+        entries: Position(at),
+        region: Position(p),
     }
 }
 
@@ -296,7 +309,8 @@ fn directory_end(body: &[u8], t: u32, n: u64, at: usize) -> Directory
             Value::Refused(r) => {
                 return Directory::Refused(r);
             }
-            Value::To(e) => {
+            Value::To(to) => {
+                let e = to.0;
                 if body.len() - e < 4 {
                     return Directory::Refused(Refusal::Short);
                 }
@@ -305,16 +319,16 @@ fn directory_end(body: &[u8], t: u32, n: u64, at: usize) -> Directory
         }
         i = i + 1;
     }
-    Directory::Ends(p)
+    Directory::Ends(Position(p))
 }
 
 // Whether the value from p to e is past the one before, if there is one.
 fn is_past(body: &[u8], t: u32, before: Span, p: usize, e: usize) -> bool
-    requires { ⌜ (before .end ≤ length (now body)) × (p ≤ e) × (e ≤ length (now body)) ⌝ }
+    requires { ⌜ (before .end .0 ≤ length (now body)) × (p ≤ e) × (e ≤ length (now body)) ⌝ }
     ensures { λ r. ⌜ r ≡ past t (cellAt (now (body .entry)) before) (take (e - p) (drop p (now (body .entry)))) ⌝ }
 {
-    let b = before.start;
-    let z = before.end;
+    let b = before.start.0;
+    let z = before.end.0;
     if b < z {
         return stored_value::less(t, &body[b..z], &body[p..e]);
     }
@@ -323,11 +337,11 @@ fn is_past(body: &[u8], t: u32, before: Span, p: usize, e: usize) -> bool
 
 // Whether the value from p to e is the directory's, if that must head a block.
 fn is_head(body: &[u8], head: Span, p: usize, e: usize) -> bool
-    requires { ⌜ (head .end ≤ length (now body)) × (p ≤ e) × (e ≤ length (now body)) ⌝ }
+    requires { ⌜ (head .end .0 ≤ length (now body)) × (p ≤ e) × (e ≤ length (now body)) ⌝ }
     ensures { λ r. ⌜ r ≡ heads (cellAt (now (body .entry)) head) (take (e - p) (drop p (now (body .entry)))) ⌝ }
 {
-    let b = head.start;
-    let z = head.end;
+    let b = head.start.0;
+    let z = head.end.0;
     if b < z {
         return numbers::same(&body[b..z], &body[p..e]);
     }
@@ -336,7 +350,7 @@ fn is_head(body: &[u8], head: Span, p: usize, e: usize) -> bool
 
 // Version 2: the n entries of a block from `at` on. Values rise strictly, the first from `before`, and the first is `head`, the directory's.
 fn block_entries(body: &[u8], t: u32, n: u64, at: usize, before: Span, head: Span) -> Passed
-    requires { ⌜ (at ≤ length (now body)) × (before .end ≤ length (now body)) × (head .end ≤ length (now body)) ⌝ }
+    requires { ⌜ (at ≤ length (now body)) × (before .end .0 ≤ length (now body)) × (head .end .0 ≤ length (now body)) ⌝ }
     ensures { λ r. ⌜ PassedAt t n (cellAt (now (body .entry)) before) (cellAt (now (body .entry)) head) (now (body .entry)) at r ⌝ }
 {
     let mut i: u64 = 0;
@@ -348,7 +362,8 @@ fn block_entries(body: &[u8], t: u32, n: u64, at: usize, before: Span, head: Spa
             Value::Refused(r) => {
                 return Passed::Refused(r);
             }
-            Value::To(e) => {
+            Value::To(to) => {
+                let e = to.0;
                 if !is_past(body, t, last, p, e) {
                     return Passed::Refused(Refusal::Dict);
                 }
@@ -358,29 +373,36 @@ fn block_entries(body: &[u8], t: u32, n: u64, at: usize, before: Span, head: Spa
                 if body.len() - e < 8 {
                     return Passed::Refused(Refusal::Short);
                 }
-                last = Span { start: p, end: e };
-                first = Span { start: 0, end: 0 };
+                last = Span {
+                    start: Position(p),
+                    end: Position(e),
+                };
+                first = Span {
+                    start: Position(0),
+                    end: Position(0),
+                };
                 p = e + 8;
             }
         }
         i = i + 1;
     }
     Passed::To {
-        next: p,
+        next: Position(p),
         last: last,
     }
 }
 
 // Version 2: the block at p, whose listing stands at q. Its offset, which counts from base, is tested before its number is read.
 fn one_block(body: &[u8], t: u32, base: usize, q: usize, p: usize, before: Span) -> Block
-    requires { ⌜ (base ≤ p) × (p ≤ length (now body)) × (before .end ≤ length (now body)) ⌝ }
+    requires { ⌜ (base ≤ p) × (p ≤ length (now body)) × (before .end .0 ≤ length (now body)) ⌝ }
     ensures { λ r. ⌜ BlockAt t (cellAt (now (body .entry)) before) (now (body .entry)) base q p r ⌝ }
 {
     match value_end(body, t, q) {
         Value::Refused(r) => {
             return Block::Refused(r);
         }
-        Value::To(e) => {
+        Value::To(to) => {
+            let e = to.0;
             if body.len() - e < 4 {
                 return Block::Refused(Refusal::Short);
             }
@@ -398,13 +420,18 @@ fn one_block(body: &[u8], t: u32, base: usize, q: usize, p: usize, before: Span)
             if 2147483648 <= n {
                 return Block::Refused(Refusal::Dict);
             }
-            match block_entries(body, t, n, p + 4, before, Span { start: q, end: e }) {
+            let first = Span {
+                start: Position(q),
+                end: Position(e),
+            };
+            match block_entries(body, t, n, p + 4, before, first) {
                 Passed::Refused(r) => {
                     return Block::Refused(r);
                 }
                 Passed::To { next, last } => {
+                    let listing = e + 4;
                     return Block::Ends {
-                        listing: e + 4,
+                        listing: Position(listing),
                         next: next,
                         last: last,
                         number: n,
@@ -423,7 +450,10 @@ fn all_blocks(body: &[u8], t: u32, b: u64, dir: usize, base: usize) -> Blocks
     let mut i: u64 = 0;
     let mut q = dir;
     let mut p = base;
-    let mut before = Span { start: 0, end: 0 };
+    let mut before = Span {
+        start: Position(0),
+        end: Position(0),
+    };
     let mut total: u64 = 0;
     while i < b {
         match one_block(body, t, base, q, p, before) {
@@ -436,8 +466,8 @@ fn all_blocks(body: &[u8], t: u32, b: u64, dir: usize, base: usize) -> Blocks
                 last,
                 number,
             } => {
-                q = listing;
-                p = next;
+                q = listing.0;
+                p = next.0;
                 before = last;
                 total = total + number;
             }
@@ -445,7 +475,7 @@ fn all_blocks(body: &[u8], t: u32, b: u64, dir: usize, base: usize) -> Blocks
         i = i + 1;
     }
     Blocks::End {
-        next: p,
+        next: Position(p),
         sum: total,
     }
 }
@@ -479,7 +509,7 @@ fn entries_two(body: &[u8], t: u32, n: u64, at: usize) -> Walked
         Directory::Refused(r) => {
             return Walked::Refused(r);
         }
-        Directory::Ends(e) => e,
+        Directory::Ends(to) => to.0,
     };
     if body.len() - e < 4 {
         return Walked::Refused(Refusal::Short);
@@ -491,15 +521,16 @@ fn entries_two(body: &[u8], t: u32, n: u64, at: usize) -> Walked
             return Walked::Refused(r);
         }
         Blocks::End { next, sum } => {
-            if offset != (next - base) as u64 {
+            let p = next.0;
+            if offset != (p - base) as u64 {
                 return Walked::Refused(Refusal::Dict);
             }
             if sum != n {
                 return Walked::Refused(Refusal::Dict);
             }
             return Walked::Ends {
-                entries: base,
-                region: next,
+                entries: Position(base),
+                region: Position(p),
             };
         }
     }
@@ -537,7 +568,7 @@ pub fn read(body: &[u8], t: u32) -> Checked
                 offset,
                 extent,
                 next,
-            } => match entries(body, t, two, count, next) {
+            } => match entries(body, t, two, count, next.0) {
                 Walked::Refused(r) => {
                     return Checked::Refused(r);
                 }
@@ -580,20 +611,22 @@ fn extent_at(body: &[u8], two: bool, e: usize) -> u64
 }
 
 // What `next` answers where no entry stands.
-fn no_entry() -> EntryAt {
+fn no_entry() -> EntryAt
+    ensures { λ r. ⌜ r ≡ noEntry ⌝ }
+{
     EntryAt {
-        start: 0,
-        end: 0,
+        start: Position(0),
+        end: Position(0),
         offset: 0,
         extent: 0,
-        at: 0,
+        next_at: Position(0),
         left: 0,
     }
 }
 
 // The entry at `at` with `n` left in its block, itself among them.
 fn entry_at(body: &[u8], t: u32, two: bool, at: usize, n: u64) -> EntryAt
-    ensures { λ r. ⌜ ((e : Entry) (es : List Entry) → 1 ≤ n → Stand t two n (drop at (now (body .entry))) (e ∷ es) → Steps t two (now (body .entry)) r e es) ⌝ }
+    ensures { λ r. ⌜ r ≡ entryFrom t two (now (body .entry)) at n ⌝ }
 {
     if n == 0 {
         return no_entry();
@@ -602,36 +635,39 @@ fn entry_at(body: &[u8], t: u32, two: bool, at: usize, n: u64) -> EntryAt
         Value::Refused(_) => {
             return no_entry();
         }
-        Value::To(e) => {
+        Value::To(to) => {
+            let e = to.0;
             let w = behind_value(two);
             if body.len() - e < w {
                 return no_entry();
             }
             return EntryAt {
-                start: at,
-                end: e,
-                offset: numbers::be32(body, Position(e)),
+                start: Position(at),
+                end: Position(e),
+                offset: offset_at(body, e),
                 extent: extent_at(body, two, e),
-                at: e + w,
+                next_at: Position(e + w),
                 left: n - 1,
             };
         }
     }
 }
 
-// The entry at a cursor: a position, and the number of entries left in the block that is open, 0 where a block's number is due.
-pub fn next(body: &[u8], t: u32, two: bool, at: usize, left: u64) -> EntryAt
-    ensures { λ r. ⌜ ((e : Entry) (es : List Entry) → Stand t two left (drop at (now (body .entry))) (e ∷ es) → Steps t two (now (body .entry)) r e es) ⌝ }
+// The entry at a cursor: a position, and the number of entries left in the block that is open, 0 where a block's number is due. Where entries stand there,
+// it is the first of them, and the cursor behind it comes with it; where none does, `noEntry`.
+pub fn next(body: &[u8], t: u32, two: bool, at: Position, left: u64) -> EntryAt
+    ensures { λ r. ⌜ (r ≡ nextOf t two (now (body .entry)) (at .0) left) × ((e : Entry) (es : List Entry) → Stand t two left (drop (at .0) (now (body .entry))) (e ∷ es) → Steps t two (now (body .entry)) r e es) ⌝ }
 {
+    let p = at.0;
     if left == 0 {
-        if body.len() < at {
+        if body.len() < p {
             return no_entry();
         }
-        if body.len() - at < 4 {
+        if body.len() - p < 4 {
             return no_entry();
         }
-        let n = numbers::be32(body, Position(at));
-        return entry_at(body, t, two, at + 4, n);
+        let n = numbers::be32(body, at);
+        return entry_at(body, t, two, p + 4, n);
     }
-    entry_at(body, t, two, at, left)
+    entry_at(body, t, two, p, left)
 }

@@ -22,7 +22,7 @@ same-length c = search needs
 returns : tie.Need-returns
 returns c =
     let a = c .before .before .before .before .before .before .before .before .before .before .before .before .before .before .args in
-    λ es ls l k. answer-refused (a .head .rows) (drop (a .head .region) (a .body .now)) (a .question) ls (nullsOf (a .head) ++ es) (a .field .now) (c .before .before .before .before .before .before .before .before .before .place-all .ensures es ls l k) (c .before .before .before .before .before .placed .given .1) (c .before .before .clear .ensures)
+    λ es ls l k. answer-refused (a .head .rows) (drop (a .head .region .0) (a .body .now)) (a .question) ls (nullsOf (a .head) ++ es) (a .field .now) (c .before .before .before .before .before .before .before .before .before .place-all .ensures es ls l k) (c .before .before .before .before .before .placed .given .1) (c .before .before .clear .ensures)
 
 enum-told : tie.Need-enum-told
 enum-told c = search needs
@@ -36,7 +36,7 @@ same-length-2 c = search needs
 returns-2 : tie.Need-returns-2
 returns-2 c =
     let a = c .before .before .before .before .before .before .before .before .before .before .before .before .args in
-    λ es ls l k. answer-skip (a .head .rows) (drop (a .head .region) (a .body .now)) (a .question) ls (nullsOf (a .head) ++ es) (a .field .now) (c .before .before .before .before .before .before .before .place-all .ensures es ls l k) (c .before .before .before .enum-told .given .1) (c .before .count .ensures) (c .if1 .taken)
+    λ es ls l k. answer-skip (a .head .rows) (drop (a .head .region .0) (a .body .now)) (a .question) ls (nullsOf (a .head) ++ es) (a .field .now) (c .before .before .before .before .before .before .before .place-all .ensures es ls l k) (c .before .before .before .enum-told .given .1) (c .before .count .ensures) (c .if1 .taken)
 
 same-length-3 : tie.Need-same-length-3
 same-length-3 c = search needs
@@ -44,7 +44,7 @@ same-length-3 c = search needs
 returns-3 : tie.Need-returns-3
 returns-3 c =
     let a = c .before .before .before .before .before .before .before .before .before .before .before .before .args in
-    λ es ls l k. answer-keep (a .head .rows) (drop (a .head .region) (a .body .now)) (a .question) ls (nullsOf (a .head) ++ es) (a .field .now) (c .before .before .before .before .before .before .before .place-all .ensures es ls l k) (c .before .before .before .enum-told .given .1) (c .before .count .ensures) (c .if1 .left)
+    λ es ls l k. answer-keep (a .head .rows) (drop (a .head .region .0) (a .body .now)) (a .question) ls (nullsOf (a .head) ++ es) (a .field .now) (c .before .before .before .before .before .before .before .place-all .ensures es ls l k) (c .before .before .before .enum-told .given .1) (c .before .count .ensures) (c .if1 .left)
 
 pub answer-spec : {M : Type 1} → statement M
 answer-spec =

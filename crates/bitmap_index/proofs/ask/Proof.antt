@@ -1,6 +1,7 @@
 -- `ask` meets its contract by its stages: the question, all that comes before the field is written, the audit and the answer.
+use Rattle.bitmap_index.specs.Reading.{ask}
 use Rattle.bitmap_index.proofs.Auditing.{sound}
-use Rattle.bitmap_index.proofs.Asking.{ask-refused, ask-unprepared, ask-found}
+use Rattle.bitmap_index.proofs.Asking.{ask-numbers, ask-refused, ask-unprepared, ask-found}
 use borrow.Author.Needs.{needs}
 use Rattle.bitmap_index.proofs.ask.Statement.{statement}
 use Rattle.bitmap_index.proofs.ask.Tie as tie
@@ -14,7 +15,8 @@ enum-known-tested c = search needs
 returns : tie.Need-returns
 returns c =
     let a = c .before .before .before .before .before .before .before .args in
-    ask-refused (a .t) (a .question) (a .literals .now) (a .body .now) (a .field .now) (c .before .tested .given .1) (c .before .before .before .test-question .ensures)
+    let w = ask-refused (a .t) (a .question) (a .literals .now) (a .body .now) (a .field .now) (c .before .tested .given .1) (c .before .before .before .test-question .ensures) in
+    (w .0, w .1, ask-numbers (ask (a .t) (a .question) (a .literals .now) (a .body .now) (a .field .now)) (w .0))
 
 enum-told : tie.Need-enum-told
 enum-told c = search needs
@@ -39,7 +41,8 @@ same-length c = search needs
 returns-2 : tie.Need-returns-2
 returns-2 c =
     let a = c .before .before .before .before .before .before .before .before .before .before .before .args in
-    ask-unprepared (a .t) (a .question) (a .literals .now) (a .body .now) (a .field .now) (c .before .before .before .before .before .enum-told .given .1) (c .before .before .before .before .before .before .before .test-question .ensures) (c .before .prepared .given .1) (c .before .before .before .prepare .ensures)
+    let w = ask-unprepared (a .t) (a .question) (a .literals .now) (a .body .now) (a .field .now) (c .before .before .before .before .before .enum-told .given .1) (c .before .before .before .before .before .before .before .test-question .ensures) (c .before .prepared .given .1) (c .before .before .before .prepare .ensures) in
+    (w .0, w .1, ask-numbers (ask (a .t) (a .question) (a .literals .now) (a .body .now) (a .field .now)) (w .0))
 
 same-length-2 : tie.Need-same-length-2
 same-length-2 c = search needs
@@ -47,7 +50,8 @@ same-length-2 c = search needs
 returns-3 : tie.Need-returns-3
 returns-3 c =
     let a = c .before .before .before .before .before .before .before .before .before .before .before .before .before .before .before .args in
-    ask-found (a .t) (a .question) (a .literals .now) (a .body .now) (a .field .now) (c .before .before .before .before .before .before .before .before .before .enum-told .given .1) (c .before .before .before .before .before .before .before .before .before .before .before .test-question .ensures) (c .before .before .before .before .before .prepared2 .given .1) (c .before .before .before .before .before .before .before .prepare .ensures) (c .before .before .ask-field .ensures)
+    let w = ask-found (a .t) (a .question) (a .literals .now) (a .body .now) (a .field .now) (c .before .before .before .before .before .before .before .before .before .enum-told .given .1) (c .before .before .before .before .before .before .before .before .before .before .before .test-question .ensures) (c .before .before .before .before .before .prepared2 .given .1) (c .before .before .before .before .before .before .before .prepare .ensures) (c .before .before .ask-field .ensures) in
+    (w .0, w .1, ask-numbers (ask (a .t) (a .question) (a .literals .now) (a .body .now) (a .field .now)) (w .0))
 
 pub ask-spec : {M : Type 1} → statement M
 ask-spec =

@@ -28,7 +28,7 @@ same-length c = search needs
 returns : tie.Need-returns
 returns c =
     let a = c .before .before .before .before .before .before .before .before .before .before .args in
-    λ es l. fill-refused (a .head .rows) (drop (a .head .region) (a .body .now)) (nullsOf (a .head) ++ es) (a .field .now) (c .before .before .before .before .before .place-all .ensures es [] l (no-literals (a .t))) (c .before .placed .given .1)
+    λ es l. fill-refused (a .head .rows) (drop (a .head .region .0) (a .body .now)) (nullsOf (a .head) ++ es) (a .field .now) (c .before .before .before .before .before .place-all .ensures es [] l (no-literals (a .t))) (c .before .placed .given .1)
 
 enum-told : tie.Need-enum-told
 enum-told c = search needs
@@ -42,7 +42,7 @@ same-length-2 c = search needs
 returns-2 : tie.Need-returns-2
 returns-2 c =
     let a = c .before .before .before .before .before .before .before .before .before .before .before .before .before .args in
-    λ es l. fill-missing (a .head .rows) (drop (a .head .region) (a .body .now)) (nullsOf (a .head) ++ es) (a .field .now) (c .before .before .before .before .before .before .before .before .place-all .ensures es [] l (no-literals (a .t))) (c .before .before .before .before .enum-told .given .1) (c .before .before .count .ensures) (c .if1 .taken)
+    λ es l. fill-missing (a .head .rows) (drop (a .head .region .0) (a .body .now)) (nullsOf (a .head) ++ es) (a .field .now) (c .before .before .before .before .before .before .before .before .place-all .ensures es [] l (no-literals (a .t))) (c .before .before .before .before .enum-told .given .1) (c .before .before .count .ensures) (c .if1 .taken)
 
 same-length-3 : tie.Need-same-length-3
 same-length-3 c = search needs
@@ -50,7 +50,7 @@ same-length-3 c = search needs
 returns-3 : tie.Need-returns-3
 returns-3 c =
     let a = c .before .before .before .before .before .before .before .before .before .before .before .before .before .args in
-    λ es l. fill-full (a .head .rows) (drop (a .head .region) (a .body .now)) (nullsOf (a .head) ++ es) (a .field .now) (c .before .before .before .before .before .before .before .before .place-all .ensures es [] l (no-literals (a .t))) (c .before .before .before .before .enum-told .given .1) (c .before .before .count .ensures) (c .if1 .left)
+    λ es l. fill-full (a .head .rows) (drop (a .head .region .0) (a .body .now)) (nullsOf (a .head) ++ es) (a .field .now) (c .before .before .before .before .before .before .before .before .place-all .ensures es [] l (no-literals (a .t))) (c .before .before .before .before .enum-told .given .1) (c .before .before .count .ensures) (c .if1 .left)
 
 pub fill-spec : {M : Type 1} → statement M
 fill-spec =

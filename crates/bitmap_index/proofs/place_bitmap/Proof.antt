@@ -7,7 +7,7 @@ use Rattle.bitmap_index.proofs.place_bitmap.Tie as tie
 returns : tie.Need-returns
 returns c =
     let a = c .before .before .before .args in
-    behind-region (a .offset) (a .extent) (a .rows) (a .region .now) (a .field .now) (c .if1 .taken)
+    behind-region (a .at .0) (a .extent) (a .rows) (a .region .now) (a .field .now) (c .if1 .taken)
 
 sub-mark : tie.Need-sub-mark
 sub-mark c = search needs
@@ -37,7 +37,7 @@ returns-2 : tie.Need-returns-2
 returns-2 c =
     let a = c .before .before .before .before .before .before .before .before .before .before .before .before .before .args in
     let m = c .before .before .before .before .before .before .mark in
-    bitmap-twice (a .offset) (a .extent) (a .rows) (a .region .now) (a .field .now) (to-end (a .offset) (a .region .now)) (c .before .before .before .before .before .before .before .extent-of .ensures) (m .ensures .0) (m .ensures .1) (c .before .before .marked2 .given .1) (c .if2 .taken)
+    bitmap-twice (a .at .0) (a .extent) (a .rows) (a .region .now) (a .field .now) (to-end (a .at .0) (a .region .now)) (c .before .before .before .before .before .before .before .extent-of .ensures) (m .ensures .0) (m .ensures .1) (c .before .before .marked2 .given .1) (c .if2 .taken)
 
 same-length-2 : tie.Need-same-length-2
 same-length-2 c = search needs
@@ -46,7 +46,7 @@ returns-3 : tie.Need-returns-3
 returns-3 c =
     let a = c .before .before .before .before .before .before .before .before .before .before .before .before .args in
     let m = c .before .before .before .before .before .mark in
-    bitmap-refused (a .offset) (a .extent) (a .rows) (a .region .now) (a .field .now) (to-end (a .offset) (a .region .now)) (c .before .before .before .before .before .before .extent-of .ensures) (m .ensures .0) (m .ensures .1) (c .before .marked .given .1)
+    bitmap-refused (a .at .0) (a .extent) (a .rows) (a .region .now) (a .field .now) (to-end (a .at .0) (a .region .now)) (c .before .before .before .before .before .before .extent-of .ensures) (m .ensures .0) (m .ensures .1) (c .before .marked .given .1)
 
 same-length-3 : tie.Need-same-length-3
 same-length-3 c = search needs
@@ -55,7 +55,7 @@ returns-4 : tie.Need-returns-4
 returns-4 c =
     let a = c .before .before .before .before .before .before .before .before .before .before .before .before .before .args in
     let m = c .before .before .before .before .before .before .mark in
-    bitmap-done (a .offset) (a .extent) (a .rows) (a .region .now) (a .field .now) (to-end (a .offset) (a .region .now)) (c .before .before .before .before .before .before .before .extent-of .ensures) (m .ensures .0) (m .ensures .1) (c .before .before .marked2 .given .1) (c .if2 .left)
+    bitmap-done (a .at .0) (a .extent) (a .rows) (a .region .now) (a .field .now) (to-end (a .at .0) (a .region .now)) (c .before .before .before .before .before .before .before .extent-of .ensures) (m .ensures .0) (m .ensures .1) (c .before .before .marked2 .given .1) (c .if2 .left)
 
 pub place-bitmap-spec : {M : Type 1} → statement M
 place-bitmap-spec =

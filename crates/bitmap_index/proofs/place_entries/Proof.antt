@@ -9,7 +9,7 @@ use Rattle.bitmap_index.proofs.place_entries.Statement.{statement}
 use Rattle.bitmap_index.proofs.place_entries.Tie as tie
 
 abbrev Inv-loop : tie.InvT-loop
-Inv-loop field₀ body head t all question literals at₀ left₀ i₀ field at left i = (i ≤ head .count) × Going t body head all question literals field₀ field at left i × (length field ≡ length field₀)
+Inv-loop field₀ body head t all question literals at₀ left₀ i₀ field at left i = (i ≤ head .count) × Going t body head all question literals field₀ field (at .0) left i × (length field ≡ length field₀)
 
 abbrev μ-loop : tie.MeasureT-loop
 μ-loop field₀ body head t all question literals at₀ left₀ i₀ field at left i = head .count - i
@@ -19,14 +19,14 @@ first-left-requires c κs = search needs
 
 loop-holds : tie.Need-loop-holds Inv-loop μ-loop
 loop-holds c =
-    let a = c .before .before .before .before .args in
+    let a = c .before .before .before .before .before .args in
     (omega arith, at-start (a .t) (a .body .now) (a .head) (a .all) (a .question) (a .literals .now) (a .field .now) (c .first-left .ensures), refl)
 
 next-requires : tie.Need-next-requires Inv-loop μ-loop
 next-requires c κs = search needs
 
 place-entry-requires : tie.Need-place-entry-requires Inv-loop μ-loop
-place-entry-requires c κs = found (c .before .before .before .before .loop .inv .1) (c .before .next .result) (c .before .next .ensures) (c .before .before .if1 .taken) (c .before .before .before .before .before .before .before .before .before .pre)
+place-entry-requires c κs = found (c .before .before .before .before .loop .inv .1) (c .before .next .result) (c .before .next .ensures .1) (c .before .before .if1 .taken) (c .before .before .before .before .before .before .before .before .before .before .pre)
 
 enum-known-placed : tie.Need-enum-known-placed Inv-loop μ-loop
 enum-known-placed c = search needs
@@ -35,7 +35,7 @@ same-length : tie.Need-same-length Inv-loop μ-loop
 same-length c = search needs
 
 returns : tie.Need-returns Inv-loop μ-loop
-returns c = if-refused (c .before .before .before .before .before .before .before .before .before .before .loop .inv .1) (c .before .before .before .before .before .before .before .next .result) (c .before .before .before .before .before .before .before .next .ensures) (c .before .before .before .before .before .before .before .before .if1 .taken) (c .before .before .before .before .before .place-entry .ensures) (c .before .placed .given .1)
+returns c = if-refused (c .before .before .before .before .before .before .before .before .before .before .loop .inv .1) (c .before .before .before .before .before .before .before .next .result) (c .before .before .before .before .before .before .before .next .ensures .1) (c .before .before .before .before .before .before .before .before .if1 .taken) (c .before .before .before .before .before .place-entry .ensures) (c .before .placed .given .1)
 
 enum-told : tie.Need-enum-told Inv-loop μ-loop
 enum-told c = search needs
@@ -47,7 +47,7 @@ loop-less : tie.Need-loop-less Inv-loop μ-loop
 loop-less c = search needs
 
 loop-again : tie.Need-loop-again Inv-loop μ-loop
-loop-again c = (omega arith, if-placed (c .before .before .before .before .before .before .before .before .before .loop .inv .1) (c .before .before .before .before .before .before .next .result) (c .before .before .before .before .before .before .next .ensures) (c .before .before .before .before .before .before .before .if1 .taken) (c .before .before .before .before .place-entry .ensures) (c .enum-told .given .1), search needs)
+loop-again c = (omega arith, if-placed (c .before .before .before .before .before .before .before .before .before .before .loop .inv .1) (c .before .before .before .before .before .before .before .next .result) (c .before .before .before .before .before .before .before .next .ensures .1) (c .before .before .before .before .before .before .before .before .if1 .taken) (c .before .before .before .before .before .place-entry .ensures) (c .before .enum-told .given .1), search needs)
 
 same-length-2 : tie.Need-same-length-2 Inv-loop μ-loop
 same-length-2 c = search needs

@@ -1,7 +1,7 @@
 -- `place_entry` meets its contract: an entry that is not picked leaves the field as it was, and the rows of any other are placed.
 use lib.ListN.{drop}
 use borrow.Author.Tests.{not-true, not-false}
-use Rattle.bitmap_index.specs.Code.{entryAt}
+use Rattle.dictionary.specs.Code.{entryAt}
 use Rattle.bitmap_index.proofs.Placing.{to-end}
 use Rattle.bitmap_index.proofs.Entries.{passed-over, one-placed}
 use borrow.Author.Needs.{needs}
@@ -23,7 +23,7 @@ picks-requires c κs = search needs
 returns : tie.Need-returns
 returns c =
     let a = c .before .before .before .before .before .before .args in
-    λ ls h. passed-over (a .head .rows) (drop (a .head .region) (a .body .now)) (a .all) (a .question) ls (entryAt (a .body .now) (a .entry)) (a .field .now) (c .before .picks .ensures ls h) (not-true _ (c .if1 .taken))
+    λ ls h. passed-over (a .head .rows) (drop (a .head .region .0) (a .body .now)) (a .all) (a .question) ls (entryAt (a .body .now) (a .entry)) (a .field .now) (c .before .picks .ensures ls h) (not-true _ (c .if1 .taken))
 
 sub-place : tie.Need-sub-place
 sub-place c = search needs
@@ -34,9 +34,6 @@ part-place-start c = search needs
 part-place-end : tie.Need-part-place-end
 part-place-end c = search needs
 
-cast-place : tie.Need-cast-place
-cast-place c = search needs
-
 place-requires : tie.Need-place-requires
 place-requires c κs = search needs
 
@@ -46,7 +43,7 @@ same-length c = search needs
 returns-2 : tie.Need-returns-2
 returns-2 c =
     let a = c .before .before .before .before .before .before .before .before .before .before .before .before .args in
-    λ ls h. one-placed (a .head .rows) (drop (a .head .region) (a .body .now)) (a .all) (a .question) ls (entryAt (a .body .now) (a .entry)) (a .field .now) (c .before .before .before .before .before .before .before .picks .ensures ls h) (not-false _ (c .before .before .before .before .before .before .if1 .left)) (rw (to-end (a .head .region) (a .body .now)) at (c .before .before .place .ensures))
+    λ ls h. one-placed (a .head .rows) (drop (a .head .region .0) (a .body .now)) (a .all) (a .question) ls (entryAt (a .body .now) (a .entry)) (a .field .now) (c .before .before .before .before .before .before .before .picks .ensures ls h) (not-false _ (c .before .before .before .before .before .before .if1 .left)) (rw (to-end (a .head .region .0) (a .body .now)) at (c .before .before .place .ensures))
 
 pub place-entry-spec : {M : Type 1} → statement M
 place-entry-spec =
@@ -60,7 +57,6 @@ place-entry-spec =
     sub-place
     part-place-start
     part-place-end
-    cast-place
     place-requires
     same-length
     returns-2)

@@ -2,7 +2,7 @@
 use lib.ListN.{drop}
 use borrow.Author.Tests.{not-true, not-false}
 use Rattle.bitmap_index.proofs.Placing.{to-end}
-use Rattle.bitmap_index.proofs.Entries.{null-fits, null-none, null-passed, null-placed}
+use Rattle.bitmap_index.proofs.Entries.{null-none, null-passed, null-placed}
 use borrow.Author.Needs.{needs}
 use Rattle.bitmap_index.proofs.place_null.Statement.{statement}
 use Rattle.bitmap_index.proofs.place_null.Tie as tie
@@ -10,7 +10,7 @@ use Rattle.bitmap_index.proofs.place_null.Tie as tie
 returns : tie.Need-returns
 returns c =
     let a = c .before .before .before .before .args in
-    λ ls. null-none (a .head) (a .head .rows) (drop (a .head .region) (a .body .now)) (a .all) (a .question) ls (a .field .now) (not-true _ (c .if1 .taken))
+    λ ls. null-none (a .head) (a .head .rows) (drop (a .head .region .0) (a .body .now)) (a .all) (a .question) ls (a .field .now) (not-true _ (c .if1 .taken))
 
 picks-null-requires : tie.Need-picks-null-requires
 picks-null-requires c κs = search needs
@@ -18,7 +18,7 @@ picks-null-requires c κs = search needs
 returns-2 : tie.Need-returns-2
 returns-2 c =
     let a = c .before .before .before .before .before .before .args in
-    λ ls. null-passed (a .head) (a .head .rows) (drop (a .head .region) (a .body .now)) (a .all) (a .question) ls (a .field .now) (not-false _ (c .before .before .if1 .left)) (c .before .picks-null .ensures ls) (not-true _ (c .if2 .taken))
+    λ ls. null-passed (a .head) (a .head .rows) (drop (a .head .region .0) (a .body .now)) (a .all) (a .question) ls (a .field .now) (not-false _ (c .before .before .if1 .left)) (c .before .picks-null .ensures ls) (not-true _ (c .if2 .taken))
 
 sub-place : tie.Need-sub-place
 sub-place c = search needs
@@ -29,9 +29,6 @@ part-place-start c = search needs
 part-place-end : tie.Need-part-place-end
 part-place-end c = search needs
 
-cast-place : tie.Need-cast-place
-cast-place c = record { fits = null-fits (c .before .before .before .before .before .before .before .before .before .args .head) (c .before .before .before .before .before .before .before .before .before .pre .1) (not-false _ (c .before .before .before .before .before .if1 .left)) }
-
 place-requires : tie.Need-place-requires
 place-requires c κs = search needs
 
@@ -41,7 +38,7 @@ same-length c = search needs
 returns-3 : tie.Need-returns-3
 returns-3 c =
     let a = c .before .before .before .before .before .before .before .before .before .before .before .before .args in
-    λ ls. null-placed (a .head) (a .head .rows) (drop (a .head .region) (a .body .now)) (a .all) (a .question) ls (a .field .now) (not-false _ (c .before .before .before .before .before .before .before .before .if1 .left)) (c .before .before .before .before .before .before .before .picks-null .ensures ls) (not-false _ (c .before .before .before .before .before .before .if2 .left)) (rw (to-end (a .head .region) (a .body .now)) at (c .before .before .place .ensures))
+    λ ls. null-placed (a .head) (a .head .rows) (drop (a .head .region .0) (a .body .now)) (a .all) (a .question) ls (a .field .now) (not-false _ (c .before .before .before .before .before .before .before .before .if1 .left)) (c .before .before .before .before .before .before .before .picks-null .ensures ls) (not-false _ (c .before .before .before .before .before .before .if2 .left)) (rw (to-end (a .head .region .0) (a .body .now)) at (c .before .before .place .ensures))
 
 pub place-null-spec : {M : Type 1} → statement M
 place-null-spec =
@@ -53,7 +50,6 @@ place-null-spec =
     sub-place
     part-place-start
     part-place-end
-    cast-place
     place-requires
     same-length
     returns-3)

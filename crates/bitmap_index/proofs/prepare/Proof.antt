@@ -1,4 +1,4 @@
--- `prepare` meets its contract by the stages in their order; offsets of a dictionary that was read are 32-bit patterns.
+-- `prepare` meets its contract by the stages in their order.
 use borrow.Author.Tests.{not-true, not-false}
 use Rattle.bitmap_index.proofs.Auditing.{too-long, no-type, no-dictionary, no-room, ready}
 use borrow.Author.Needs.{needs}
@@ -40,7 +40,7 @@ returns-4 c =
 returns-5 : tie.Need-returns-5
 returns-5 c =
     let a = c .before .before .before .before .before .before .before .before .before .before .args in
-    ready (a .t) (a .body .now) (a .field .now) (c .before .before .before .before .before .before .before .if1 .left) (c .before .before .before .before .before .before .if2 .left) (c .before .before .before .checked2 .given .1) (c .before .before .before .before .before .read .ensures) (c .before .has-room .ensures) (not-false _ (c .if3 .left)) (λ i. c .before .before .before .before .before .before .before .before .before .shared-slice-known .given i .fits)
+    ready (a .t) (a .body .now) (a .field .now) (c .before .before .before .before .before .before .before .if1 .left) (c .before .before .before .before .before .before .if2 .left) (c .before .before .before .checked2 .given .1) (c .before .before .before .before .before .read .ensures) (c .before .has-room .ensures) (not-false _ (c .if3 .left))
 
 pub prepare-spec : {M : Type 1} → statement M
 prepare-spec =

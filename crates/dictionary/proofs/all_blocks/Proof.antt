@@ -13,7 +13,7 @@ use Rattle.dictionary.proofs.all_blocks.Statement.{statement}
 use Rattle.dictionary.proofs.all_blocks.Tie as tie
 
 abbrev Inv-loop : tie.InvT-loop
-Inv-loop body t b dir base i₀ q₀ p₀ before₀ total₀ i q p before total = (base ≤ p) × (p ≤ length body) × (before .end ≤ length body) × (i ≤ b) × (total ≤ 2147483648 * i)
+Inv-loop body t b dir base i₀ q₀ p₀ before₀ total₀ i q p before total = (base ≤ p) × (p ≤ length body) × (before .end .0 ≤ length body) × (i ≤ b) × (total ≤ 2147483648 * i)
     × ((ds : List Listing) → Listed t (drop dir body) ds → length ds ≡ b → Blocking t ds (drop base body) i (drop q body) (cellAt body before) total (drop p body))
 
 abbrev μ-loop : tie.MeasureT-loop
@@ -54,7 +54,7 @@ loop-again c =
       x .3,
       omega arith,
       omega (arith, x .4),
-      λ ds l z. blocking-next (a .body .now) (a .base) (o .q) (o .p) (o .inv .5 ds l z) (omega arith) (g .0) (g .1 .0) (g .1 .1 .1 .0) (g .1 .1 .0) x,
+      λ ds l z. blocking-next (a .body .now) (a .base) (o .q) (o .p) (o .inv .5 ds l z) (omega arith) (g .0 .0) (g .1 .0 .0) (g .1 .1 .1 .0) (g .1 .1 .0) x,
     )
 
 returns-2 : tie.Need-returns-2 Inv-loop μ-loop

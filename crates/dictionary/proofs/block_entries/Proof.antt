@@ -10,7 +10,7 @@ use Rattle.dictionary.proofs.block_entries.Statement.{statement}
 use Rattle.dictionary.proofs.block_entries.Tie as tie
 
 abbrev Inv-loop : tie.InvT-loop
-Inv-loop body t n at i₀ p₀ last₀ first₀ i p last first = (at ≤ p) × (p ≤ length body) × (last .end ≤ length body) × (first .end ≤ length body) × (i ≤ n)
+Inv-loop body t n at i₀ p₀ last₀ first₀ i p last first = (at ≤ p) × (p ≤ length body) × (last .end .0 ≤ length body) × (first .end .0 ≤ length body) × (i ≤ n)
     × Passing t n (cellAt body last₀) (cellAt body first₀) (drop at body) i (cellAt body last) (cellAt body first) (drop p body)
 
 abbrev μ-loop : tie.MeasureT-loop
@@ -28,26 +28,26 @@ enum-known-r c = search needs
 returns : tie.Need-returns Inv-loop μ-loop
 returns c = passing-refused (c .before .before .before .before .before .loop .inv .5) (c .before .before .before .before .loop-test .taken) (rw (c .before .r .given .1) at (c .before .before .before .value-end .ensures))
 
-enum-known-e : tie.Need-enum-known-e Inv-loop μ-loop
-enum-known-e c = search needs
+enum-known-to : tie.Need-enum-known-to Inv-loop μ-loop
+enum-known-to c = search needs
 
 is-past-requires : tie.Need-is-past-requires Inv-loop μ-loop
-is-past-requires c κs = let w = rw (c .before .e .given .1) at (c .before .before .before .value-end .ensures) in (c .before .before .before .before .before .loop .inv .2, omega arith, w .2)
+is-past-requires c κs = let w = rw (c .before .to .given .1) at (c .before .before .before .value-end .ensures) in (c .before .before .before .before .before .loop .inv .2, omega arith, w .2)
 
 returns-2 : tie.Need-returns-2 Inv-loop μ-loop
-returns-2 c = let w = rw (c .before .before .before .e .given .1) at (c .before .before .before .before .before .value-end .ensures) in passing-low (c .before .before .before .before .before .before .before .loop .inv .5) (c .before .before .before .before .before .before .loop-test .taken) (w .0) (c .before .is-past .ensures) (not-true _ (c .if1 .taken))
+returns-2 c = let w = rw (c .before .before .before .to .given .1) at (c .before .before .before .before .before .value-end .ensures) in passing-low (c .before .before .before .before .before .before .before .loop .inv .5) (c .before .before .before .before .before .before .loop-test .taken) (w .0) (c .before .is-past .ensures) (not-true _ (c .if1 .taken))
 
 is-head-requires : tie.Need-is-head-requires Inv-loop μ-loop
-is-head-requires c κs = let w = rw (c .before .before .before .e .given .1) at (c .before .before .before .before .before .value-end .ensures) in (c .before .before .before .before .before .before .before .loop .inv .3, omega arith, w .2)
+is-head-requires c κs = let w = rw (c .before .before .before .to .given .1) at (c .before .before .before .before .before .value-end .ensures) in (c .before .before .before .before .before .before .before .loop .inv .3, omega arith, w .2)
 
 returns-3 : tie.Need-returns-3 Inv-loop μ-loop
-returns-3 c = let w = rw (c .before .before .before .before .before .e .given .1) at (c .before .before .before .before .before .before .before .value-end .ensures) in passing-other (c .before .before .before .before .before .before .before .before .before .loop .inv .5) (c .before .before .before .before .before .before .before .before .loop-test .taken) (w .0) (c .before .before .before .is-past .ensures) (not-false _ (c .before .before .if1 .left)) (c .before .is-head .ensures) (not-true _ (c .if2 .taken))
+returns-3 c = let w = rw (c .before .before .before .before .before .to .given .1) at (c .before .before .before .before .before .before .before .value-end .ensures) in passing-other (c .before .before .before .before .before .before .before .before .before .loop .inv .5) (c .before .before .before .before .before .before .before .before .loop-test .taken) (w .0) (c .before .before .before .is-past .ensures) (not-false _ (c .before .before .if1 .left)) (c .before .is-head .ensures) (not-true _ (c .if2 .taken))
 
 sub-if3 : tie.Need-sub-if3 Inv-loop μ-loop
-sub-if3 c = let w = rw (c .before .before .before .before .before .e .given .1) at (c .before .before .before .before .before .before .before .value-end .ensures) in omega arith
+sub-if3 c = let w = rw (c .before .before .before .before .before .to .given .1) at (c .before .before .before .before .before .before .before .value-end .ensures) in omega arith
 
 returns-4 : tie.Need-returns-4 Inv-loop μ-loop
-returns-4 c = let w = rw (c .before .before .before .before .before .before .e .given .1) at (c .before .before .before .before .before .before .before .before .value-end .ensures) in passing-short (c .before .before .before .before .before .before .before .before .before .before .loop .inv .5) (c .before .before .before .before .before .before .before .before .before .loop-test .taken) (w .0) (c .before .before .before .before .is-past .ensures) (not-false _ (c .before .before .before .if1 .left)) (c .before .before .is-head .ensures) (not-false _ (c .before .if2 .left)) (simp length-drop (omega arith))
+returns-4 c = let w = rw (c .before .before .before .before .before .before .to .given .1) at (c .before .before .before .before .before .before .before .before .value-end .ensures) in passing-short (c .before .before .before .before .before .before .before .before .before .before .loop .inv .5) (c .before .before .before .before .before .before .before .before .before .loop-test .taken) (w .0) (c .before .before .before .before .is-past .ensures) (not-false _ (c .before .before .before .if1 .left)) (c .before .before .is-head .ensures) (not-false _ (c .before .if2 .left)) (simp length-drop (omega arith))
 
 add-p : tie.Need-add-p Inv-loop μ-loop
 add-p c = omega arith
@@ -60,13 +60,13 @@ loop-less c = omega arith
 
 loop-again : tie.Need-loop-again Inv-loop μ-loop
 loop-again c =
-    let w = rw (c .before .before .before .before .before .before .e .given .1) at (c .before .before .before .before .before .before .before .before .value-end .ensures) in (
+    let w = rw (c .before .before .before .before .before .before .to .given .1) at (c .before .before .before .before .before .before .before .before .value-end .ensures) in (
       omega arith,
       omega arith,
       w .2,
       omega arith,
       omega arith,
-      passing-on (c .before .before .before .before .before .before .before .before .before .before .before .before .args .body .now) (c .before .before .before .before .before .before .before .before .before .before .loop .p) (c .before .before .before .before .before .before .e .given .0 .0) (c .before .before .before .before .before .before .before .before .before .before .loop .inv .5) (c .before .before .before .before .before .before .before .before .before .loop-test .taken) w (c .before .before .before .before .is-past .ensures) (not-false _ (c .before .before .before .if1 .left)) (c .before .before .is-head .ensures) (not-false _ (c .before .if2 .left)) (omega arith),
+      passing-on (c .before .before .before .before .before .before .before .before .before .before .before .before .args .body .now) (c .before .before .before .before .before .before .before .before .before .before .loop .p) (c .before .before .before .before .before .before .to .given .0 .0 .0) (c .before .before .before .before .before .before .before .before .before .before .loop .inv .5) (c .before .before .before .before .before .before .before .before .before .loop-test .taken) w (c .before .before .before .before .is-past .ensures) (not-false _ (c .before .before .before .if1 .left)) (c .before .before .is-head .ensures) (not-false _ (c .before .if2 .left)) (omega arith),
     )
 
 returns-5 : tie.Need-returns-5 Inv-loop μ-loop
@@ -84,7 +84,7 @@ block-entries-spec =
     value-end-requires
     enum-known-r
     returns
-    enum-known-e
+    enum-known-to
     is-past-requires
     returns-2
     is-head-requires

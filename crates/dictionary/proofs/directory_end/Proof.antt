@@ -26,14 +26,14 @@ enum-known-r c = search needs
 returns : tie.Need-returns Inv-loop μ-loop
 returns c = listings-refused (c .before .before .before .before .before .loop .inv .2) (c .before .before .before .before .loop-test .taken) (rw (c .before .r .given .1) at (c .before .before .before .value-end .ensures))
 
-enum-known-e : tie.Need-enum-known-e Inv-loop μ-loop
-enum-known-e c = search needs
+enum-known-to : tie.Need-enum-known-to Inv-loop μ-loop
+enum-known-to c = search needs
 
 sub-if1 : tie.Need-sub-if1 Inv-loop μ-loop
-sub-if1 c = let w = rw (c .before .e .given .1) at (c .before .before .before .value-end .ensures) in omega arith
+sub-if1 c = let w = rw (c .before .to .given .1) at (c .before .before .before .value-end .ensures) in omega arith
 
 returns-2 : tie.Need-returns-2 Inv-loop μ-loop
-returns-2 c = let w = rw (c .before .before .e .given .1) at (c .before .before .before .before .value-end .ensures) in listings-short (c .before .before .before .before .before .before .loop .inv .2) (c .before .before .before .before .before .loop-test .taken) (w .0) (simp length-drop (omega arith))
+returns-2 c = let w = rw (c .before .before .to .given .1) at (c .before .before .before .before .value-end .ensures) in listings-short (c .before .before .before .before .before .before .loop .inv .2) (c .before .before .before .before .before .loop-test .taken) (w .0) (simp length-drop (omega arith))
 
 add-p : tie.Need-add-p Inv-loop μ-loop
 add-p c = omega arith
@@ -45,7 +45,7 @@ loop-less : tie.Need-loop-less Inv-loop μ-loop
 loop-less c = omega arith
 
 loop-again : tie.Need-loop-again Inv-loop μ-loop
-loop-again c = let w = rw (c .before .before .e .given .1) at (c .before .before .before .before .value-end .ensures) in (omega arith, omega arith, rw (drop-past (c .before .before .before .before .before .before .before .before .args .body .now) (c .before .before .before .before .before .before .loop .p) (c .before .before .e .given .0 .0) 4 (omega arith)) at (listings-next (c .before .before .before .before .before .before .loop .inv .2) (c .before .before .before .before .before .loop-test .taken) (w .0) (simp length-drop (omega arith))))
+loop-again c = let w = rw (c .before .before .to .given .1) at (c .before .before .before .before .value-end .ensures) in (omega arith, omega arith, rw (drop-past (c .before .before .before .before .before .before .before .before .args .body .now) (c .before .before .before .before .before .before .loop .p) (c .before .before .to .given .0 .0 .0) 4 (omega arith)) at (listings-next (c .before .before .before .before .before .before .loop .inv .2) (c .before .before .before .before .before .loop-test .taken) (w .0) (simp length-drop (omega arith))))
 
 returns-3 : tie.Need-returns-3 Inv-loop μ-loop
 returns-3 c = let st = c .before .loop .inv .2 in (st .ds, listings-done st (c .loop-test .left), listings-stand st, omega (arith, st .count), c .before .loop .inv .0)
@@ -60,7 +60,7 @@ directory-end-spec =
     value-end-requires
     enum-known-r
     returns
-    enum-known-e
+    enum-known-to
     sub-if1
     returns-2
     add-p

@@ -27,38 +27,38 @@ enum-known-r c = search needs
 returns : tie.Need-returns Inv-loop μ-loop
 returns c = one-refused (c .before .before .before .before .before .loop .inv .2) (c .before .before .before .before .loop-test .taken) (c .before .r .given .0 .0) (rw (c .before .r .given .1) at (c .before .before .before .value-end .ensures))
 
-enum-known-e : tie.Need-enum-known-e Inv-loop μ-loop
-enum-known-e c = search needs
+enum-known-to : tie.Need-enum-known-to Inv-loop μ-loop
+enum-known-to c = search needs
 
 sub-taken : tie.Need-sub-taken Inv-loop μ-loop
-sub-taken c = let w = rw (c .before .e .given .1) at (c .before .before .before .value-end .ensures) in omega arith
+sub-taken c = let w = rw (c .before .to .given .1) at (c .before .before .before .value-end .ensures) in omega arith
 
 part-taken-start : tie.Need-part-taken-start Inv-loop μ-loop
-part-taken-start c = let w = rw (c .before .e .given .1) at (c .before .before .before .value-end .ensures) in omega arith
+part-taken-start c = let w = rw (c .before .to .given .1) at (c .before .before .before .value-end .ensures) in omega arith
 
 part-taken-end : tie.Need-part-taken-end Inv-loop μ-loop
-part-taken-end c = let w = rw (c .before .e .given .1) at (c .before .before .before .value-end .ensures) in omega arith
+part-taken-end c = let w = rw (c .before .to .given .1) at (c .before .before .before .value-end .ensures) in omega arith
 
 taken-requires : tie.Need-taken-requires Inv-loop μ-loop
 taken-requires c κs = search needs
 
 returns-2 : tie.Need-returns-2 Inv-loop μ-loop
 returns-2 c =
-    let w = rw (c .before .before .before .before .e .given .1) at (c .before .before .before .before .before .before .value-end .ensures) in
+    let w = rw (c .before .before .before .before .to .given .1) at (c .before .before .before .before .before .before .value-end .ensures) in
     let st = c .before .before .before .before .before .before .before .before .loop .inv .2 in
     one-taken st (c .before .before .before .before .before .before .before .loop-test .taken) (w .0) (c .before .taken .ensures (c .before .before .before .before .before .before .before .before .before .before .args .n) (st .es) (one-stand st) (st .count) (c .before .before .before .before .before .before .before .before .loop .inv .1)) (c .if1 .taken)
 
 sub-if2 : tie.Need-sub-if2 Inv-loop μ-loop
-sub-if2 c = let w = rw (c .before .before .before .before .e .given .1) at (c .before .before .before .before .before .before .value-end .ensures) in omega arith
+sub-if2 c = let w = rw (c .before .before .before .before .to .given .1) at (c .before .before .before .before .before .before .value-end .ensures) in omega arith
 
 returns-3 : tie.Need-returns-3 Inv-loop μ-loop
 returns-3 c =
-    let w = rw (c .before .before .before .before .before .e .given .1) at (c .before .before .before .before .before .before .before .value-end .ensures) in
+    let w = rw (c .before .before .before .before .before .to .given .1) at (c .before .before .before .before .before .before .before .value-end .ensures) in
     let st = c .before .before .before .before .before .before .before .before .before .loop .inv .2 in
     one-short st (c .before .before .before .before .before .before .before .before .loop-test .taken) (w .0) (c .before .before .taken .ensures (c .before .before .before .before .before .before .before .before .before .before .before .args .n) (st .es) (one-stand st) (st .count) (c .before .before .before .before .before .before .before .before .before .loop .inv .1)) (c .before .if1 .left) (simp length-drop (omega arith))
 
 add-p : tie.Need-add-p Inv-loop μ-loop
-add-p c = let w = rw (c .before .before .before .before .before .e .given .1) at (c .before .before .before .before .before .before .before .value-end .ensures) in omega arith
+add-p c = let w = rw (c .before .before .before .before .before .to .given .1) at (c .before .before .before .before .before .before .before .value-end .ensures) in omega arith
 
 add-i : tie.Need-add-i Inv-loop μ-loop
 add-i c = omega arith
@@ -68,11 +68,11 @@ loop-less c = omega arith
 
 loop-again : tie.Need-loop-again Inv-loop μ-loop
 loop-again c =
-    let w = rw (c .before .before .before .before .before .e .given .1) at (c .before .before .before .before .before .before .before .value-end .ensures) in
+    let w = rw (c .before .before .before .before .before .to .given .1) at (c .before .before .before .before .before .before .before .value-end .ensures) in
     let st = c .before .before .before .before .before .before .before .before .before .loop .inv .2 in (
       omega arith,
       omega arith,
-      rw (drop-past (c .before .before .before .before .before .before .before .before .before .before .before .args .body .now) (c .before .before .before .before .before .before .before .before .before .loop .p) (c .before .before .before .before .before .e .given .0 .0) 4 (omega arith)) at (one-next st (c .before .before .before .before .before .before .before .before .loop-test .taken) (w .0) (c .before .before .taken .ensures (c .before .before .before .before .before .before .before .before .before .before .before .args .n) (st .es) (one-stand st) (st .count) (c .before .before .before .before .before .before .before .before .before .loop .inv .1)) (c .before .if1 .left) (simp length-drop (omega arith))),
+      rw (drop-past (c .before .before .before .before .before .before .before .before .before .before .before .args .body .now) (c .before .before .before .before .before .before .before .before .before .loop .p) (c .before .before .before .before .before .to .given .0 .0 .0) 4 (omega arith)) at (one-next st (c .before .before .before .before .before .before .before .before .loop-test .taken) (w .0) (c .before .before .taken .ensures (c .before .before .before .before .before .before .before .before .before .before .before .args .n) (st .es) (one-stand st) (st .count) (c .before .before .before .before .before .before .before .before .before .loop .inv .1)) (c .before .if1 .left) (simp length-drop (omega arith))),
     )
 
 returns-4 : tie.Need-returns-4 Inv-loop μ-loop
@@ -88,7 +88,7 @@ entries-one-spec =
     value-end-requires
     enum-known-r
     returns
-    enum-known-e
+    enum-known-to
     sub-taken
     part-taken-start
     part-taken-end

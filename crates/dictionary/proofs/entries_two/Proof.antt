@@ -15,8 +15,8 @@ counted : (c : tie.After-known-told2) → CountAt 65536 (c .before .before .befo
 counted c = rw (c .before .b .given .1) at (c .before .before .before .count-at .ensures)
 
 listed : (c : tie.After-known-told4)
-    → DirectoryAt (c .before .before .before .before .before .before .before .before .before .before .before .args .t) (c .before .before .before .before .before .before .before .b .given .0 .0) (c .before .before .before .before .before .before .before .before .before .before .before .args .body .now) (c .before .before .before .before .before .before .before .before .before .before .before .args .at + 4) (Directory.Ends (c .before .e .given .0 .0))
-listed c = rw (c .before .e .given .1) at (c .before .before .before .directory-end .ensures)
+    → DirectoryAt (c .before .before .before .before .before .before .before .before .before .before .before .args .t) (c .before .before .before .before .before .before .before .b .given .0 .0) (c .before .before .before .before .before .before .before .before .before .before .before .args .body .now) (c .before .before .before .before .before .before .before .before .before .before .before .args .at + 4) (Directory.Ends (c .before .to .given .0 .0))
+listed c = rw (c .before .to .given .1) at (c .before .before .before .directory-end .ensures)
 
 count-at-requires : tie.Need-count-at-requires
 count-at-requires c κs = search needs
@@ -48,8 +48,8 @@ enum-known-r-2 c = search needs
 returns-3 : tie.Need-returns-3
 returns-3 c = let k = c .before .before .before .before .before .before in two-directory (k .before .before .before .before .before .args .t) (k .before .before .before .before .before .args .n) (k .before .before .before .before .before .args .body .now) (k .before .before .before .before .before .args .at) (counted k) (c .before .before .before .before .before .blocks-fit .ensures) (not-false _ (c .before .before .before .before .if1 .left)) (rw (c .before .r2 .given .1) at (c .before .before .before .directory-end .ensures))
 
-enum-known-e : tie.Need-enum-known-e
-enum-known-e c = search needs
+enum-known-to : tie.Need-enum-known-to
+enum-known-to c = search needs
 
 sub-if2 : tie.Need-sub-if2
 sub-if2 c = omega (arith, listed c .4)
@@ -101,7 +101,7 @@ entries-two-spec =
     directory-end-requires
     enum-known-r-2
     returns-3
-    enum-known-e
+    enum-known-to
     sub-if2
     returns-4
     be32-requires

@@ -1,7 +1,10 @@
--- `entry_at` meets its contract: the entry that stands there is the one that is made, and where the code makes none, none stands. Assumes nothing.
+-- `entry_at` meets its contract: each way out is a case of the definition of the entry at a position. Assumes nothing.
+use mathlib.Core.Path.{_∙_}
 use native.Mathlib.Omega.{arith}
 use borrow.Author.Needs.{needs}
-use Rattle.dictionary.proofs.Cursor.{step-none, step-lost, step-short, step-entry}
+use Rattle.numbers.specs.Meaning.{beAt}
+use Rattle.dictionary.specs.Offsets.{signed-passed}
+use Rattle.dictionary.specs.Cursor.{entry-none, entry-lost, made-none, made}
 use Rattle.dictionary.proofs.entry_at.Statement.{statement}
 use Rattle.dictionary.proofs.entry_at.Tie as tie
 
@@ -9,7 +12,9 @@ no-entry-requires : tie.Need-no-entry-requires
 no-entry-requires c κs = search needs
 
 returns : tie.Need-returns
-returns c = λ e es. let a = c .before .before .before .args in step-none (a .t) (a .two) (a .body .now) (a .at) (a .n) (c .no-entry .result) e es (c .before .if1 .taken)
+returns c =
+    let a = c .before .before .before .args in
+    c .no-entry .ensures ∙ entry-none (a .t) (a .two) (a .body .now) (a .at) (a .n) (c .before .if1 .taken)
 
 value-end-requires : tie.Need-value-end-requires
 value-end-requires c κs = search needs
@@ -21,43 +26,47 @@ no-entry-requires-2 : tie.Need-no-entry-requires-2
 no-entry-requires-2 c κs = search needs
 
 returns-2 : tie.Need-returns-2
-returns-2 c = λ e es. let a = c .before .before .before .before .before .before .args in step-lost (a .t) (a .two) (a .body .now) (a .at) (a .n) (c .no-entry2 .result) e es (rw (c .before .enum-told .given .1) at (c .before .before .before .value-end .ensures))
+returns-2 c =
+    let a = c .before .before .before .before .before .before .args in
+    c .no-entry2 .ensures ∙ entry-lost (a .t) (a .two) (a .body .now) (a .at) (a .n) (omega arith) (rw (c .before .enum-told .given .1) at (c .before .before .before .value-end .ensures))
 
-enum-known-e : tie.Need-enum-known-e
-enum-known-e c = search needs
+enum-known-to : tie.Need-enum-known-to
+enum-known-to c = search needs
 
 behind-value-requires : tie.Need-behind-value-requires
 behind-value-requires c κs = search needs
 
 sub-if2 : tie.Need-sub-if2
-sub-if2 c = let w = rw (c .before .before .e .given .1) at (c .before .before .before .before .value-end .ensures) in omega arith
+sub-if2 c = let w = rw (c .before .before .to .given .1) at (c .before .before .before .before .value-end .ensures) in omega arith
 
 no-entry-requires-3 : tie.Need-no-entry-requires-3
 no-entry-requires-3 c κs = search needs
 
 returns-3 : tie.Need-returns-3
-returns-3 c = λ e es l st.
+returns-3 c =
     let a = c .before .before .before .before .before .before .before .before .before .args in
-    let w = rw (c .before .before .before .before .e .given .1) at (c .before .before .before .before .before .before .value-end .ensures) in
-    step-short (a .t) (a .two) (a .body .now) (a .at) (a .n) (c .no-entry3 .result) e es (c .before .before .before .before .e .given .0 .0) w l st (omega (arith, c .before .before .behind-value .ensures))
+    let w = rw (c .before .before .before .before .to .given .1) at (c .before .before .before .before .before .before .value-end .ensures) in
+    c .no-entry3 .ensures ∙ made-none (a .t) (a .two) (a .body .now) (a .at) (a .n) (omega arith) (w .0) (omega arith) (c .before .before .behind-value .ensures .0) (omega arith)
 
-be32-requires : tie.Need-be32-requires
-be32-requires c κs = let w = rw (c .before .before .before .e .given .1) at (c .before .before .before .before .before .value-end .ensures) in let l = c .before .behind-value .ensures in omega arith
+offset-at-requires : tie.Need-offset-at-requires
+offset-at-requires c κs = let w = rw (c .before .before .before .to .given .1) at (c .before .before .before .before .before .value-end .ensures) in let l = c .before .behind-value .ensures in omega arith
 
 extent-at-requires : tie.Need-extent-at-requires
-extent-at-requires c κs = let w = rw (c .before .before .before .before .e .given .1) at (c .before .before .before .before .before .before .value-end .ensures) in let l = c .before .before .behind-value .ensures in omega arith
+extent-at-requires c κs = let w = rw (c .before .before .before .before .to .given .1) at (c .before .before .before .before .before .before .value-end .ensures) in let l = c .before .before .behind-value .ensures in omega arith
 
-add-t10 : tie.Need-add-t10
-add-t10 c = let w = rw (c .before .before .before .before .before .e .given .1) at (c .before .before .before .before .before .before .before .value-end .ensures) in let l = c .before .before .before .behind-value .ensures in omega arith
+add-t11 : tie.Need-add-t11
+add-t11 c = let w = rw (c .before .before .before .before .before .to .given .1) at (c .before .before .before .before .before .before .before .value-end .ensures) in let l = c .before .before .before .behind-value .ensures in omega arith
 
-sub-t16 : tie.Need-sub-t16
-sub-t16 c = omega arith
+sub-t19 : tie.Need-sub-t19
+sub-t19 c = omega arith
 
 returns-4 : tie.Need-returns-4
 returns-4 c =
     let a = c .before .before .before .before .before .before .before .before .before .before .args in
-    let w = rw (c .before .before .before .before .before .e .given .1) at (c .before .before .before .before .before .before .before .value-end .ensures) in
-    step-entry (a .t) (a .two) (a .body .now) (a .at) (a .n) (c .before .before .before .before .before .e .given .0 .0) w (c .before .before .before .behind-value .ensures .0) (omega arith) (c .before .be32 .ensures .0) (c .extent-at .ensures)
+    let e = c .before .before .before .before .before .to .given .0 .0 .0 in
+    let w = rw (c .before .before .before .before .before .to .given .1) at (c .before .before .before .before .before .before .before .value-end .ensures) in
+    let o = c .before .offset-at .ensures in
+    made (a .t) (a .two) (a .body .now) (a .at) (a .n) (omega arith) (w .0) (omega arith) (c .before .before .before .behind-value .ensures .0) (omega arith) (signed-passed (beAt 4 (a .body .now) e) (o .0) (o .1)) (c .extent-at .ensures)
 
 pub entry-at-spec : {M : Type 1} → statement M
 entry-at-spec =
@@ -69,13 +78,13 @@ entry-at-spec =
     enum-told
     no-entry-requires-2
     returns-2
-    enum-known-e
+    enum-known-to
     behind-value-requires
     sub-if2
     no-entry-requires-3
     returns-3
-    be32-requires
+    offset-at-requires
     extent-at-requires
-    add-t10
-    sub-t16
+    add-t11
+    sub-t19
     returns-4)

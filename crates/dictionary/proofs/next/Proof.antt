@@ -1,7 +1,9 @@
--- `next` meets its contract: where a block's number is due it is read first, and `entry_at` makes the entry. Assumes nothing.
+-- `next` meets its contract: where a block's number is due it is read first, and `entry_at` makes the entry. What stands there is then a law of the
+-- definition (`next-stands`). Assumes nothing.
+use mathlib.Core.Path.{_∙_}
 use native.Mathlib.Omega.{arith}
 use borrow.Author.Needs.{needs}
-use Rattle.dictionary.proofs.Cursor.{step-opened}
+use Rattle.dictionary.specs.Cursor.{next-cut, next-opened, next-open, next-stands}
 use Rattle.dictionary.proofs.next.Statement.{statement}
 use Rattle.dictionary.proofs.next.Tie as tie
 
@@ -9,7 +11,10 @@ no-entry-requires : tie.Need-no-entry-requires
 no-entry-requires c κs = search needs
 
 returns : tie.Need-returns
-returns c = λ e es st. let a = c .before .before .before .before .args in let h = step-opened (a .t) (a .two) (a .body .now) (a .at) e es (rw (c .before .before .if1 .taken) at st) in absurd (omega arith)
+returns c =
+    let a = c .before .before .before .before .args in
+    let r = c .no-entry .ensures ∙ next-cut (a .t) (a .two) (a .body .now) (a .at .0) (a .left) (c .before .before .if1 .taken) (omega arith) in
+    (r, next-stands (a .t) (a .two) (a .body .now) (a .at .0) (a .left) (λ i. c .before .before .before .shared-slice-known .given i .fits) r)
 
 sub-if3 : tie.Need-sub-if3
 sub-if3 c = search needs
@@ -18,7 +23,10 @@ no-entry-requires-2 : tie.Need-no-entry-requires-2
 no-entry-requires-2 c κs = search needs
 
 returns-2 : tie.Need-returns-2
-returns-2 c = λ e es st. let a = c .before .before .before .before .before .args in let h = step-opened (a .t) (a .two) (a .body .now) (a .at) e es (rw (c .before .before .before .if1 .taken) at st) in absurd (omega arith)
+returns-2 c =
+    let a = c .before .before .before .before .before .args in
+    let r = c .no-entry2 .ensures ∙ next-cut (a .t) (a .two) (a .body .now) (a .at .0) (a .left) (c .before .before .before .if1 .taken) (omega arith) in
+    (r, next-stands (a .t) (a .two) (a .body .now) (a .at .0) (a .left) (λ i. c .before .before .before .before .shared-slice-known .given i .fits) r)
 
 be32-requires : tie.Need-be32-requires
 be32-requires c κs = search needs
@@ -30,13 +38,19 @@ entry-at-requires : tie.Need-entry-at-requires
 entry-at-requires c κs = search needs
 
 returns-3 : tie.Need-returns-3
-returns-3 c = λ e es st. let a = c .before .before .before .before .before .before .args in let h = step-opened (a .t) (a .two) (a .body .now) (a .at) e es (rw (c .before .before .before .before .if1 .taken) at st) in c .entry-at .ensures e es (rw (c .before .be32 .ensures .0) (h .1)) (rw (c .before .be32 .ensures .0) (h .2))
+returns-3 c =
+    let a = c .before .before .before .before .before .before .args in
+    let r = c .entry-at .ensures ∙ next-opened (a .t) (a .two) (a .body .now) (a .at .0) (a .left) (c .before .before .before .before .if1 .taken) (omega arith) (c .before .be32 .ensures .0) in
+    (r, next-stands (a .t) (a .two) (a .body .now) (a .at .0) (a .left) (λ i. c .before .before .before .before .before .shared-slice-known .given i .fits) r)
 
 entry-at-requires-2 : tie.Need-entry-at-requires-2
 entry-at-requires-2 c κs = search needs
 
 returns-4 : tie.Need-returns-4
-returns-4 c = λ e es st. c .entry-at2 .ensures e es (omega arith) st
+returns-4 c =
+    let a = c .before .before .before .args in
+    let r = c .entry-at2 .ensures ∙ next-open (a .t) (a .two) (a .body .now) (a .at .0) (a .left) (c .before .if1 .left) in
+    (r, next-stands (a .t) (a .two) (a .body .now) (a .at .0) (a .left) (λ i. c .before .before .shared-slice-known .given i .fits) r)
 
 pub next-spec : {M : Type 1} → statement M
 next-spec =

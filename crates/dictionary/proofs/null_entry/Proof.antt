@@ -1,13 +1,17 @@
 -- `null_entry` meets its contract: each way out is a law of the reading of null's entry. Assumes nothing.
+use mathlib.Core.Path.{refl}
 use native.Mathlib.Omega.{arith}
+use lib.IntN.{pos}
 use borrow.Author.Needs.{needs}
 use borrow.Author.Tests.{not-true, not-false}
-use Rattle.dictionary.proofs.Fields.{null-none, null-short, null-one, null-cut, null-two}
+use Rattle.dictionary.proofs.Fields.{has-one, null-none, null-short, null-one, null-cut, null-two}
 use Rattle.dictionary.proofs.null_entry.Statement.{statement}
 use Rattle.dictionary.proofs.null_entry.Tie as tie
 
 returns : tie.Need-returns
-returns c = let a = c .before .before .args in (null-none (a .body .now) (a .at) (a .two) (not-true _ (c .if1 .taken)) 0 0, search needs)
+returns c =
+    let a = c .before .before .args in
+    (null-none (a .body .now) (a .at) (a .two) (not-true _ (c .if1 .taken)) (pos 0) 0, search needs, λ n. (refl, refl))
 
 sub-if2 : tie.Need-sub-if2
 sub-if2 c = search needs
@@ -15,29 +19,40 @@ sub-if2 c = search needs
 returns-2 : tie.Need-returns-2
 returns-2 c = let a = c .before .before .before .args in null-short (a .body .now) (a .at) (a .two) (not-false _ (c .before .if1 .left)) (c .if2 .taken)
 
-be32-requires : tie.Need-be32-requires
-be32-requires c κs = search needs
+offset-at-requires : tie.Need-offset-at-requires
+offset-at-requires c κs = search needs
 
 add-p : tie.Need-add-p
 add-p c = search needs
 
 returns-3 : tie.Need-returns-3
-returns-3 c = let a = c .before .before .before .before .before .args in (null-one (a .body .now) (a .at) (a .two) (not-false _ (c .before .before .before .if1 .left)) (omega arith) (c .before .be32 .ensures .0) (not-true _ (c .if3 .taken)), omega arith)
+returns-3 c =
+    let a = c .before .before .before .before .before .args in
+    let has = not-false _ (c .before .before .before .if1 .left) in
+    let o = c .before .offset-at .ensures in
+    (null-one (a .body .now) (a .at) (a .two) has (omega arith) (o .0) (o .1) (not-true _ (c .if3 .taken)), omega arith, has-one has)
 
 sub-if4 : tie.Need-sub-if4
 sub-if4 c = search needs
 
 returns-4 : tie.Need-returns-4
-returns-4 c = let a = c .before .before .before .before .before .before .args in null-cut (a .body .now) (a .at) (a .two) (not-false _ (c .before .before .before .before .if1 .left)) (omega arith) (c .before .before .be32 .ensures .0) (not-false _ (c .before .if3 .left)) (c .if4 .taken)
+returns-4 c =
+    let a = c .before .before .before .before .before .before .args in
+    let o = c .before .before .offset-at .ensures in
+    null-cut (a .body .now) (a .at) (a .two) (not-false _ (c .before .before .before .before .if1 .left)) (omega arith) (o .0) (o .1) (not-false _ (c .before .if3 .left)) (c .if4 .taken)
 
-be32-requires-2 : tie.Need-be32-requires-2
-be32-requires-2 c κs = search needs
+be32-requires : tie.Need-be32-requires
+be32-requires c κs = search needs
 
-add-t8 : tie.Need-add-t8
-add-t8 c = search needs
+add-t9 : tie.Need-add-t9
+add-t9 c = search needs
 
 returns-5 : tie.Need-returns-5
-returns-5 c = let a = c .before .before .before .before .before .before .before .args in (null-two (a .body .now) (a .at) (a .two) (not-false _ (c .before .before .before .before .before .if1 .left)) (omega arith) (c .before .before .before .be32 .ensures .0) (not-false _ (c .before .before .if3 .left)) (omega arith) (c .be322 .ensures .0), omega arith)
+returns-5 c =
+    let a = c .before .before .before .before .before .before .before .args in
+    let has = not-false _ (c .before .before .before .before .before .if1 .left) in
+    let o = c .before .before .before .offset-at .ensures in
+    (null-two (a .body .now) (a .at) (a .two) has (omega arith) (o .0) (o .1) (not-false _ (c .before .before .if3 .left)) (omega arith) (c .be32 .ensures .0), omega arith, has-one has)
 
 pub null-entry-spec : {M : Type 1} → statement M
 null-entry-spec =
@@ -46,11 +61,11 @@ null-entry-spec =
     returns
     sub-if2
     returns-2
-    be32-requires
+    offset-at-requires
     add-p
     returns-3
     sub-if4
     returns-4
-    be32-requires-2
-    add-t8
+    be32-requires
+    add-t9
     returns-5)

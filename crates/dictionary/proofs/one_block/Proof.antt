@@ -10,8 +10,8 @@ use Rattle.dictionary.proofs.one_block.Statement.{statement}
 use Rattle.dictionary.proofs.one_block.Tie as tie
 
 -- the listing's value
-found : (c : tie.After-known-told2) → ValueAt (c .before .before .before .before .before .args .t) (c .before .before .before .before .before .args .body .now) (c .before .before .before .before .before .args .q) (Value.To (c .before .e .given .0 .0))
-found c = rw (c .before .e .given .1) at (c .before .before .before .value-end .ensures)
+found : (c : tie.After-known-told2) → ValueAt (c .before .before .before .before .before .args .t) (c .before .before .before .before .before .args .body .now) (c .before .before .before .before .before .args .q) (Value.To (c .before .to .given .0 .0))
+found c = rw (c .before .to .given .1) at (c .before .before .before .value-end .ensures)
 
 value-end-requires : tie.Need-value-end-requires
 value-end-requires c κs = search needs
@@ -22,8 +22,8 @@ enum-known-r c = search needs
 returns : tie.Need-returns
 returns c = λ d ds l. let a = c .before .before .before .before .before .args in absurd (listed-lost (a .t) (a .body .now) (a .q) (c .before .r .given .0 .0) d ds (rw (c .before .r .given .1) at (c .before .before .before .value-end .ensures)) l)
 
-enum-known-e : tie.Need-enum-known-e
-enum-known-e c = search needs
+enum-known-to : tie.Need-enum-known-to
+enum-known-to c = search needs
 
 sub-if1 : tie.Need-sub-if1
 sub-if1 c = let w = found c in omega arith
@@ -33,7 +33,7 @@ returns-2 c = λ d ds l.
     let k = c .before in
     let b = k .before .before .before .before .before in
     let a = b .args in
-    let w = block-listed (a .t) (a .body .now) (a .base) (a .q) (a .p) (k .before .e .given .0 .0) (b .pre .0) (b .pre .1) (found k) (cellAt (a .body .now) (a .before)) d ds l .0 in absurd (omega arith)
+    let w = block-listed (a .t) (a .body .now) (a .base) (a .q) (a .p) (k .before .to .given .0 .0 .0) (b .pre .0) (b .pre .1) (found k) (cellAt (a .body .now) (a .before)) d ds l .0 in absurd (omega arith)
 
 be32-requires : tie.Need-be32-requires
 be32-requires c κs = search needs
@@ -46,7 +46,7 @@ returns-3 c = λ d ds l es f.
     let k = c .before .before .before in
     let b = k .before .before .before .before .before in
     let a = b .args in
-    block-misplaced (a .t) (a .body .now) (a .base) (a .q) (a .p) (k .before .e .given .0 .0) (b .pre .0) (b .pre .1) (found k) (cellAt (a .body .now) (a .before)) d ds l es f (c .before .be32 .ensures .0) (c .if2 .taken)
+    block-misplaced (a .t) (a .body .now) (a .base) (a .q) (a .p) (k .before .to .given .0 .0 .0) (b .pre .0) (b .pre .1) (found k) (cellAt (a .body .now) (a .before)) d ds l es f (c .before .be32 .ensures .0) (c .if2 .taken)
 
 sub-if3 : tie.Need-sub-if3
 sub-if3 c = search needs
@@ -56,7 +56,7 @@ returns-4 c = λ d ds l es f.
     let k = c .before .before .before .before in
     let b = k .before .before .before .before .before in
     let a = b .args in
-    block-short (a .t) (a .body .now) (a .base) (a .q) (a .p) (k .before .e .given .0 .0) (b .pre .0) (b .pre .1) (found k) (cellAt (a .body .now) (a .before)) d ds l es f (c .before .before .be32 .ensures .0) (c .before .if2 .left) (c .if3 .taken)
+    block-short (a .t) (a .body .now) (a .base) (a .q) (a .p) (k .before .to .given .0 .0 .0) (b .pre .0) (b .pre .1) (found k) (cellAt (a .body .now) (a .before)) d ds l es f (c .before .before .be32 .ensures .0) (c .before .if2 .left) (c .if3 .taken)
 
 be32-requires-2 : tie.Need-be32-requires-2
 be32-requires-2 c κs = search needs
@@ -66,14 +66,14 @@ returns-5 c = λ d ds l es f.
     let k = c .before .before .before .before .before .before in
     let b = k .before .before .before .before .before in
     let a = b .args in
-    block-none (a .t) (a .body .now) (a .base) (a .q) (a .p) (k .before .e .given .0 .0) (b .pre .0) (b .pre .1) (found k) (cellAt (a .body .now) (a .before)) d ds l es f (c .before .before .before .before .be32 .ensures .0) (c .before .before .before .if2 .left) (omega arith) (c .before .be322 .ensures .0) (c .if4 .taken)
+    block-none (a .t) (a .body .now) (a .base) (a .q) (a .p) (k .before .to .given .0 .0 .0) (b .pre .0) (b .pre .1) (found k) (cellAt (a .body .now) (a .before)) d ds l es f (c .before .before .before .before .be32 .ensures .0) (c .before .before .before .if2 .left) (omega arith) (c .before .be322 .ensures .0) (c .if4 .taken)
 
 returns-6 : tie.Need-returns-6
 returns-6 c = λ d ds l es f.
     let k = c .before .before .before .before .before .before .before in
     let b = k .before .before .before .before .before in
     let a = b .args in
-    block-negative (a .t) (a .body .now) (a .base) (a .q) (a .p) (k .before .e .given .0 .0) (b .pre .0) (b .pre .1) (found k) (cellAt (a .body .now) (a .before)) d ds l es f (c .before .before .before .before .before .be32 .ensures .0) (c .before .before .before .before .if2 .left) (omega arith) (c .before .before .be322 .ensures .0) (c .before .if4 .left) (c .if5 .taken)
+    block-negative (a .t) (a .body .now) (a .base) (a .q) (a .p) (k .before .to .given .0 .0 .0) (b .pre .0) (b .pre .1) (found k) (cellAt (a .body .now) (a .before)) d ds l es f (c .before .before .before .before .before .be32 .ensures .0) (c .before .before .before .before .if2 .left) (omega arith) (c .before .before .be322 .ensures .0) (c .before .if4 .left) (c .if5 .taken)
 
 add-block-entries : tie.Need-add-block-entries
 add-block-entries c = search needs
@@ -89,13 +89,13 @@ returns-7 c = λ d ds l es f.
     let k = c .before .before .before .before .before .before .before .before .before .before .before in
     let b = k .before .before .before .before .before in
     let a = b .args in
-    block-refused (a .t) (a .body .now) (a .base) (a .q) (a .p) (k .before .e .given .0 .0) (b .pre .0) (b .pre .1) (found k) (cellAt (a .body .now) (a .before)) d ds l es f (c .before .before .before .before .before .before .before .before .before .be32 .ensures .0) (c .before .before .before .before .before .before .before .before .if2 .left) (omega arith) (c .before .before .before .before .before .before .be322 .ensures .0) (c .before .before .before .before .before .if4 .left) (c .before .before .before .before .if5 .left) (rw (c .before .r2 .given .1) at (c .before .before .before .block-entries .ensures))
+    block-refused (a .t) (a .body .now) (a .base) (a .q) (a .p) (k .before .to .given .0 .0 .0) (b .pre .0) (b .pre .1) (found k) (cellAt (a .body .now) (a .before)) d ds l es f (c .before .before .before .before .before .before .before .before .before .be32 .ensures .0) (c .before .before .before .before .before .before .before .before .if2 .left) (omega arith) (c .before .before .before .before .before .before .be322 .ensures .0) (c .before .before .before .before .before .if4 .left) (c .before .before .before .before .if5 .left) (rw (c .before .r2 .given .1) at (c .before .before .before .block-entries .ensures))
 
 enum-known-next : tie.Need-enum-known-next
 enum-known-next c = search needs
 
-add-t27 : tie.Need-add-t27
-add-t27 c = search needs
+add-listing : tie.Need-add-listing
+add-listing c = search needs
 
 returns-8 : tie.Need-returns-8
 returns-8 c =
@@ -104,10 +104,10 @@ returns-8 c =
     let a = b .args in
     let x = rw (c .before .next .given .1) at (c .before .before .before .block-entries .ensures) in (
       λ d ds l. (
-        block-listed (a .t) (a .body .now) (a .base) (a .q) (a .p) (k .before .e .given .0 .0) (b .pre .0) (b .pre .1) (found k) (cellAt (a .body .now) (a .before)) d ds l .1,
+        block-listed (a .t) (a .body .now) (a .base) (a .q) (a .p) (k .before .to .given .0 .0 .0) (b .pre .0) (b .pre .1) (found k) (cellAt (a .body .now) (a .before)) d ds l .1,
         (
           x .0 .0,
-          λ es f. block-passed (a .t) (a .body .now) (a .base) (a .q) (a .p) (k .before .e .given .0 .0) (b .pre .0) (b .pre .1) (found k) (cellAt (a .body .now) (a .before)) d ds l es f (c .before .before .before .before .before .before .before .before .before .be32 .ensures .0) (c .before .before .before .before .before .before .before .before .if2 .left) (omega arith) (c .before .before .before .before .before .before .be322 .ensures .0) (c .before .before .before .before .before .if4 .left) (c .before .before .before .before .if5 .left) (c .before .next .given .0 .1 .0) x,
+          λ es f. block-passed (a .t) (a .body .now) (a .base) (a .q) (a .p) (k .before .to .given .0 .0 .0) (b .pre .0) (b .pre .1) (found k) (cellAt (a .body .now) (a .before)) d ds l es f (c .before .before .before .before .before .before .before .before .before .be32 .ensures .0) (c .before .before .before .before .before .before .before .before .if2 .left) (omega arith) (c .before .before .before .before .before .before .be322 .ensures .0) (c .before .before .before .before .before .if4 .left) (c .before .before .before .before .if5 .left) (c .before .next .given .0 .1 .0) x,
           x .0 .2,
           λ more g. block-stand (a .t) (a .body .now) (a .p) (x .0 .0 ++ more) (omega arith) (c .before .before .before .before .before .before .be322 .ensures .0) (c .before .before .before .before .before .if4 .left) (simp length-append (omega (arith, x .0 .2))) (x .0 .3 more g),
         ),
@@ -125,7 +125,7 @@ one-block-spec =
     value-end-requires
     enum-known-r
     returns
-    enum-known-e
+    enum-known-to
     sub-if1
     returns-2
     be32-requires
@@ -141,5 +141,5 @@ one-block-spec =
     enum-known-r-2
     returns-7
     enum-known-next
-    add-t27
+    add-listing
     returns-8)

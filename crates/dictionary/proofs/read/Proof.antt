@@ -41,7 +41,7 @@ enum-known-entries : tie.Need-enum-known-entries
 enum-known-entries c = search needs
 
 returns-4 : tie.Need-returns-4
-returns-4 c = read-found (c .before .before .before .before .before .before .before .before .before .before .before .before .before .args .t) (c .before .before .before .before .before .before .before .before .before .before .before .before .before .args .body .now) (c .before .before .before .before .before .before .before .before .before .two .given .1) (c .before .before .before .before .before .before .before .before .before .before .before .fixed-fields .ensures) (c .before .before .before .before .before .before .before .null-entry .ensures) (c .before .before .before .before .before .offset .given .1) (c .before .before .before .entries .ensures) (c .before .entries2 .given .1)
+returns-4 c = read-found (c .before .before .before .before .before .before .before .before .before .before .before .before .before .args .t) (c .before .before .before .before .before .before .before .before .before .before .before .before .before .args .body .now) (c .before .before .before .before .before .before .before .before .before .two .given .1) (c .before .before .before .before .before .before .before .before .before .before .before .fixed-fields .ensures) (c .before .before .before .before .before .before .before .null-entry .ensures) (c .before .before .before .before .before .offset .given .1) (c .before .before .before .entries .ensures) (record { sfits = c .before .before .before .before .known-told4 .given .0 .1 }) (c .before .entries2 .given .1)
 
 pub read-spec : {M : Type 1} → statement M
 read-spec =

@@ -25,26 +25,26 @@ enum-told c = search needs
 returns : tie.Need-returns Inv-loop μ-loop
 returns c = sought-lost (c .before .before .before .before .loop .inv) (c .before .before .before .loop-test .taken) (rw (c .enum-told .given .1) at (c .before .before .value-end .ensures))
 
-enum-known-e : tie.Need-enum-known-e Inv-loop μ-loop
-enum-known-e c = search needs
+enum-known-to : tie.Need-enum-known-to Inv-loop μ-loop
+enum-known-to c = search needs
 
 sub-same : tie.Need-sub-same Inv-loop μ-loop
-sub-same c = let w = rw (c .before .e .given .1) at (c .before .before .before .value-end .ensures) in omega arith
+sub-same c = let w = rw (c .before .to .given .1) at (c .before .before .before .value-end .ensures) in omega arith
 
 part-same-start : tie.Need-part-same-start Inv-loop μ-loop
-part-same-start c = let w = rw (c .before .e .given .1) at (c .before .before .before .value-end .ensures) in omega arith
+part-same-start c = let w = rw (c .before .to .given .1) at (c .before .before .before .value-end .ensures) in omega arith
 
 part-same-end : tie.Need-part-same-end Inv-loop μ-loop
-part-same-end c = let w = rw (c .before .e .given .1) at (c .before .before .before .value-end .ensures) in omega arith
+part-same-end c = let w = rw (c .before .to .given .1) at (c .before .before .before .value-end .ensures) in omega arith
 
 same-requires : tie.Need-same-requires Inv-loop μ-loop
 same-requires c κs = search needs
 
 returns-2 : tie.Need-returns-2 Inv-loop μ-loop
-returns-2 c = let w = rw (c .before .before .before .before .e .given .1) at (c .before .before .before .before .before .before .value-end .ensures) in sought-found (c .before .before .before .before .before .before .before .before .loop .inv) (c .before .before .before .before .before .before .before .loop-test .taken) (w .0) (c .before .same .ensures) (c .if1 .taken)
+returns-2 c = let w = rw (c .before .before .before .before .to .given .1) at (c .before .before .before .before .before .before .value-end .ensures) in sought-found (c .before .before .before .before .before .before .before .before .loop .inv) (c .before .before .before .before .before .before .before .loop-test .taken) (w .0) (c .before .same .ensures) (c .if1 .taken)
 
 add-p : tie.Need-add-p Inv-loop μ-loop
-add-p c = let w = rw (c .before .before .before .before .e .given .1) at (c .before .before .before .before .before .before .value-end .ensures) in omega arith
+add-p c = let w = rw (c .before .before .before .before .to .given .1) at (c .before .before .before .before .before .before .value-end .ensures) in omega arith
 
 add-j : tie.Need-add-j Inv-loop μ-loop
 add-j c = search needs
@@ -53,7 +53,7 @@ loop-less : tie.Need-loop-less Inv-loop μ-loop
 loop-less c = search needs
 
 loop-again : tie.Need-loop-again Inv-loop μ-loop
-loop-again c = let w = rw (c .before .before .before .before .e .given .1) at (c .before .before .before .before .before .before .value-end .ensures) in rw (drop-past (c .before .before .before .before .before .before .before .before .before .before .before .args .body .now) (c .before .before .before .before .before .before .before .before .loop .p) (c .before .before .before .before .e .given .0 .0) 4 (omega arith)) at (sought-next (c .before .before .before .before .before .before .before .before .loop .inv) (c .before .before .before .before .before .before .before .loop-test .taken) (w .0) (c .before .same .ensures) (c .if1 .left))
+loop-again c = let w = rw (c .before .before .before .before .to .given .1) at (c .before .before .before .before .before .before .value-end .ensures) in rw (drop-past (c .before .before .before .before .before .before .before .before .before .before .before .args .body .now) (c .before .before .before .before .before .before .before .before .loop .p) (c .before .before .before .before .to .given .0 .0 .0) 4 (omega arith)) at (sought-next (c .before .before .before .before .before .before .before .before .loop .inv) (c .before .before .before .before .before .before .before .loop-test .taken) (w .0) (c .before .same .ensures) (c .if1 .left))
 
 returns-3 : tie.Need-returns-3 Inv-loop μ-loop
 returns-3 c = sought-done (c .before .loop .inv) (c .loop-test .left)
@@ -68,7 +68,7 @@ taken-spec =
     value-end-requires
     enum-told
     returns
-    enum-known-e
+    enum-known-to
     sub-same
     part-same-start
     part-same-end

@@ -1,6 +1,6 @@
 -- `poddurance_ask` meets its contract: the answer of the call it wraps, case by case.
 use mathlib.Core.Path.{refl, sym, _∙_}
-use Rattle.poddurance.specs.Reading.{askOut}
+use Rattle.bitmap_index.specs.Reading.{askOut}
 use borrow.Author.Needs.{needs}
 use Rattle.poddurance.proofs.poddurance_ask.Statement.{statement}
 use Rattle.poddurance.proofs.poddurance_ask.Tie as tie

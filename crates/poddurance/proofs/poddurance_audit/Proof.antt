@@ -1,6 +1,6 @@
 -- `poddurance_audit` meets its contract: the answer of the call it wraps, case by case.
 use mathlib.Core.Path.{refl, sym, _∙_}
-use Rattle.poddurance.specs.Reading.{auditOut}
+use Rattle.bitmap_index.specs.Reading.{auditOut}
 use borrow.Author.Needs.{needs}
 use Rattle.poddurance.proofs.poddurance_audit.Statement.{statement}
 use Rattle.poddurance.proofs.poddurance_audit.Tie as tie

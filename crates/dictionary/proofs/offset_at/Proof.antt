@@ -1,0 +1,27 @@
+-- `offset_at` meets its contract: four bytes are 32 bits, and so fit a signed number of as many. Assumes nothing.
+use Prim.Native.Nat.{_<_}
+use mathlib.Core.Path.{_∙_}
+use borrow.Author.Needs.{needs}
+use Rattle.numbers.specs.Meaning.{beAt}
+use Rattle.dictionary.specs.Offsets.{signed-passed}
+use Rattle.dictionary.proofs.offset_at.Statement.{statement}
+use Rattle.dictionary.proofs.offset_at.Tie as tie
+
+be32-requires : tie.Need-be32-requires
+be32-requires c κs = search needs
+
+cast-to-signed : tie.Need-cast-to-signed
+cast-to-signed c = search needs
+
+to-signed-requires : tie.Need-to-signed-requires
+to-signed-requires c κs = search needs
+
+returns : tie.Need-returns
+returns c =
+    let a = c .before .before .before .args in
+    let n = c .before .be32 .ensures in
+    let h : beAt 4 (a .body .now) (a .at) < 4294967296 = rw (n .0) at (n .1) in
+    (signed-passed (beAt 4 (a .body .now) (a .at)) (c .to-signed .ensures ∙ rw (n .0)) h, h)
+
+pub offset-at-spec : {M : Type 1} → statement M
+offset-at-spec = tie.close (tie.spec be32-requires cast-to-signed to-signed-requires returns)
