@@ -14,14 +14,15 @@ use Rattle.row_field.specs.Meaning.{cleared, count, size}
 use Rattle.stored_value.specs.declared.Counted.{Counted}
 use Rattle.stored_value.specs.declared.Counted.the-variants.{Count}
 use Rattle.refusal.specs.Reading.{Out, refuse, ok, check, andThen}
-use Rattle.stored_value.specs.Reading.{literals, countedBy}
+use Rattle.stored_value.specs.Code.{countedBy}
+use Rattle.stored_value.specs.Reading.{literals}
 use Rattle.dictionary.specs.declared.Checked.{Checked}
 use Rattle.dictionary.specs.declared.Checked.the-variants.{Found}
 use Rattle.dictionary.specs.declared.Head.{Head}
 use Rattle.dictionary.specs.Layout.{Entry}
 use Rattle.dictionary.specs.Code.{nullsOf}
 use Rattle.bitmap_index.specs.Meaning.{takes, keeps}
-use Rattle.bitmap_index.specs.Reading.{Answer, placeAll, prepared, audited, answered, asked, ask, askPrepared, bufferOf, zeroedFrom, askBuffer, chosenOf, auditedBy, answeredBy, askOut, numbersOf}
+use Rattle.bitmap_index.specs.Reading.{Answer, placeAll, prepared, audited, answered, asked, ask, bufferOf, zeroedFrom, askBuffer, chosenOf, auditedBy, answeredBy, askOut, numbersOf}
 use Rattle.bitmap_index.specs.declared.Audited.{Audited}
 use Rattle.bitmap_index.specs.declared.Audited.the-variants.{Rows}
 use Rattle.bitmap_index.specs.declared.Answered.{Answered}
@@ -177,14 +178,14 @@ module _ (t q : ℕ) (s body f : List ℕ) where
   Said a after = (a ≡ answeredBy (ask t q s body f)) × (after ≡ askBuffer t q s body f)
 
   pub ask-refused : {o : Outcome} {r : Refusal} → o ≡ Outcome.Refused r → Asks o t s (asked t q s body) → Said (Answered.Refused r) f
-  unfolding ask askBuffer askPrepared zeroedFrom bufferOf answeredBy andThen
+  unfolding ask askBuffer zeroedFrom bufferOf answeredBy andThen
   ask-refused {o} {r} e w =
       let d : asked t q s body ≡ refuse r = rw e at w in
       (rw d, rw d)
 
   module _ {o : Outcome} (e : o ≡ Done) (w : Asks o t s (asked t q s body)) {c : Checked} where
     pub ask-unprepared : {r : Refusal} → c ≡ Checked.Refused r → Readied t body f c → Said (Answered.Refused r) f
-    unfolding ask askBuffer askPrepared zeroedFrom bufferOf answeredBy andThen
+    unfolding ask askBuffer zeroedFrom bufferOf answeredBy andThen
     ask-unprepared {r} k p =
         let y : Asks Done t s (asked t q s body) = rw e at w in
         let d : prepared t body f ≡ refuse r = rw k at p in
@@ -193,7 +194,7 @@ module _ (t q : ℕ) (s body f : List ℕ) where
     pub ask-found : {h : Head} → c ≡ Found h → Readied t body f c → {a : Answered} {after : List ℕ}
         → ((es : List Entry) (ls : List (List ℕ)) → Laid t body h es → ReadAs t s ls → Answers a (answeredAfter q ls f (dictionaryOf body h es)) (cleared (h .rows) f) after)
         → Said a after
-    unfolding ask askBuffer askPrepared zeroedFrom andThen answeredAfter
+    unfolding ask askBuffer zeroedFrom andThen answeredAfter
     ask-found {h} k p g =
         let y : Asks Done t s (asked t q s body) = rw e at w in
         let d : Readied t body f (Found h) = rw k at p in

@@ -9,7 +9,7 @@ use native.Mathlib.Decide.{decLt}
 use native.Mathlib.Omega.{arith}
 use borrow.Author.Tests.{ne-eqb}
 use lib.ListN.{length, replicate}
-use Rattle.numbers.specs.Laws.{Bytes}
+use Rattle.numbers.specs.Meaning.{joined, Bytes}
 use Rattle.row_field.specs.Meaning.{size, bit, markAll, anySet, cleared, rowsOf}
 use Rattle.row_field.specs.Marks.{Rising, Below, below-more, member, member-past, length-markAll, bit-markAll, bytes-zeros, rows-of-field}
 use Rattle.row_field.specs.Counts.{tick, Rises, count-full, length-zeroed, bit-zeroed}
@@ -285,13 +285,13 @@ module _ (t : ℕ) (field : List ℕ) (k : t < 12) where
       subst (λ (m : ℕ). Body t cells (layout.body1 m nulls es region)) e
       (version1 nulls es region (k, typed) (o, filled-placed rows all region field b p once w, filled-covers rows all region field b p once w) x d (rw e hr) l z)
 
-  two-body : (rows : ℕ) (nulls : List Entry) (bs : List (List Entry)) (region : List ℕ) → NullOnly nulls → layout.NoneEmpty bs → layout.Rises t null (layout.joined bs)
-      → Patterns (nulls ++ layout.joined bs) → rows ≤ 2147483647 → length (layout.joined bs) ≤ 65536 → length bs ≤ 65536
+  two-body : (rows : ℕ) (nulls : List Entry) (bs : List (List Entry)) (region : List ℕ) → NullOnly nulls → layout.NoneEmpty bs → layout.Rises t null (joined bs)
+      → Patterns (nulls ++ joined bs) → rows ≤ 2147483647 → length (joined bs) ≤ 65536 → length bs ≤ 65536
       → length (layout.body2 rows nulls bs region) ≤ 2147483647 → Bytes region
-      → Filled field (record { rows = rows; entries = nulls ++ layout.joined bs; region = region })
-      → Body t (columnOf region (nulls ++ layout.joined bs) rows) (layout.body2 rows nulls bs region)
+      → Filled field (record { rows = rows; entries = nulls ++ joined bs; region = region })
+      → Body t (columnOf region (nulls ++ joined bs) rows) (layout.body2 rows nulls bs region)
   two-body rows nulls bs region o ne r p hr l m z b w =
-      let es : List Entry = layout.joined bs in
+      let es : List Entry = joined bs in
       let all : List Entry = nulls ++ es in
       let cells : List Cell = columnOf region all rows in
       let e : length cells ≡ rows = length-table (holder region all) 0 rows in
@@ -329,7 +329,7 @@ pub record OnePlaceEach (t : ℕ) (body : List ℕ) (n : ℕ) : Type 0 where
 
 laid-once : (t : ℕ) (body : List ℕ) (d : Dictionary) → WasLaidOut t body d → Once (d .entries) × Patterns (d .entries)
 laid-once t body d (in-one rows nulls es region a o x p hr l q c) = rw q (one-has-each-once t nulls es a o, p)
-laid-once t body d (in-two rows nulls bs region o ne r p hr l m z q c) = rw q (two-has-each-once t nulls (layout.joined bs) r o, p)
+laid-once t body d (in-two rows nulls bs region o ne r p hr l m z q c) = rw q (two-has-each-once t nulls (joined bs) r o, p)
 
 pub passed-once : (t : ℕ) (body field : List ℕ) (n : ℕ) → Bytes body → Passed t body field n → OnePlaceEach t body n
 passed-once t body field n b p =

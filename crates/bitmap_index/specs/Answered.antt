@@ -11,8 +11,7 @@ use borrow.Author.Tests.{eq-eqb, ne-eqb, lt-ltb, le-ltb, lt-leb}
 use lib.IntN.{ℤ, pos, negsuc}
 use lib.ListN.{length, drop, replicate, length-append}
 use lib.Seq.{drop-at}
-use Rattle.numbers.specs.Meaning.{signed32}
-use Rattle.numbers.specs.Laws.{Bytes}
+use Rattle.numbers.specs.Meaning.{signed32, Bytes}
 use Rattle.row_field.specs.Meaning.{size, bit, mark, markAll, anySet, fieldOf, cleared, count}
 use Rattle.row_field.specs.Marks.{Below}
 use Rattle.roaring.specs.declared.Extent.{Extent}

@@ -9,13 +9,13 @@ use native.Mathlib.Omega.{arith}
 use borrow.Author.Tests.{le-leb, lt-ltb, lt-leb}
 use lib.Dec.{ltb, leb}
 use lib.ListN.{length, drop, replicate, length-replicate}
-use Rattle.numbers.specs.Laws.{Bytes}
+use Rattle.numbers.specs.Meaning.{Bytes, joined}
 use Rattle.refusal.specs.Meaning.{limit}
 use Rattle.refusal.specs.declared.Refusal.{Refusal}
 use Rattle.refusal.specs.declared.Refusal.the-variants.{Version, Room, Literal, Limit}
 use Rattle.row_field.specs.Meaning.{size, cleared}
 use Rattle.row_field.specs.Marks.{bytes-zeros}
-use Rattle.stored_value.specs.Meaning.{Cell, literalBytes}
+use Rattle.stored_value.specs.Meaning.{Cell}
 use Rattle.refusal.specs.Reading.{refuse, ok, check, andThen}
 use Rattle.stored_value.specs.Laws.{literals-back}
 use Rattle.dictionary.specs.Reading.{Dictionary}
@@ -64,8 +64,8 @@ pub record TheColumn (t : ℕ) (body field : List ℕ) (n : ℕ) (cells : List C
   pub rows : length cells ≡ n
   pub audited-buffer : auditBuffer t body field ≡ cleared n field
   pub asked : (q : ℕ) (ls : List (List ℕ)) → Question t q ls
-      → ask t q (literalBytes ls) body field ≡ ok (record { buffer = scan q ls cells .field ++ drop (size n) field; matched = scan q ls cells .matched })
-  pub asked-buffer : (q : ℕ) (ls : List (List ℕ)) → Question t q ls → askBuffer t q (literalBytes ls) body field ≡ scan q ls cells .field ++ drop (size n) field
+      → ask t q (joined ls) body field ≡ ok (record { buffer = scan q ls cells .field ++ drop (size n) field; matched = scan q ls cells .matched })
+  pub asked-buffer : (q : ℕ) (ls : List (List ℕ)) → Question t q ls → askBuffer t q (joined ls) body field ≡ scan q ls cells .field ++ drop (size n) field
 
 pub accepted-answers-as-the-scan : (t : ℕ) (body field : List ℕ) (n : ℕ) → Bytes body → Bytes field → audit t body field ≡ ok n
     → (cells : List Cell) × TheColumn t body field n cells
@@ -88,7 +88,7 @@ accepted-answers-as-the-scan t body field n b bf e =
 -- whatever Ask answers, it was asked a well-formed question of a body of exactly one column, and answers as the scan of that column does
 pub record AsTheScan (t q : ℕ) (literal body field : List ℕ) (a : Answer) : Type 0 where
   pub ls : List (List ℕ)
-  pub spelled : literal ≡ literalBytes ls
+  pub spelled : literal ≡ joined ls
   pub question : Question t q ls
   pub cells : List Cell
   pub is-body : Body t cells body

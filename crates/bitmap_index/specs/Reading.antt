@@ -100,9 +100,6 @@ asked t q literal body =
     check (leb (length body) limit && leb (length literal) limit) Limit (check (ltb t 12 && ltb q 6) Literal
     (andThen (literals t 1024 [] literal) (λ ls. check (takes q (length ls)) Literal (ok ls))))
 
-unfoldable pub askPrepared : ℕ → ℕ → List ℕ → List ℕ → List ℕ → Out Dictionary
-askPrepared t q literal body field = andThen (asked t q literal body) (λ ls. prepared t body field)
-
 unfoldable pub ask : ℕ → ℕ → List ℕ → List ℕ → List ℕ → Out Answer
 ask t q literal body field =
     andThen (asked t q literal body) (λ ls. andThen (prepared t body field) (λ d. andThen (audited field d) (λ rows. answered q ls field d)))
@@ -112,7 +109,7 @@ bufferOf (refuse r) otherwise = otherwise
 bufferOf (ok a) otherwise = a .buffer
 
 unfoldable pub askBuffer : ℕ → ℕ → List ℕ → List ℕ → List ℕ → List ℕ
-askBuffer t q literal body field = bufferOf (ask t q literal body field) (zeroedFrom (askPrepared t q literal body field) field)
+askBuffer t q literal body field = bufferOf (ask t q literal body field) (zeroedFrom (andThen (asked t q literal body) (λ ls. prepared t body field)) field)
 
 -- ---- the calls' answers, and their numbers: the answer's, 0 for accepted and else the refusal's in 01's table; then the count, 0 with a refusal
 

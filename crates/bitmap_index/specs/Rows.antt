@@ -9,7 +9,7 @@ use native.Mathlib.Omega.{arith}
 use borrow.Author.Tests.{eq-eqb, ne-eqb}
 use lib.ListN.{length, drop, replicate, length-replicate, List·getD-append}
 use lib.Seq.{set-append-left}
-use Rattle.numbers.specs.Laws.{Bytes}
+use Rattle.numbers.specs.Meaning.{Bytes}
 use Rattle.row_field.specs.Meaning.{size, bit, mark, markAll, anySet, fieldOf, cleared, rowsFrom, count}
 use Rattle.row_field.specs.Laws.{length-mark}
 use Rattle.row_field.specs.Marks.{Below, below-more, member, member-append, member-before, Rising, length-markAll, bytes-markAll, markAll-append, bit-markAll, field-ext}

@@ -11,8 +11,8 @@ use lib.Dec.{eqb, ltb, leb}
 use lib.IntN.{ℤ, pos, negsuc}
 use lib.ListN.{length, take, drop, length-append, length-drop, take-append-drop}
 use lib.Seq.{length-take-le}
-use Rattle.numbers.specs.Meaning.{signed32}
-use Rattle.numbers.specs.Laws.{Bytes, bytes-drop}
+use Rattle.numbers.specs.Meaning.{signed32, Bytes}
+use Rattle.numbers.specs.Laws.{bytes-drop}
 use Rattle.refusal.specs.Meaning.{limit}
 use Rattle.refusal.specs.declared.Refusal.{Refusal}
 use Rattle.refusal.specs.declared.Refusal.the-variants.{Bitmap, Range, Twice}

@@ -6,15 +6,15 @@ use mathlib.Core.List.{List, [], _∷_, _++_}
 use native.Mathlib.Omega.{arith}
 use borrow.Author.Tests.{lt-ltb, le-leb}
 use lib.ListN.{length, getD, drop, length-append}
-use Rattle.numbers.specs.Meaning.{be, big}
-use Rattle.numbers.specs.Laws.{Bytes, length-spelled}
+use Rattle.numbers.specs.Meaning.{be, big, joined, Bytes}
+use Rattle.numbers.specs.Laws.{length-spelled}
 use Rattle.refusal.specs.Meaning.{limit}
 use Rattle.row_field.specs.Meaning.{size, cleared}
-use Rattle.stored_value.specs.Meaning.{Cell, widths, width, Value, number, string, Literals, literalBytes}
+use Rattle.stored_value.specs.Meaning.{Cell, widths, width, Value, number, string, Literals}
 use Rattle.refusal.specs.Reading.{ok, check, andThen}
 use Rattle.stored_value.specs.Laws.{literals-laid}
 use Rattle.dictionary.specs.Code.{Patterns}
-use Rattle.dictionary.specs.Layout.{Entry, entries1, null1, body1, joined, blocks, directory, null2, body2}
+use Rattle.dictionary.specs.Layout.{Entry, entries1, null1, body1, blocks, directory, null2, body2}
 use Rattle.dictionary.specs.Reading.{dictionary}
 use Rattle.dictionary.specs.Theorems.{one-is-read, two-is-read, one-has-each-once, two-has-each-once}
 use Rattle.bitmap_index.specs.Meaning.{Question, scan}
@@ -41,7 +41,7 @@ value-at-most : (t : ℕ) (v : List ℕ) → Value t v → length v ≤ 65539
 value-at-most t v (number w s l b o) = omega (arith, width-le t)
 value-at-most t v (string c s l b) = simp length-append (omega (arith, length-spelled big 4 (length c)))
 
-literals-at-most : (t : ℕ) (ls : List (List ℕ)) → Literals t ls → length (literalBytes ls) ≤ 65539 * length ls
+literals-at-most : (t : ℕ) (ls : List (List ℕ)) → Literals t ls → length (joined ls) ≤ 65539 * length ls
 literals-at-most t [] h = omega arith
 literals-at-most t (l ∷ ls) h = simp length-append (omega (arith, value-at-most t l (h .0), literals-at-most t ls (h .1)))
 
@@ -52,16 +52,16 @@ pub record AnswersAsScan (t : ℕ) (cells : List Cell) (body field : List ℕ) :
   pub audited : audit t body field ≡ ok (length cells)
   pub audited-buffer : auditBuffer t body field ≡ cleared (length cells) field
   pub asked : (q : ℕ) (ls : List (List ℕ)) → Question t q ls
-      → ask t q (literalBytes ls) body field
+      → ask t q (joined ls) body field
       ≡ ok (record { buffer = scan q ls cells .field ++ drop (size (length cells)) field; matched = scan q ls cells .matched })
   pub asked-buffer : (q : ℕ) (ls : List (List ℕ)) → Question t q ls
-      → askBuffer t q (literalBytes ls) body field ≡ scan q ls cells .field ++ drop (size (length cells)) field
+      → askBuffer t q (joined ls) body field ≡ scan q ls cells .field ++ drop (size (length cells)) field
 
-asked-well : (t q : ℕ) (ls : List (List ℕ)) (body : List ℕ) → length body ≤ 2147483647 → Question t q ls → asked t q (literalBytes ls) body ≡ ok ls
+asked-well : (t q : ℕ) (ls : List (List ℕ)) (body : List ℕ) → length body ≤ 2147483647 → Question t q ls → asked t q (joined ls) body ≡ ok ls
 unfolding asked check andThen
 asked-well t q ls body h w =
-    let l : length (literalBytes ls) ≤ 2147483647 = omega (arith, literals-at-most t ls (w .3), w .2) in
-    rw (le-leb (length body) limit h, le-leb (length (literalBytes ls)) limit l, lt-ltb t 12 (w .0), lt-ltb q 6 (w .1), literals-laid t ls (w .3) (w .0) (w .2), w .4)
+    let l : length (joined ls) ≤ 2147483647 = omega (arith, literals-at-most t ls (w .3), w .2) in
+    rw (le-leb (length body) limit h, le-leb (length (joined ls)) limit l, lt-ltb t 12 (w .0), lt-ltb q 6 (w .1), literals-laid t ls (w .3) (w .0) (w .2), w .4)
 
 module _ (t : ℕ) (cells : List Cell) (es : List Entry) (region body field : List ℕ) (k : t < 12) (s : length body ≤ 2147483647)
     (d : dictionary t body ≡ ok (record { rows = length cells; entries = es; region = region })) (w : Whole cells es region) (b : Bytes field) (h : size (length cells) ≤ length field) where
@@ -78,12 +78,12 @@ module _ (t : ℕ) (cells : List Cell) (es : List Entry) (region body field : Li
   audit-buffer = rw prepared-well
 
   module _ (q : ℕ) (ls : List (List ℕ)) (g : Question t q ls) where
-    ask-well : ask t q (literalBytes ls) body field
+    ask-well : ask t q (joined ls) body field
         ≡ ok (record { buffer = scan q ls cells .field ++ drop (size (length cells)) field; matched = scan q ls cells .matched })
     unfolding ask andThen
     ask-well = rw (asked-well t q ls body s g, prepared-well, audited-whole cells es region field w b h) (answered-whole q ls cells es region field w b h)
 
-    ask-buffer : askBuffer t q (literalBytes ls) body field ≡ scan q ls cells .field ++ drop (size (length cells)) field
+    ask-buffer : askBuffer t q (joined ls) body field ≡ scan q ls cells .field ++ drop (size (length cells)) field
     unfolding askBuffer bufferOf
     ask-buffer = rw ask-well
 

@@ -12,7 +12,7 @@ use Rattle.refusal.specs.declared.Refusal.the-variants.{Version, Literal, Limit
 use Rattle.refusal.specs.Reading.{Out, refuse, ok, check, andThen}
 use Rattle.dictionary.specs.Reading.{Dictionary}
 use Rattle.dictionary.specs.Theorems.{version-known}
-use Rattle.bitmap_index.specs.Reading.{prepared, audited, audit, auditBuffer, zeroedFrom, asked, answered, ask, askBuffer, askPrepared, bufferOf}
+use Rattle.bitmap_index.specs.Reading.{prepared, audited, audit, auditBuffer, zeroedFrom, asked, answered, ask, askBuffer, bufferOf}
 use Rattle.bitmap_index.specs.Taken.{asked-back}
 
 -- a refusal is handed on
@@ -59,7 +59,7 @@ module _ (t v : ℕ) (s field : List ℕ) (n : v ≡ 1 → ⊥) (n′ : v ≡ 2 
         go (ok ls) e = rw (version-after ls e)
 
     pub version-asked-buffer : askBuffer t q literal (v ∷ s) field ≡ field
-    unfolding askBuffer askPrepared ask bufferOf zeroedFrom andThen
+    unfolding askBuffer ask bufferOf zeroedFrom andThen
     version-asked-buffer = go (asked t q literal (v ∷ s)) refl
       where
         go : (o : Out (List (List ℕ))) → asked t q literal (v ∷ s) ≡ o

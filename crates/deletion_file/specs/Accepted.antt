@@ -7,8 +7,8 @@ use native.Mathlib.Omega.{arith}
 use lib.Dec.{eqb, leb}
 use lib.ListN.{length, drop, getD, length-append}
 use borrow.Author.Tests.{leb-true, eqb-true}
-use Rattle.numbers.specs.Meaning.{be, beAt, big, All}
-use Rattle.numbers.specs.Laws.{Bytes, bytes-drop, numberAt-back}
+use Rattle.numbers.specs.Meaning.{be, beAt, big, All, Bytes}
+use Rattle.numbers.specs.Laws.{bytes-drop, numberAt-back}
 use Rattle.refusal.specs.declared.Refusal.{Refusal}
 use Rattle.refusal.specs.declared.Refusal.the-variants.{Short, Magic, Version, Bitmap, Range, Checksum}
 use Rattle.crc32.specs.Meaning.{checksum}

@@ -5,8 +5,7 @@ use mathlib.Core.List.{List, [], _∷_, _++_}
 use native.Mathlib.Omega.{arith}
 use lib.Dec.{leb}
 use lib.ListN.{length, replicate}
-use Rattle.numbers.specs.Meaning.{be, le}
-use Rattle.numbers.specs.Laws.{Bytes}
+use Rattle.numbers.specs.Meaning.{be, le, Bytes}
 use Rattle.row_field.specs.Meaning.{size, fieldOf}
 use Rattle.row_field.specs.Marks.{bytes-markAll, bytes-zeros}
 use Rattle.roaring.specs.Layout.{Run, Body, array, bits, runs, Container, values, words, pairs, bodyBytes, headers, offset, offsets, bodies, runNumbers, flags, firstBody, rest, Bitmap, plain-bitmap, flagged-bitmap}

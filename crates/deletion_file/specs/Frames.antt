@@ -8,8 +8,8 @@ use lib.Dec.{eqb, leb}
 use lib.ListN.{length, take, drop, length-append, length-drop, take-append-drop}
 use lib.Seq.{take-append-seam, drop-append-seam, drop-append-add, drop-drop, length-take-le}
 use borrow.Author.Tests.{le-leb, leb-true, eqb-true, ne-eqb}
-use Rattle.numbers.specs.Meaning.{be, beAt, big, All}
-use Rattle.numbers.specs.Laws.{Bytes, bytes-drop, beAt-lt, numberAt-drop, numberAt-laid, numberAt-back, number-laid, on-number}
+use Rattle.numbers.specs.Meaning.{be, beAt, big, All, Bytes}
+use Rattle.numbers.specs.Laws.{bytes-drop, beAt-lt, numberAt-drop, numberAt-laid, numberAt-back, number-laid, on-number}
 use Rattle.refusal.specs.declared.Refusal.the-variants.{Short}
 use Rattle.deletion_file.specs.Layout.{Bin, frames, binOf, Framed, HasBin, has-bin}
 use Rattle.refusal.specs.Laws.{not-ok, check-ok, then-ok}

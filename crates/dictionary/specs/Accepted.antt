@@ -8,15 +8,15 @@ use mathlib.Core.List.{List, [], _∷_, _++_, append-assoc, append-nil}
 use lib.ListN.{length, take, drop, length-append, take-append-drop}
 use lib.Dec.{eqb, ltb, leb}
 use borrow.Author.Tests.{leb-true, ltb-true, eqb-true, not-true}
-use Rattle.numbers.specs.Meaning.{be, big, number}
-use Rattle.numbers.specs.Laws.{Bytes, bytes-drop, on-number}
+use Rattle.numbers.specs.Meaning.{be, big, number, joined, Bytes}
+use Rattle.numbers.specs.Laws.{bytes-drop, on-number}
 use Rattle.refusal.specs.declared.Refusal.{Refusal}
 use Rattle.refusal.specs.declared.Refusal.the-variants.{Short, Dict}
 use Rattle.stored_value.specs.Meaning.{Cell, null, value, Value, sameCell}
 use Rattle.refusal.specs.Reading.{Out, refuse, ok, check, andThen}
 use Rattle.stored_value.specs.Reading.{valueSize, valueOf}
 use Rattle.dictionary.specs.Code.{Patterns}
-use Rattle.dictionary.specs.Layout.{Entry, minusOne, NullOnly, someHas, Distinct, NoExtents, valueBytes, entries1, hasNull, null1, body1, first, Past, Rises, NoneEmpty, joined, entries2, block, blocks, directory, null2, body2}
+use Rattle.dictionary.specs.Layout.{Entry, minusOne, NullOnly, someHas, Distinct, NoExtents, valueBytes, entries1, hasNull, null1, body1, first, Past, Rises, NoneEmpty, entries2, block, blocks, directory, null2, body2}
 use Rattle.dictionary.specs.Reading.{counted, Dictionary, entriesOne, Listing, listings, past, heads, entriesTwo, behind, blocksOf, blocked, nullOf, dictionary}
 use Rattle.numbers.specs.Same.{same→eq}
 use Rattle.stored_value.specs.Laws.{sameCell-sym, value-back}

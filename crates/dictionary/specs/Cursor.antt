@@ -9,8 +9,8 @@ use lib.IntN.{ℤ}
 use lib.ListN.{length, drop, length-drop}
 use lib.Seq.{drop-drop}
 use borrow.Author.Tests.{le-leb, lt-leb, ne-eqb}
-use Rattle.numbers.specs.Meaning.{big, beAt, signed32}
-use Rattle.numbers.specs.Laws.{Bytes, numberAt-drop, numberAt-lt}
+use Rattle.numbers.specs.Meaning.{big, beAt, signed32, Bytes}
+use Rattle.numbers.specs.Laws.{numberAt-drop, numberAt-lt}
 use Rattle.refusal.specs.declared.Refusal.{Refusal}
 use Rattle.refusal.specs.declared.Refusal.the-variants.{Short, Dict}
 use Rattle.refusal.specs.Reading.{refuse, ok}

@@ -9,14 +9,14 @@ use lib.ListN.{length, length-append}
 use lib.Seq.{take-at, drop-at}
 use lib.Dec.{eqb, leb}
 use borrow.Author.Tests.{le-leb, lt-ltb, eq-eqb, ne-eqb}
-use Rattle.numbers.specs.Meaning.{be, big, number}
+use Rattle.numbers.specs.Meaning.{be, big, number, joined}
 use Rattle.numbers.specs.Laws.{number-laid}
 use Rattle.refusal.specs.declared.Refusal.the-variants.{Short, Dict}
 use Rattle.stored_value.specs.Meaning.{Cell, null, value, sameCell}
 use Rattle.refusal.specs.Reading.{Out, refuse, ok, check, andThen}
 use Rattle.stored_value.specs.Reading.{valueOf}
 use Rattle.dictionary.specs.Code.{Patterns}
-use Rattle.dictionary.specs.Layout.{Entry, Valued, NullOnly, someHas, Distinct, NoExtents, valueBytes, entries1, hasNull, null1, body1, first, Past, Rises, NoneEmpty, joined, entries2, block, blocks, directory, null2, body2}
+use Rattle.dictionary.specs.Layout.{Entry, Valued, NullOnly, someHas, Distinct, NoExtents, valueBytes, entries1, hasNull, null1, body1, first, Past, Rises, NoneEmpty, entries2, block, blocks, directory, null2, body2}
 use Rattle.dictionary.specs.Reading.{counted, Dictionary, entriesOne, Listing, listings, past, heads, entriesTwo, behind, blocksOf, blocked, nullOf, dictionary}
 use Rattle.numbers.specs.Same.{same-refl}
 use Rattle.stored_value.specs.Laws.{value-laid, sameCell-sym}

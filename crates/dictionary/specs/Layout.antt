@@ -6,7 +6,7 @@ use Prim.Native.Nat.{ℕ, _+_, _≤_}
 use mathlib.Core.Bool.{Bool, true, false, _||_}
 use mathlib.Core.List.{List, [], _∷_, _++_}
 use lib.ListN.{length}
-use Rattle.numbers.specs.Meaning.{All, be}
+use Rattle.numbers.specs.Meaning.{All, joined, be}
 use Rattle.stored_value.specs.Meaning.{Cell, null, value, Value, sameCell, less}
 
 -- a stored cell, null's or a value's, with the two numbers that say where its rows are: 01's offset, and 01's length, here `extent`
@@ -82,10 +82,6 @@ Rises t before (e ∷ es) = Valued t (e .cell) × Past t before (e .cell) × Ris
 -- the blocks are cut as the writer likes, none of them empty
 abbrev pub NoneEmpty : List (List Entry) → Type 0
 NoneEmpty bs = All (λ (b : List Entry). 1 ≤ length b) bs
-
-abbrev pub joined : List (List Entry) → List Entry
-joined [] = []
-joined (b ∷ bs) = b ++ joined bs
 
 abbrev pub entries2 : List Entry → List ℕ
 entries2 [] = []

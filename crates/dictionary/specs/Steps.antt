@@ -17,7 +17,8 @@ use Rattle.stored_value.specs.declared.Sized.the-variants.{Bytes}
 use Rattle.stored_value.specs.Meaning.{value, width, isString, booleanOk, sameCell}
 use Rattle.refusal.specs.Laws.{check-ok}
 use Rattle.refusal.specs.Reading.{Out, refuse, ok, check, andThen}
-use Rattle.stored_value.specs.Reading.{valueSize, valueOf, sizedBy}
+use Rattle.stored_value.specs.Code.{sizedBy}
+use Rattle.stored_value.specs.Reading.{valueSize, valueOf}
 use Rattle.dictionary.specs.declared.Value.{Value}
 use Rattle.dictionary.specs.Layout.{Entry, minusOne, someHas}
 use Rattle.dictionary.specs.Reading.{Dictionary, entriesOne}

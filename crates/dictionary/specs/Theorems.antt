@@ -6,13 +6,12 @@ use mathlib.Core.List.{List, [], _∷_, _++_}
 use lib.ListN.{length}
 use lib.Seq.{getD-append-add}
 use borrow.Author.Tests.{ne-eqb}
-use Rattle.numbers.specs.Meaning.{be}
-use Rattle.numbers.specs.Laws.{Bytes}
+use Rattle.numbers.specs.Meaning.{be, joined, Bytes}
 use Rattle.refusal.specs.declared.Refusal.the-variants.{Version}
 use Rattle.stored_value.specs.Meaning.{Cell, null, value, sameCell, less}
 use Rattle.refusal.specs.Reading.{refuse, ok, check}
 use Rattle.dictionary.specs.Code.{Patterns}
-use Rattle.dictionary.specs.Layout.{Entry, Valued, NullOnly, someHas, Distinct, NoExtents, entries1, hasNull, null1, body1, Past, Rises, NoneEmpty, joined, blocks, directory, null2, body2}
+use Rattle.dictionary.specs.Layout.{Entry, Valued, NullOnly, someHas, Distinct, NoExtents, entries1, hasNull, null1, body1, Past, Rises, NoneEmpty, blocks, directory, null2, body2}
 use Rattle.dictionary.specs.Reading.{Dictionary, dictionary}
 use Rattle.dictionary.specs.LaidOut.{byte-laid, one-laid, two-laid}
 use Rattle.dictionary.specs.Accepted.{Good, on-dictionary}

@@ -7,11 +7,11 @@ use native.Mathlib.Omega.{arith}
 use lib.Dec.{eqb}
 use lib.ListN.{length, drop}
 use borrow.Author.Tests.{ne-eqb}
-use Rattle.numbers.specs.Laws.{Bytes}
+use Rattle.numbers.specs.Meaning.{Bytes, joined}
 use Rattle.refusal.specs.Meaning.{numberOf}
 use Rattle.refusal.specs.declared.Refusal.{Refusal}
 use Rattle.row_field.specs.Meaning.{size}
-use Rattle.stored_value.specs.Meaning.{Cell, literalBytes}
+use Rattle.stored_value.specs.Meaning.{Cell}
 use Rattle.refusal.specs.Reading.{Out, refuse, ok, andThen}
 use Rattle.index_file.specs.Reading.{lookedAt, located, answerOf, partOf}
 use Rattle.bitmap_index.specs.declared.Audited.{Audited}
@@ -64,7 +64,7 @@ module _ (embedded file column kind : List ℕ) (t q : ℕ) (literal field : Lis
 
   -- what the promise for any bytes says of a column's file
   pub as-scan : {r : Told} {exit : List ℕ} → r ≡ told embedded file column kind t q literal field → exit ≡ toldBuffer embedded file column kind t q literal field → Bytes field
-      → (cells : List Cell) (ls : List (List ℕ)) → ColumnFile t cells column kind (lookedAt embedded file) → Question t q ls → literal ≡ literalBytes ls → size (length cells) ≤ length field
+      → (cells : List Cell) (ls : List (List ℕ)) → ColumnFile t cells column kind (lookedAt embedded file) → Question t q ls → literal ≡ joined ls → size (length cells) ≤ length field
       → (r ≡ said (scan q ls cells .matched)) × (exit ≡ scan q ls cells .field ++ drop (size (length cells)) field)
   as-scan x y b cells ls f w l h = (
     x ∙ rw l (told-as-scan t cells column kind embedded file f field b h q ls w),

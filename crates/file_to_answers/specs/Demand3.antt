@@ -3,14 +3,13 @@ use Prim.Native.Nat.{ℕ, _≤_}
 use mathlib.Core.Path.{_≡_, refl, ap, sym, _∙_}
 use mathlib.Core.List.{List, _++_}
 use lib.Dec.{eqb}
-use lib.ListN.{length, drop}
-use Rattle.numbers.specs.Laws.{Bytes}
+use lib.ListN.{length, drop, replicate, length-replicate}
+use Rattle.numbers.specs.Meaning.{Bytes, joined}
 use Rattle.row_field.specs.Meaning.{size, cleared}
 use Rattle.row_field.specs.Counts.{length-zeroed, bytes-zeroed, zeroed-front}
 use lib.Seq.{drop-at}
-use lib.ListN.{replicate, length-replicate}
 use Rattle.refusal.specs.Reading.{andThen}
-use Rattle.stored_value.specs.Meaning.{Cell, literalBytes}
+use Rattle.stored_value.specs.Meaning.{Cell}
 use Rattle.index_file.specs.Reading.{lookedAt, located, answerOf, partOf}
 use Rattle.index_file.specs.Theorems.{laid-is-located}
 use Rattle.bitmap_index.specs.Meaning.{Question, scan}
@@ -52,11 +51,11 @@ module _ (t : ℕ) (cells : List Cell) (column kind embedded file : List ℕ) (f
   unfolding zero
   then-asked = claim .answers zero (bytes-zeroed (size (length cells)) field b) (rw (length-zeroed (size (length cells)) field) room)
 
-  pub told-as-scan : told embedded file column kind t q (literalBytes ls) field ≡ said (scan q ls cells .matched)
+  pub told-as-scan : told embedded file column kind t q (joined ls) field ≡ said (scan q ls cells .matched)
   unfolding told toldBy bodyTold andThen askedOf zero
   told-as-scan = rw (claim .found, claim .handed-back, first .audited, first .audited-buffer, then-asked .asked q ls w)
 
-  pub buffer-as-scan : toldBuffer embedded file column kind t q (literalBytes ls) field ≡ scan q ls cells .field ++ drop (size (length cells)) field
+  pub buffer-as-scan : toldBuffer embedded file column kind t q (joined ls) field ≡ scan q ls cells .field ++ drop (size (length cells)) field
   unfolding toldBuffer bodyBuffer auditedBuffer zero
   buffer-as-scan =
       rw (claim .found, claim .handed-back, first .audited, first .audited-buffer, then-asked .asked-buffer q ls w, behind-cleared (length cells) field room)

@@ -9,8 +9,7 @@ use lib.Bits.{bitOr}
 use lib.Dec.{eqb, ltb, leb}
 use lib.IntN.{ℤ, pos, negsuc}
 use lib.ListN.{length, getD, set, take, drop, replicate}
-use Rattle.numbers.specs.Meaning.{All, number, signed32, same}
-use Rattle.numbers.specs.Laws.{Bytes}
+use Rattle.numbers.specs.Meaning.{All, number, signed32, same, Bytes}
 use Rattle.refusal.specs.Meaning.{limit}
 use Rattle.refusal.specs.declared.Refusal.the-variants.{Range}
 use Rattle.row_field.specs.Meaning.{bit, mark, markAll, anySet, zeroed, upTo, rowsFrom}

@@ -4,7 +4,8 @@ ghost use mathlib.Core.List.{List, _++_};
 ghost use Prim.Native.Nat.{ℕ, _≤_};
 ghost use lib.ListN.{length, drop};
 ghost use Rattle.row_field.specs.Meaning.{size};
-ghost use Rattle.stored_value.specs.Meaning.{Cell, literalBytes};
+ghost use Rattle.numbers.specs.Meaning.{joined};
+ghost use Rattle.stored_value.specs.Meaning.{Cell};
 ghost use Rattle.index_file.specs.Reading.{lookedAt, located, answerOf, partOf, used, HandedBack};
 ghost use Rattle.bitmap_index.specs.Meaning.{Question, scan};
 ghost use Rattle.file_to_answers.specs.Layout.{ColumnFile};
@@ -56,7 +57,7 @@ pub fn ask_file<'a>(
     ensures any_bytes { λ r. ⌜ (r ≡ told (now (embedded .entry)) (now (file .entry)) (now (column .entry)) (now (kind .entry)) t question (now (literals .entry)) (now (field .entry)))
         × (now (field .exit) ≡ toldBuffer (now (embedded .entry)) (now (file .entry)) (now (column .entry)) (now (kind .entry)) t question (now (literals .entry)) (now (field .entry))) ⌝ }
     ensures demand_3 { λ r. ⌜ ((cells : List Cell) (ls : List (List ℕ)) → ColumnFile t cells (now (column .entry)) (now (kind .entry)) (lookedAt (now (embedded .entry)) (now (file .entry)))
-        → Question t question ls → now (literals .entry) ≡ literalBytes ls → size (length cells) ≤ length (now (field .entry))
+        → Question t question ls → now (literals .entry) ≡ joined ls → size (length cells) ≤ length (now (field .entry))
         → (r ≡ said (scan question ls cells .matched)) × (now (field .exit) ≡ scan question ls cells .field ++ drop (size (length cells)) (now (field .entry)))) ⌝ }
 {
     let mut answer: u8 = 0;

@@ -8,8 +8,8 @@ use native.Mathlib.Omega.{arith}
 use lib.Dec.{T, leb→le, ltb→lt, eqb→eq}
 use lib.ListN.{length, take, drop, length-take, take-append-drop, List·getD-eq-default}
 use lib.Seq.{length-take-le, getD-take, take-take}
-use Rattle.numbers.specs.Meaning.{be, big, same, All}
-use Rattle.numbers.specs.Laws.{Bytes, bytes-drop, on-number}
+use Rattle.numbers.specs.Meaning.{be, big, same, All, Bytes}
+use Rattle.numbers.specs.Laws.{bytes-drop, on-number}
 use Rattle.numbers.specs.declared.Position.{Position}
 use Rattle.refusal.specs.declared.Refusal.{Refusal}
 use Rattle.index_file.specs.declared.Located.{Located}

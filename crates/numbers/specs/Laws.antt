@@ -10,11 +10,12 @@ use lib.Dec.{T, leb, leb→le}
 use lib.ListN.{length, getD, take, drop, length-append, length-drop}
 use lib.Seq.{getD-append-seam, getD-append-add, getD-drop, drop-at, drop-cons, drop-drop}
 use borrow.Author.Tests.{le-leb, lt-leb}
-use Rattle.numbers.specs.Meaning.{beAt, leAt, be, le, Order, big, little, numberAt, spelled, number}
+use Rattle.numbers.specs.Meaning.{Bytes, beAt, leAt, be, le, Order, big, little, numberAt, number}
 
--- every byte of s is one
-abbrev pub Bytes : List ℕ → Type 0
-Bytes s = (i : ℕ) → getD s i 0 < 256
+-- the bytes that spell a number, in either order
+abbrev pub spelled : Order → ℕ → ℕ → List ℕ
+spelled big w v = be w v
+spelled little w v = le w v
 
 pub bytes-drop : (n : ℕ) (s : List ℕ) → Bytes s → Bytes (drop n s)
 bytes-drop n s h i = rw (getD-drop n s i 0) (h (n + i))

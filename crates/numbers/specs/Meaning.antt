@@ -1,5 +1,5 @@
 -- Bytes that are the same; and numbers of `w` bytes: what bytes spell, which bytes spell a number, and reading one off the front of some bytes.
-use Prim.Native.Nat.{ℕ, zero, suc, _+_, _-_, _*_, _/_, _%_, _^_}
+use Prim.Native.Nat.{ℕ, zero, suc, _+_, _-_, _*_, _/_, _%_, _^_, _<_}
 use mathlib.Core.Bool.{Bool, true, false, _&&_, cond}
 use mathlib.Core.List.{List, [], _∷_, _++_}
 use lib.Dec.{eqb, leb, ltb}
@@ -10,6 +10,15 @@ use lib.ListN.{length, drop, getD}
 abbrev pub All : {A : Type 0} → (A → Type 0) → List A → Type 0
 All P [] = Unit {0}
 All P (x ∷ l) = P x × All P l
+
+-- lists one after another
+abbrev pub joined : {A : Type 0} → List (List A) → List A
+joined [] = []
+joined (x ∷ xs) = x ++ joined xs
+
+-- every number of s is a byte
+abbrev pub Bytes : List ℕ → Type 0
+Bytes s = (i : ℕ) → getD s i 0 < 256
 
 -- byte for byte the same
 unfoldable pub same : List ℕ → List ℕ → Bool
@@ -46,10 +55,6 @@ pub data Order : Type 0 where
 abbrev pub numberAt : Order → ℕ → List ℕ → ℕ → ℕ
 numberAt big w s at = beAt w s at
 numberAt little w s at = leAt w s at
-
-abbrev pub spelled : Order → ℕ → ℕ → List ℕ
-spelled big w v = be w v
-spelled little w v = le w v
 
 -- w bytes off the front of s: k of their number and of what is left; `short` where there are fewer
 unfoldable pub number : {A : Type 0} → Order → ℕ → A → List ℕ → (ℕ → List ℕ → A) → A

@@ -12,7 +12,7 @@ use lib.Dec.{eqb}
 use lib.Pow.{shr-shr, field, mod-mod-pow}
 use lib.ListN.{length, getD, drop, replicate, length-replicate, getD-replicate}
 use borrow.Author.Tests.{eq-eqb, ne-eqb}
-use Rattle.numbers.specs.Laws.{Bytes}
+use Rattle.numbers.specs.Meaning.{Bytes}
 use Rattle.row_field.specs.Meaning.{size, bit, mark, markAll, fieldOf, zeroed, rowsFrom, count}
 use Rattle.row_field.specs.Laws.{digit, bit-out, length-mark, bit-mark-same, bit-mark-other}
 

@@ -13,7 +13,7 @@ use lib.Seq.{getD-set-same, getD-set-other, set-out}
 use lib.Pow.{pow-pos, pow-lt, pow-add, shl-shr}
 use lib.Bits.{bitOr, bitAnd, or-shr, or-step, or-lt, and-high}
 use borrow.Author.Tests.{ne-eqb}
-use Rattle.numbers.specs.Laws.{Bytes}
+use Rattle.numbers.specs.Meaning.{Bytes}
 use Rattle.row_field.specs.Meaning.{bit, mark}
 
 -- the binary digit of b of weight 2 ^ k

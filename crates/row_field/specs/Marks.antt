@@ -15,7 +15,7 @@ use lib.Pow.{shr-shr}
 use borrow.Author.Tests.{eq-eqb, ne-eqb}
 use lib.Dec.{eqb}
 use borrow.Rule.Slice.PartMut.{midOf, postOf, putMid, put-same, mid-len, post-is}
-use Rattle.numbers.specs.Laws.{Bytes}
+use Rattle.numbers.specs.Meaning.{Bytes}
 use Rattle.row_field.specs.Meaning.{bit, mark, markAll, anySet, upTo, rowsFrom, rowsOf}
 use Rattle.row_field.specs.Bytes.{anySeen}
 use Rattle.row_field.specs.Laws.{digit, length-mark, bytes-mark, bit-mark-same, bit-mark-other, bit-out, mark-out}

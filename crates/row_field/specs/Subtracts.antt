@@ -14,7 +14,7 @@ use lib.ListN.{length, getD, set, length-set}
 use lib.Pow.{pow-pos, pow-lt, pow-mono}
 use lib.Seq.{getD-set-same, getD-set-other, set-out, ext-getD}
 use borrow.Author.Tests.{lt-ltb, le-ltb}
-use Rattle.numbers.specs.Laws.{Bytes}
+use Rattle.numbers.specs.Meaning.{Bytes}
 use Rattle.row_field.specs.Meaning.{bit, rowsFrom, count, unmark, without, setIn, subtracted, removed}
 use Rattle.row_field.specs.Laws.{digit, bit-out, pow-digit-same, pow-digit-other}
 use Rattle.row_field.specs.Counts.{tick, tick-digit, tally, tally-le, tally-add, tally-ones, tally-split, rows-tally, digit-suc, low-half, low-odd, byte-row}

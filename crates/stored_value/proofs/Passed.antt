@@ -6,10 +6,10 @@ use mathlib.Core.List.{List, [], _∷_, _++_}
 use native.Mathlib.Omega.{arith}
 use lib.ListN.{length, take, drop, length-drop, drop-of-length-le}
 use lib.Seq.{drop-drop}
-use Rattle.numbers.specs.Laws.{Bytes, bytes-drop}
+use Rattle.numbers.specs.Meaning.{Bytes, same}
+use Rattle.numbers.specs.Laws.{bytes-drop}
 use Rattle.refusal.specs.declared.Refusal.{Refusal}
 use Rattle.refusal.specs.declared.Refusal.the-variants.{Literal}
-use Rattle.numbers.specs.Meaning.{same}
 use Rattle.stored_value.specs.Meaning.{listed}
 use Rattle.refusal.specs.Reading.{refuse, ok}
 use Rattle.stored_value.specs.Reading.{valueSize, literals}

@@ -9,16 +9,17 @@ use lib.Dec.{ltb, leb}
 use lib.ListN.{length, take, drop, length-append, take-append-drop, List·getD-append}
 use lib.Seq.{take-at, drop-at, length-take-le, getD-take}
 use borrow.Author.Tests.{lt-ltb, le-leb, ne-eqb, eqb-false, leb-true}
-use Rattle.numbers.specs.Meaning.{be, big}
+use Rattle.numbers.specs.Meaning.{be, big, joined, Bytes}
 use Rattle.numbers.specs.Meaning as meaning
-use Rattle.numbers.specs.Laws.{Bytes, bytes-drop, on-number, number-laid}
+use Rattle.numbers.specs.Laws.{bytes-drop, on-number, number-laid}
 use Rattle.numbers.specs.Same.{same-refl, same→eq, same-sym}
 use Rattle.refusal.specs.declared.Refusal.{Refusal}
 use Rattle.refusal.specs.declared.Refusal.the-variants.{Literal, Limit}
-use Rattle.stored_value.specs.Meaning.{width, isString, booleanOk, Value, number, string, Cell, null, value, sameCell, listed, Literals, literalBytes}
+use Rattle.stored_value.specs.Meaning.{width, isString, booleanOk, Value, number, string, Cell, null, value, sameCell, listed, Literals}
 use Rattle.refusal.specs.Laws.{check-ok}
 use Rattle.refusal.specs.Reading.{Out, refuse, ok, check, andThen}
-use Rattle.stored_value.specs.Reading.{valueSize, valueOf, literals, Lists}
+use Rattle.stored_value.specs.Code.{Lists}
+use Rattle.stored_value.specs.Reading.{valueSize, valueOf, literals}
 
 -- ---- the same cell
 
@@ -186,22 +187,22 @@ module _ (t : ℕ) (ls : List (List ℕ)) (s : List ℕ) (p : 0 < length s) wher
   unfolding literals valueOf andThen
   literals-refused n r e = rw (ne-eqb (length s) 0 (omega arith), e)
 
-laid-from : (t n : ℕ) (acc ls : List (List ℕ)) → Literals t ls → t < 12 → length ls ≤ n → literals t n acc (literalBytes ls) ≡ ok (acc ++ ls)
+laid-from : (t n : ℕ) (acc ls : List (List ℕ)) → Literals t ls → t < 12 → length ls ≤ n → literals t n acc (joined ls) ≡ ok (acc ++ ls)
 laid-from t n acc [] x h m = literals-end t n acc ∙ ap ok (sym (append-nil acc))
 laid-from t zero acc (l ∷ ls) x h m = absurd (omega arith)
 laid-from t (suc n) acc (l ∷ ls) x h m =
-    let s : List ℕ = l ++ literalBytes ls in
+    let s : List ℕ = l ++ joined ls in
     let p : 0 < length s = rw length-append (omega (arith, value-length t l (x .0))) in
-    let e = literals-next t acc s p n (length l) (value-laid Literal Literal t l (literalBytes ls) (x .0) h) in
-    let q = rw (take-at l (literalBytes ls) (length l) refl, drop-at l (literalBytes ls) (length l) refl) at e in
+    let e = literals-next t acc s p n (length l) (value-laid Literal Literal t l (joined ls) (x .0) h) in
+    let q = rw (take-at l (joined ls) (length l) refl, drop-at l (joined ls) (length l) refl) at e in
     q ∙ laid-from t n (acc ++ (l ∷ [])) ls (x .1) h (omega arith) ∙ ap ok (append-assoc acc (l ∷ []) ls)
 
-pub literals-laid : (t : ℕ) (ls : List (List ℕ)) → Literals t ls → t < 12 → length ls ≤ 1024 → literals t 1024 [] (literalBytes ls) ≡ ok ls
+pub literals-laid : (t : ℕ) (ls : List (List ℕ)) → Literals t ls → t < 12 → length ls ≤ 1024 → literals t 1024 [] (joined ls) ≡ ok ls
 literals-laid t ls x h m = laid-from t 1024 [] ls x h m
 
 -- what is said of literals that were read behind `acc`, n at most
 abbrev From : ℕ → ℕ → List (List ℕ) → List ℕ → List (List ℕ) → Type 0
-From t n acc s ls = (ms : List (List ℕ)) × (ls ≡ acc ++ ms) × (s ≡ literalBytes ms) × Literals t ms × (length ms ≤ n)
+From t n acc s ls = (ms : List (List ℕ)) × (ls ≡ acc ++ ms) × (s ≡ joined ms) × Literals t ms × (length ms ≤ n)
 
 none : (t n : ℕ) (acc ls : List (List ℕ)) → literals t n acc [] ≡ ok ls → From t n acc [] ls
 none t n acc ls e = let q = literals-end t n acc in ([], cc (append-nil acc), refl, tt, omega arith)
@@ -232,7 +233,7 @@ pub literals-more : (t n : ℕ) (acc : List (List ℕ)) (s : List ℕ) (ls : Lis
 literals-more t n acc s ls h e = let m = back-from t n acc s ls h e in (m .0, m .1)
 
 pub literals-back : (t : ℕ) (s : List ℕ) (ls : List (List ℕ)) → Bytes s → t < 12 → literals t 1024 [] s ≡ ok ls
-    → (s ≡ literalBytes ls) × Literals t ls × (length ls ≤ 1024)
+    → (s ≡ joined ls) × Literals t ls × (length ls ≤ 1024)
 literals-back t s ls h _ e =
     let m = back-from t 1024 [] s ls h e in
-    subst (λ (x : List (List ℕ)). (s ≡ literalBytes x) × Literals t x × (length x ≤ 1024)) (sym (m .1)) (m .2, m .3, m .4)
+    subst (λ (x : List (List ℕ)). (s ≡ joined x) × Literals t x × (length x ≤ 1024)) (sym (m .1)) (m .2, m .3, m .4)

@@ -1,4 +1,5 @@
 -- Values in stored form.
 pub mod Meaning
 pub mod Reading
+pub mod Code
 pub mod Laws

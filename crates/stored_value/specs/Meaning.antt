@@ -7,8 +7,7 @@ use lib.Dec.{eqb, ltb, leb}
 use lib.IntN.{ℤ}
 use lib.Signed.{ltZ}
 use lib.ListN.{length, getD, drop}
-use Rattle.numbers.specs.Meaning.{All, same, be, beAt, signed}
-use Rattle.numbers.specs.Laws.{Bytes}
+use Rattle.numbers.specs.Meaning.{All, same, be, beAt, signed, Bytes}
 
 -- ---- types and values
 
@@ -67,10 +66,6 @@ unfoldable pub listed : List ℕ → List (List ℕ) → Bool
 listed v [] = false
 listed v (l ∷ ls) = same v l || listed v ls
 
--- literals of type t, each in its stored form, and the bytes of all, one after another
+-- literals of type t, each in its stored form; the bytes of all are `joined`, one after another
 abbrev pub Literals : ℕ → List (List ℕ) → Type 0
 Literals t ls = All (Value t) ls
-
-abbrev pub literalBytes : List (List ℕ) → List ℕ
-literalBytes [] = []
-literalBytes (l ∷ ls) = l ++ literalBytes ls

@@ -1,7 +1,6 @@
--- What is read of any bytes as values: the size of one, and literals to the end (01, "Bitmap body" and "Questions"); and what the calls answer by it.
-use mathlib.Core.Path.{_≡_}
+-- What is read of any bytes as values: the size of one, and literals to the end (01, "Bitmap body" and "Questions").
 use Prim.Native.Nat.{ℕ, zero, suc, _+_}
-use mathlib.Core.Bool.{Bool, cond}
+use mathlib.Core.Bool.{cond}
 use mathlib.Core.List.{List, [], _∷_, _++_}
 use lib.Dec.{eqb, ltb, leb}
 use lib.ListN.{length, take, drop}
@@ -9,9 +8,7 @@ use Rattle.numbers.specs.Meaning.{big, number}
 use Rattle.refusal.specs.Reading.{Out, refuse, ok, check, andThen}
 use Rattle.refusal.specs.declared.Refusal.{Refusal}
 use Rattle.refusal.specs.declared.Refusal.the-variants.{Literal, Limit}
-use Rattle.stored_value.specs.declared.Sized.{Sized}
-use Rattle.stored_value.specs.declared.Counted.{Counted}
-use Rattle.stored_value.specs.Meaning.{width, isString, booleanOk, listed}
+use Rattle.stored_value.specs.Meaning.{width, isString, booleanOk}
 
 -- how many bytes the value of type t at the front of s takes in its stored form. A string's length is tested before its bytes. `short` and
 -- `broken` are SHORT and DICT in a dictionary, and LITERAL both among literals
@@ -24,21 +21,8 @@ valueSize short broken t s =
 unfoldable pub valueOf : {A : Type 0} → Refusal → Refusal → ℕ → List ℕ → (List ℕ → List ℕ → Out A) → Out A
 valueOf short broken t s k = andThen (valueSize short broken t s) (λ n. k (take n s) (drop n s))
 
-unfoldable pub sizedBy : Out ℕ → Sized
-sizedBy (refuse r) = Sized.Refused r
-sizedBy (ok n) = Sized.Bytes n
-
 -- ---- literals: one after another to the end. The number counts how many may still come, 1,024 at first: a byte behind the 1,024th is LIMIT
 
 unfoldable pub literals : ℕ → ℕ → List (List ℕ) → List ℕ → Out (List (List ℕ))
 literals t zero ls s = cond (eqb (length s) 0) (ok ls) (refuse Limit)
 literals t (suc n) ls s = cond (eqb (length s) 0) (ok ls) (valueOf Literal Literal t s (λ l s. literals t n (ls ++ (l ∷ [])) s))
-
-unfoldable pub countedBy : Out (List (List ℕ)) → Counted
-countedBy (refuse r) = Counted.Refused r
-countedBy (ok ls) = Counted.Count (length ls)
-
--- whether v is listed, of literals that are read. Of refused ones the answer is the program's choice, and either may be given: Ask has tested them before
-abbrev pub Lists : List ℕ → Out (List (List ℕ)) → Bool → Type 0
-Lists v (refuse r) b = Unit {0}
-Lists v (ok ls) b = b ≡ listed v ls
