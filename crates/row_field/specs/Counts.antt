@@ -3,16 +3,17 @@ use Prim.Native.Nat.{ℕ, zero, suc, _+_, _-_, _*_, _/_, _%_, _^_, _<_, _≤_, m
 use mathlib.Core.Path.{_≡_, refl, sym, ap, _∙_}
 use mathlib.Core.Bool.{Bool, true, false, cond}
 use mathlib.Core.List.{List, [], _∷_, _++_}
-use native.Mathlib.Nat.{mod-eq-of-lt, zero-div}
+use native.Mathlib.Nat.{mod-eq-of-lt, zero-div, pow-suc}
 use native.Mathlib.Decide.{decLt, ℕ-discrete}
 use native.Mathlib.Numerals.{add-one, one-add}
 use native.Mathlib.Omega.{arith}
-use lib.Count.{ones, ones-step, ones-le}
+use lib.Count.{ones, ones-step, ones-le, ones-cat}
 use lib.Dec.{eqb}
-use lib.Pow.{shr-shr, field, mod-mod-pow}
+use lib.Pow.{pow-add, shr-shr, field, mod-mod-pow}
 use lib.ListN.{length, getD, drop, replicate, length-replicate, getD-replicate}
 use borrow.Author.Tests.{eq-eqb, ne-eqb}
-use Rattle.numbers.specs.Meaning.{Bytes}
+use Rattle.numbers.specs.Meaning.{Bytes, leAt}
+use Rattle.numbers.specs.Laws.{leAt-lt}
 use Rattle.row_field.specs.Meaning.{size, bit, mark, markAll, fieldOf, zeroed, rowsFrom, count}
 use Rattle.row_field.specs.Laws.{digit, bit-out, length-mark, bit-mark-same, bit-mark-other}
 
@@ -154,6 +155,31 @@ pub count-byte : (f : List ℕ) (i : ℕ) → getD f i 0 < 256 → count f ((i +
 count-byte f i h =
     let e : (i + 1) * 8 ≡ i * 8 + 8 = omega arith in
     rw e (count-part f i 8 (omega arith) ∙ rw (mod-eq-of-lt h))
+
+bytes-bits : (w : ℕ) → 256 ^ w ≡ 2 ^ (8 * w)
+bytes-bits zero = refl
+bytes-bits (suc w) =
+    let e : 8 * suc w ≡ 8 * w + 8 = omega arith in
+    rw (e, pow-add 2 (8 * w) 8, pow-suc 256 w, bytes-bits w)
+
+-- the rows of w bytes are the ones of the number that they spell: its digits are theirs, byte behind byte
+pub count-number : (w : ℕ) (f : List ℕ) (at : ℕ) → Bytes f → count f ((at + w) * 8) ≡ count f (at * 8) + ones (leAt w f at)
+count-number zero f at b =
+    let e : (at + 0) * 8 ≡ at * 8 = omega arith in
+    rw e (omega (arith, ones-le 0 0 (omega arith)))
+count-number (suc w) f at b =
+    let e : (at + suc w) * 8 ≡ (at + w + 1) * 8 = omega arith in
+    let y = getD f (at + w) 0 in
+    let l : leAt w f at < 2 ^ (8 * w) = rw bytes-bits at (leAt-lt w f at b) in
+    let c : leAt w f at + 256 ^ w * y ≡ y * 2 ^ (8 * w) + leAt w f at = rw (bytes-bits w) (omega arith) in
+    let o = ones-cat (8 * w) y (leAt w f at) l in
+    rw (e, c) (omega (arith, count-byte f (at + w) (b (at + w)), count-number w f at b))
+
+pub count-word : (f : List ℕ) (i : ℕ) → Bytes f → count f ((i + 1) * 64) ≡ count f (i * 64) + ones (leAt 8 f (i * 8))
+count-word f i b =
+    let e : (i + 1) * 64 ≡ (i * 8 + 8) * 8 = omega arith in
+    let z : i * 64 ≡ i * 8 * 8 = omega arith in
+    rw (e, z) (count-number 8 f (i * 8) b)
 
 -- the rows of whole bytes, and those of the last byte's bits that stand for rows
 pub count-last : (f : List ℕ) (i n : ℕ) → i ≡ n / 8 → count f n ≡ count f (i * 8) + ones (getD f i 0 % 2 ^ (n % 8))

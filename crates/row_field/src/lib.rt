@@ -10,6 +10,7 @@ ghost use Rattle.row_field.specs.Meaning as meaning;
 ghost use Rattle.row_field.specs.Reading.{subtraction, fieldAfter, subtractOut};
 ghost use Rattle.row_field.specs.Subtracts.{Taken};
 ghost use Rattle.row_field.specs.Bytes.{anySeen, byteRows};
+use numbers::Position;
 use refusal::Refusal;
 
 // A row number: a kind of its own (document 01), which no byte position can stand in for.
@@ -152,13 +153,29 @@ pub fn mark_run(field: &mut [u8], first: Row, last: Row) -> bool
     head | middle | tail
 }
 
-// How many rows of the first `end` bytes are set, by the count of ones of each.
+// How many rows of the first `words` words of 8 bytes are set, by the count of ones of each.
+fn count_words(field: &[u8], words: usize) -> u64
+    requires { ⌜ (words * 8 ≤ length (now field)) × (words * 64 < 2 ^ 64) ⌝ }
+    ensures { λ r. ⌜ r ≡ meaning.count (now (field .entry)) (words * 64) ⌝ }
+{
+    let mut total: u64 = 0;
+    let mut i = 0;
+    while i < words {
+        let word = numbers::le64(field, Position(i * 8));
+        total += u64::count_ones(word) as u64;
+        i += 1;
+    }
+    total
+}
+
+// How many rows of the first `end` bytes are set: those of whole words, then those of each byte that is left.
 fn count_bytes(field: &[u8], end: usize) -> u64
     requires { ⌜ (end ≤ length (now field)) × (end * 8 < 2 ^ 64) ⌝ }
     ensures { λ r. ⌜ r ≡ meaning.count (now (field .entry)) (end * 8) ⌝ }
 {
-    let mut total: u64 = 0;
-    let mut i = 0;
+    let words = end / 8;
+    let mut total = count_words(field, words);
+    let mut i = words * 8;
     while i < end {
         total += u8::count_ones(field[i]) as u64;
         i += 1;

@@ -1,22 +1,31 @@
--- `row_field::count_bytes` meets its contract. The loop's invariant: the total is the count of the rows of the bytes passed (`count-byte`).
--- Assumes nothing.
-use Prim.Native.Nat.{_≤_, _*_, _-_}
-use mathlib.Core.Path.{_≡_, sym}
+-- `row_field::count_bytes` meets its contract. The loop's invariant: the total is the count of the rows of the bytes passed (`count-byte`), which at first
+-- are those of the whole words. Assumes nothing.
+use Prim.Native.Nat.{ℕ, _-_, _*_, _/_, _≤_}
+use mathlib.Core.Path.{_≡_, ap, _∙_}
 use native.Mathlib.Omega.{arith}
 use lib.Count.{ones-le}
 use Rattle.row_field.specs.Meaning.{count}
-use Rattle.row_field.specs.Counts.{count-none, count-byte, count-le}
+use Rattle.row_field.specs.Counts.{count-byte, count-le}
 use Rattle.row_field.proofs.count_bytes.Statement.{statement}
 use Rattle.row_field.proofs.count_bytes.Tie as tie
 
 abbrev Inv-loop : tie.InvT-loop
-Inv-loop field end total₀ i₀ total i = (i ≤ end) × (total ≡ count field (i * 8))
+Inv-loop field end words total₀ i₀ total i = (i ≤ end) × (total ≡ count field (i * 8))
 
 abbrev μ-loop : tie.MeasureT-loop
-μ-loop field end total₀ i₀ total i = end - i
+μ-loop field end words total₀ i₀ total i = end - i
+
+count-words-requires : tie.Need-count-words-requires Inv-loop μ-loop
+count-words-requires c κs = (omega arith, omega arith)
+
+mul-i : tie.Need-mul-i Inv-loop μ-loop
+mul-i c = omega arith
 
 loop-holds : tie.Need-loop-holds Inv-loop μ-loop
-loop-holds c = (omega arith, sym (count-none _))
+loop-holds c =
+    let n = c .before .before .args .end / 8 in
+    let e : n * 64 ≡ n * 8 * 8 = omega arith in
+    (omega arith, c .count-words .ensures ∙ ap (λ (k : ℕ). count (c .before .before .args .field .now) k) e)
 
 shared-slice-read-total : tie.Need-shared-slice-read-total Inv-loop μ-loop
 shared-slice-read-total c = omega arith
@@ -24,13 +33,13 @@ shared-slice-read-total c = omega arith
 cast-total : tie.Need-cast-total Inv-loop μ-loop
 cast-total c =
     let i = c .before .before .loop .i in
-    omega (arith, ones-le 8 _ (c .shared-slice-known .given i .fits))
+    omega (arith, ones-le 8 _ (c .shared-slice-known2 .given i .fits))
 
 add-total : tie.Need-add-total Inv-loop μ-loop
 add-total c =
     let i = c .before .before .loop .i in
-    let f = c .before .before .before .args .field .now in
-    omega (arith, ones-le 8 _ (c .shared-slice-known .given i .fits), count-le f (i * 8))
+    let f = c .before .before .before .before .before .args .field .now in
+    omega (arith, ones-le 8 _ (c .shared-slice-known2 .given i .fits), count-le f (i * 8))
 
 add-i : tie.Need-add-i Inv-loop μ-loop
 add-i c = omega arith
@@ -41,12 +50,12 @@ loop-less c = omega arith
 loop-again : tie.Need-loop-again Inv-loop μ-loop
 loop-again c =
     let i = c .before .before .loop .i in
-    let f = c .before .before .before .args .field .now in
-    (omega arith, omega (arith, count-byte f i (c .shared-slice-known .given i .fits)))
+    let f = c .before .before .before .before .before .args .field .now in
+    (omega arith, omega (arith, count-byte f i (c .shared-slice-known2 .given i .fits)))
 
 returns : tie.Need-returns Inv-loop μ-loop
 returns c =
-    let e : c .before .loop .i ≡ c .before .before .args .end = omega arith in
+    let e : c .before .loop .i ≡ c .before .before .before .before .args .end = omega arith in
     cc
 
 pub count-bytes-spec : {M : Type 1} → statement M
@@ -55,6 +64,8 @@ count-bytes-spec =
     (tie.spec
     Inv-loop
     μ-loop
+    count-words-requires
+    mul-i
     loop-holds
     shared-slice-read-total
     cast-total
