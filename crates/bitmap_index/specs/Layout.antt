@@ -33,7 +33,7 @@ AllPlaced region cells es = All (λ (e : Entry). Placed region (rowsWith (e .cel
 abbrev pub Covers : List Entry → List Cell → Type 0
 Covers es cells = All (λ (c : Cell). someHas c es ≡ true) cells
 
--- ---- the bodies of a column of type t, within 01's limits
+-- ---- the bodies of a column of type t, within 01's limits. That the region's numbers are bytes is not asked: a body is a buffer's, and so all bytes
 
 -- at most one entry for null; each entry has exactly the rows of its cell; an entry for each of the column's cells
 abbrev pub Kept : List Cell → List ℕ → List Entry → List Entry → Type 0

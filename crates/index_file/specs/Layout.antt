@@ -63,8 +63,8 @@ pub record Once {A : Type 0} (P : A → Type 0) (x : A) (l : List A) : Type 0 wh
   pub none-before : All (λ (y : A). P y → ⊥) before
   pub none-after : All (λ (y : A). P y → ⊥) after
 
--- "it keeps the head's rules": bytes that are a head and anything behind it; the head length counts the whole head. That each number of a name is a byte is said by
--- `bytes`, a buffer's
+-- "it keeps the head's rules": bytes that are a head and anything behind it; the head length counts the whole head. That each number
+-- of a name is a byte is not asked here: `bytes` is a buffer's, and so all bytes
 pub record Headed (bytes : List ℕ) : Type 0 where
   pub headLength : ℕ
   pub columns : List Column

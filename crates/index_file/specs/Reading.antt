@@ -36,7 +36,7 @@ name s k = number big 2 broken s (λ n s. need (leb n (length s)) broken (k (tak
 
 -- ---- the columns
 
--- Names are the same where they are byte for byte ("Names are compared byte for byte").
+-- A stored name is the asked one where `same` says so: "Names are compared byte for byte".
 
 -- where the asked kind stands, after one more entry of the column, whose name is the asked one or not: "the asked kind twice in it"
 unfoldable pub afterEntry : Bool → ℕ → ℕ → Place → Place
