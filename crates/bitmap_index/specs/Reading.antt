@@ -127,11 +127,13 @@ unfoldable pub answeredBy : Out Answer → Answered
 answeredBy (refuse r) = Answered.Refused r
 answeredBy (ok a) = cond (keeps (a .matched)) (Keep (a .matched)) Skip
 
+-- skip and keep have the number 0; a count of 0 is skip
 unfoldable pub askOut : Answered → ℕ × ℕ
 askOut (Answered.Refused r) = (numberOf r, 0)
 askOut Skip = (0, 0)
 askOut (Keep n) = (0, n)
 
+-- the number and the count that a reading stands for: what the two calls' numbers are said to be
 unfoldable pub numbersOf : Out ℕ → ℕ × ℕ
 numbersOf (refuse r) = (numberOf r, 0)
 numbersOf (ok n) = (0, n)

@@ -1,4 +1,5 @@
--- What a writer may lay out for a list of row sets (01, "Deletion file"). His choice is each bitmap's form.
+-- What a writer may lay out for a list of row sets (01, "Deletion file"). His choice is each bitmap's form. Last, what a file must be
+-- for one bin alone to be read.
 use Prim.Native.Nat.{ℕ, _<_, _≤_}
 use mathlib.Core.List.{List, [], _∷_, _++_}
 use lib.ListN.{length}
@@ -37,7 +38,7 @@ pub data DeletionFile : List (List ℕ) → List ℕ → Type 0 where
 abbrev pub Framed : Bin → Type 0
 Framed x = (4 ≤ length (x .bytes)) × (length (x .bytes) < 4294967296) × (x .sum < 4294967296)
 
--- bin b of a file is a bitmap of the rows; what the other bins hold is left open
+-- bin b of a file holds a bitmap of the rows; what the other bins hold is left open
 pub data HasBin : ℕ → List ℕ → List ℕ → Type 0 where
   has-bin : (earlier later : List Bin) {rows bitmap : List ℕ} → Bitmap rows bitmap → All Framed (earlier ++ (binOf bitmap ∷ later))
       → HasBin (length earlier) rows (1 ∷ frames (earlier ++ (binOf bitmap ∷ later)))

@@ -60,7 +60,7 @@ entriesTwo t (suc n) before head es s k =
 unfoldable pub behind : List ℕ → List ℕ → ℕ
 behind base s = length base - length s
 
--- the blocks of the directory, which ends where base begins: each begins where the one before ended
+-- the blocks of the directory. base begins behind the body offset, the byte that block offsets count from: each block begins where the one before ended
 unfoldable pub blocksOf : ℕ → List Listing → List ℕ → Cell → List Entry → List ℕ → (List Entry → List ℕ → Out Dictionary) → Out Dictionary
 blocksOf t [] base before es s k = k es s
 blocksOf t (d ∷ ds) base before es s k =

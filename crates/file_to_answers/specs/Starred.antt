@@ -11,7 +11,7 @@ use lib.IntN.{ℤ, pos, negsuc}
 use lib.ListN.{length, getD, set, take, drop, replicate}
 use Rattle.numbers.specs.Meaning.{All, number, signed32, same, Bytes}
 use Rattle.refusal.specs.Meaning.{limit}
-use Rattle.refusal.specs.declared.Refusal.the-variants.{Range}
+use Rattle.refusal.specs.declared.Refusal.the-variants.{Range, Twice}
 use Rattle.row_field.specs.Meaning.{bit, mark, markAll, anySet, zeroed, upTo, rowsFrom}
 use Rattle.roaring.specs.Reading.{Read, got, need, choose, valuesOf, runsOf, rising, apart, bodySize, bodyValues, sound, body, offsetIs, containers, contents, readPlain, readFlagged, read}
 use Rattle.roaring.specs.Reading as roaring
@@ -28,7 +28,7 @@ use Rattle.dictionary.specs.Layout.{Entry, minusOne}
 use Rattle.bitmap_index.specs.declared.Answered.{Answered}
 use Rattle.bitmap_index.specs.declared.Answered.the-variants.{Skip, Keep}
 use Rattle.bitmap_index.specs.Meaning.{Column, chosen, takes, scanFrom, scan, keeps}
-use Rattle.bitmap_index.specs.Layout.{Kept, single, Body, version1, version2}
+use Rattle.bitmap_index.specs.Layout.{Placed, Kept, single, Body, version1, version2}
 use Rattle.bitmap_index.specs.Reading.{Answer, placeAt, place, placeAll, roomFor, prepared, audited, audit, chosenOf, answered, asked, ask, answeredBy}
 use Rattle.file_to_answers.specs.Layout.{ColumnFile}
 
@@ -65,15 +65,16 @@ pub data Case : Type 0 where
   answers : ℕ → ℕ → ℕ → ℕ → Answered → Case
   -- the bytes are a bitmap of these rows, and are read so
   reads : List ℕ → List ℕ → Case
-  -- the offset, as 32 bits, names this row
+  -- the offset, as 32 bits, names this row: it is placed as this row alone, and so it is laid out, whatever the length beside it
   names : ℕ → ℕ → Case
   -- the offset is RANGE always: for each row count that 01 allows
   outside : ℕ → Case
 
--- a lent byte with all bits set is the field of the three rows
+-- the buffer that is lent is one byte, all its bits set before the call
 abbrev pub Holds : Case → Type 0
 Holds (locates body) =
-    (answerOf (located [] file s bitmap) ≡ 0) × (partOf (located [] file s bitmap) (lookedAt [] file) ≡ body) × ColumnFile 0 cells s bitmap file
+    (answerOf (located [] file s bitmap) ≡ 0) × (partOf (located [] file s bitmap) (lookedAt [] file) ≡ body)
+    × ColumnFile 0 cells s bitmap file × (length file ≡ 71)
 Holds (audits body) = (audit 0 body (0xFF ∷ []) ≡ ok 3) × Body 0 cells body
 Holds (answers q v field matched answer) =
     (ask 0 q (v ∷ []) one (0xFF ∷ []) ≡ ok (record { buffer = field ∷ []; matched = matched }))
@@ -81,7 +82,10 @@ Holds (answers q v field matched answer) =
     × (scan q ((v ∷ []) ∷ []) cells ≡ record { field = field ∷ []; matched = matched })
     × (answeredBy (ok (record { buffer = field ∷ []; matched = matched })) ≡ answer)
 Holds (reads bytes rows) = (read bytes ≡ got rows (length bytes) []) × Bitmap rows bytes
-Holds (names offset row) = signed32 offset ≡ negsuc row
+Holds (names offset row) =
+    (signed32 offset ≡ negsuc row)
+    × ((extent n : ℕ) (region field : List ℕ) → placeAt (signed32 offset) extent n region field ≡ check (ltb row n) Range (check (not (bit field row)) Twice (ok (mark field row))))
+    × ((c : Cell) (extent : ℕ) (region : List ℕ) → extent < 4294967296 → Placed region (row ∷ []) (record { cell = c; offset = offset; extent = extent }))
 Holds (outside offset) = (extent n : ℕ) (region field : List ℕ) → n ≤ limit → placeAt (signed32 offset) extent n region field ≡ refuse Range
 
 abbrev pub table : List Case

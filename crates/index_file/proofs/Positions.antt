@@ -20,7 +20,7 @@ use Rattle.index_file.specs.declared.Place.{Place}
 use Rattle.index_file.specs.declared.Name.{Name}
 use Rattle.index_file.specs.declared.Count.{Count}
 use Rattle.index_file.specs.declared.Walk.{Walk}
-use Rattle.index_file.specs.Reading.{need, broken, count, name, afterEntry, entries, afterColumn, columns, position, placed, head, file, find, used, answerOf, partOf, HandedBack}
+use Rattle.index_file.specs.Reading.{need, broken, count, name, afterEntry, entries, afterColumn, columns, position, placed, head, file, find, used, answerOf, locateOut, partOf, HandedBack}
 use Rattle.index_file.specs.Laws.{from-count}
 use Rattle.index_file.specs.Steps.{named, counted, walked}
 
@@ -248,8 +248,8 @@ module _ (column kind bytes : List ℕ) (long : 16 ≤ length bytes) {magic vers
 -- ---- Locate
 
 -- an answer has its number
-pub numbered : {l m : Located} → l ≡ m → (l ≡ m) × (answerOf l ≡ answerOf m)
-numbered e = (e, ap answerOf e)
+pub numbered : {l m : Located} → l ≡ m → (l ≡ m) × (locateOut l ≡ locateOut m)
+numbered e = (e, ap locateOut e)
 
 module _ (bytes column kind : List ℕ) (place : ℕ × ℕ) {l : Located} (e : l ≡ find bytes column kind) where
   pub part-found : {start : Position} {size : ℕ} → l ≡ Located.Found start size

@@ -52,7 +52,7 @@ entries kind (suc m) place s k =
     name s (λ stored s. number big 4 broken s (λ start s. number big 4 broken s (λ size s.
     entries kind m (afterEntry (same kind stored) start size place) s k)))
 
--- the same after one more column, whose name is the asked one or not, and which lists the asked kind at `new`; `seen`: whether one before it had the name.
+-- where the asked kind stands, after one more column, whose name is the asked one or not, and which lists the asked kind at `new`; `seen`: whether one before it had the name.
 -- "the asked column name twice" is a repetition, whatever the two list
 unfoldable pub afterColumn : Bool → Bool → Place → Place → Place
 afterColumn false seen new place = place
@@ -104,8 +104,8 @@ find bytes column kind =
 
 -- ---- Locate
 
--- "If the embedded buffer isn't empty it is used and the other isn't looked at; else the file is used": what belongs to the one that is used, of two that belong to
--- the embedded buffer and to the file
+-- "If the embedded buffer isn't empty it is used and the other isn't looked at; else the file is used": the first of two things
+-- where the embedded buffer isn't empty, else the second
 unfoldable pub used : {A : Type 0} → List ℕ → A → A → A
 used [] ofEmbedded ofFile = ofFile
 used (b ∷ embedded) ofEmbedded ofFile = ofEmbedded
@@ -123,13 +123,20 @@ answerOf (Found start size) = 0
 answerOf Absent = 255
 answerOf (Refused r) = numberOf r
 
+-- the number, and start and length of the body in the buffer that was looked at, 0 with the other answers
+unfoldable pub locateOut : Located → ℕ × ℕ × ℕ
+locateOut (Found start size) = (0, start .0, size)
+locateOut Absent = (255, 0, 0)
+locateOut (Refused r) = (numberOf r, 0, 0)
+
 -- the part of the buffer that is handed back: "With the other answers, ABSENT and a refusal, the part is empty"
 abbrev pub partOf : Located → List ℕ → List ℕ
 partOf (Found start size) bytes = take size (drop (start .0) bytes)
 partOf Absent bytes = []
 partOf (Refused r) bytes = []
 
--- "The body found is handed back as a part of the buffer it lies in .., not a copy": where the part stands in memory, from the buffer's place on.
+-- "The body found is handed back as a part of the buffer it lies in .., not a copy": where the part stands in memory, from the buffer's place on. A place is
+-- a pair, of an allocation and an offset in it.
 -- With the other answers it has no bytes, and its place is left open
 abbrev pub HandedBack : Located → ℕ × ℕ → ℕ × ℕ → Type 0
 HandedBack (Found start size) buffer part = part ≡ (buffer .0, start .0 + buffer .1)

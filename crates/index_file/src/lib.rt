@@ -1,10 +1,10 @@
-// Finding a body in an index file: the head of document 01's Locate, which chooses between two buffers in `file_to_answers`.
+// Document 01's Locate within one buffer. Which of two is looked at is chosen where there are two: `file_to_answers::locate` and the C interface.
 ghost use mathlib.Core.Path.{_≡_};
 ghost use mathlib.Core.Bool.{false};
 ghost use Prim.Native.Nat.{_≤_};
 ghost use lib.ListN.{length, drop};
 ghost use Rattle.numbers.specs.Meaning.{same};
-ghost use Rattle.index_file.specs.Reading.{afterEntry, afterColumn, entries, columns, placed, head, file, find, answerOf, partOf, HandedBack};
+ghost use Rattle.index_file.specs.Reading.{afterEntry, afterColumn, entries, columns, placed, head, file, find, answerOf, locateOut, partOf, HandedBack};
 ghost use Rattle.index_file.specs.Steps.{named, counted, walked};
 use numbers::Position;
 use refusal::Refusal;
@@ -255,7 +255,7 @@ fn read_file(bytes: &[u8], column: &[u8], kind: &[u8]) -> Located
 // Where the body of the asked kind of the asked column lies in an index file.
 pub fn find(bytes: &[u8], column: &[u8], kind: &[u8]) -> Located
     ensures { λ r. ⌜ (r ≡ find (now (bytes .entry)) (now (column .entry)) (now (kind .entry)))
-        × (answerOf r ≡ answerOf (find (now (bytes .entry)) (now (column .entry)) (now (kind .entry)))) ⌝ }
+        × (locateOut r ≡ locateOut (find (now (bytes .entry)) (now (column .entry)) (now (kind .entry)))) ⌝ }
 {
     if LIMIT < bytes.len() {
         return Located::Refused(Refusal::Limit);

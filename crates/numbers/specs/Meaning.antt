@@ -1,4 +1,5 @@
--- Bytes that are the same; and numbers of `w` bytes: what bytes spell, which bytes spell a number, and reading one off the front of some bytes.
+-- Lists and bytes: a property of each, lists one after another, bytes that are the same. Numbers of `w` bytes: what bytes spell, which bytes spell a number,
+-- reading one off the front of some bytes, two's complement.
 use Prim.Native.Nat.{ℕ, zero, suc, _+_, _-_, _*_, _/_, _%_, _^_, _<_}
 use mathlib.Core.Bool.{Bool, true, false, _&&_, cond}
 use mathlib.Core.List.{List, [], _∷_, _++_}
@@ -56,11 +57,11 @@ abbrev pub numberAt : Order → ℕ → List ℕ → ℕ → ℕ
 numberAt big w s at = beAt w s at
 numberAt little w s at = leAt w s at
 
--- w bytes off the front of s: k of their number and of what is left; `short` where there are fewer
+-- w bytes off the front of s: k is given their number and what is left; `short` where there are fewer
 unfoldable pub number : {A : Type 0} → Order → ℕ → A → List ℕ → (ℕ → List ℕ → A) → A
 number o w short s k = cond (leb w (length s)) (k (numberAt o w s 0) (drop w s)) short
 
--- the signed number that w bytes hold, in two's complement
+-- the signed number that w bytes hold which spell x, in two's complement
 abbrev pub signed : ℕ → ℕ → ℤ
 signed w x = cond (ltb x (256 ^ w / 2)) (pos x) (negsuc (256 ^ w - 1 - x))
 

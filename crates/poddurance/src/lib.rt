@@ -3,10 +3,9 @@
 ghost use mathlib.Core.Path.{_≡_};
 ghost use Rattle.row_field.specs.Reading.{subtraction, fieldAfter, subtractOut};
 ghost use Rattle.deletion_file.specs.Reading.{outcome, answerOf, fieldThen, deletionsOut};
-ghost use Rattle.index_file.specs.Reading.{located};
+ghost use Rattle.index_file.specs.Reading.{located, locateOut};
 ghost use Rattle.bitmap_index.specs.Reading.{auditBuffer, askBuffer, auditedBy, auditOut, answeredBy, askOut};
 ghost use Rattle.bitmap_index.specs.Reading as index;
-ghost use Rattle.poddurance.specs.Reading.{locateOut};
 use bitmap_index::Answered;
 use bitmap_index::Audited;
 use deletion_file::Deletions;

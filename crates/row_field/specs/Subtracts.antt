@@ -1,4 +1,5 @@
--- Laws of `subtracted` and `removed`: row by row they go by the bits of both fields, so a byte at a time they are what the code computes. Assumes nothing.
+-- Laws of `subtracted` and `removed`: row by row they go by the bits of both fields, so a field less another's rows is what the code computes a byte at a
+-- time, and rows removed are those that were, less those that are left. Assumes nothing.
 use Prim.Native.Nat.{ℕ, zero, suc, _+_, _-_, _*_, _/_, _%_, _^_, _<_, _≤_, min}
 use mathlib.Core.Path.{_≡_, refl, sym, ap, _∙_}
 use mathlib.Core.Logic.{_≢_}
@@ -7,8 +8,7 @@ use mathlib.Core.List.{List, [], _∷_}
 use native.Mathlib.Nat.{pow-suc, mod-eq-of-lt, div-eq-of-lt, mod-lt}
 use native.Mathlib.Decide.{decLt, ℕ-discrete}
 use native.Mathlib.Omega.{arith}
-use lib.Bits.{bitAnd, and-step, and-shr, and-le-l, and-le-r}
-use lib.Count.{ones}
+use lib.Bits.{bitAnd, and-step, and-shr, and-le-l}
 use lib.Dec.{eqb, ltb}
 use lib.ListN.{length, getD, set, length-set}
 use lib.Pow.{pow-pos, pow-lt, pow-mono}
@@ -17,7 +17,7 @@ use borrow.Author.Tests.{lt-ltb, le-ltb}
 use Rattle.numbers.specs.Meaning.{Bytes}
 use Rattle.row_field.specs.Meaning.{bit, rowsFrom, count, unmark, without, setIn, subtracted, removed}
 use Rattle.row_field.specs.Laws.{digit, bit-out, pow-digit-same, pow-digit-other}
-use Rattle.row_field.specs.Counts.{tick, tick-digit, tally, tally-le, tally-add, tally-ones, tally-split, rows-tally, digit-suc, low-half, low-odd, byte-row}
+use Rattle.row_field.specs.Counts.{tick, tick-digit, tally, tally-split, rows-tally, digit-suc, low-half, low-odd, byte-row}
 
 -- ---- binary digits
 
@@ -117,11 +117,6 @@ unmark-same-go f r (yes h) =
 pub bit-unmark-same : (f : List ℕ) (r : ℕ) → bit (unmark f r) r ≡ false
 bit-unmark-same f r = unmark-same-go f r (decLt (r / 8) (length f))
 
--- another byte stays
-pub getD-unmark : (f : List ℕ) (r i : ℕ) → i ≢ r / 8 → getD (unmark f r) i 0 ≡ getD f i 0
-unfolding unmark
-getD-unmark f r i d = getD-set-other f (r / 8) i _ 0 d
-
 unmark-other-go : (f : List ℕ) (r q : ℕ) → q ≢ r → Dec (q / 8 ≡ r / 8) → Dec (r / 8 < length f) → bit (unmark f r) q ≡ bit f q
 unfolding bit unmark
 unmark-other-go f r q n (no d) h = rw (getD-set-other f (r / 8) (q / 8) _ 0 d)
@@ -212,17 +207,6 @@ without-add (suc j) k f g a =
     let z : a + suc j ≡ a + 1 + j = omega arith in
     rw (e, z, without-suc f g a (j + k), without-suc f g a j) (without-add j k (step f g a) g (a + 1))
 
--- a byte ahead stays
-pick-ahead : (b : Bool) (f : List ℕ) (a i : ℕ) → a < i * 8 → getD (cond b (unmark f a) f) i 0 ≡ getD f i 0
-pick-ahead true f a i h = getD-unmark f a i (λ e. omega arith)
-pick-ahead false f a i h = refl
-
-without-ahead : (k : ℕ) (f g : List ℕ) (a i : ℕ) → a + k ≤ i * 8 → getD (without f (rowsFrom g a k)) i 0 ≡ getD f i 0
-unfolding step
-without-ahead zero f g a i h = rw (without-none f g a)
-without-ahead (suc k) f g a i h =
-    rw (without-suc f g a k) (without-ahead k (step f g a) g (a + 1) i (omega arith) ∙ pick-ahead (bit g a) f a i (omega arith))
-
 -- ---- a byte at a time
 
 less-bit : (u v : ℕ) → u < 2 → v < 2 → eqb (min u (1 - v)) 1 ≡ eqb u 1 && not (eqb v 1)
@@ -270,7 +254,34 @@ module _ (d g : List ℕ) (i k : ℕ) (small : k ≤ 8) (inside : i < length d) 
       (length-without d (rowsFrom g (i * 8) k) ∙ sym (length-set d i _))
       (λ r. byte-bits r (ℕ-discrete (r / 8) i) (decLt (r % 8) k))
 
--- ---- rows removed, a byte at a time
+-- ---- the walk: a byte's rows more
+
+pub subtracted-none : (f g : List ℕ) → f ≡ subtracted 0 f g
+subtracted-none f g = sym (without-none f g 0)
+
+module _ (f g : List ℕ) (i : ℕ) (inside : i < length f) (bytes : Bytes f) where
+  subtracted-part : (k : ℕ) → k ≤ 8
+      → subtracted (i * 8 + k) f g ≡ set (subtracted (i * 8) f g) i (bitAnd (getD (subtracted (i * 8) f g) i 0) (255 - getD g i 0 % 2 ^ k))
+  subtracted-part k h =
+      let z : 0 + i * 8 ≡ i * 8 = omega arith in
+      rw (without-add (i * 8) k f g 0, z)
+      (without-byte (subtracted (i * 8) f g) g i k h (omega (arith, length-without f (rowsFrom g 0 (i * 8)))) (bytes-without f (rowsFrom g 0 (i * 8)) bytes))
+
+  pub subtracted-byte : getD g i 0 < 256
+      → subtracted ((i + 1) * 8) f g ≡ set (subtracted (i * 8) f g) i (bitAnd (getD (subtracted (i * 8) f g) i 0) (255 - getD g i 0))
+  subtracted-byte h =
+      let e : (i + 1) * 8 ≡ i * 8 + 8 = omega arith in
+      let m : getD g i 0 % 2 ^ 8 ≡ getD g i 0 = mod-eq-of-lt h in
+      rw e (rw m at (subtracted-part 8 (omega arith)))
+
+-- the rows of the last byte
+pub subtracted-last : (f g : List ℕ) (n : ℕ) → n / 8 < length f → Bytes f
+    → subtracted n f g ≡ set (subtracted (n / 8 * 8) f g) (n / 8) (bitAnd (getD (subtracted (n / 8 * 8) f g) (n / 8) 0) (255 - getD g (n / 8) 0 % 2 ^ (n % 8)))
+subtracted-last f g n h b =
+    let e : n / 8 * 8 + n % 8 ≡ n = omega arith in
+    rw e at (subtracted-part f g (n / 8) h b (n % 8) (omega arith))
+
+-- ---- rows removed
 
 both : List ℕ → List ℕ → ℕ → Bool
 both f g r = bit f r && bit g r
@@ -292,75 +303,6 @@ both-tally : (f g : List ℕ) (a k : ℕ) → length (setIn f (rowsFrom g a k)) 
 unfolding setIn rowsFrom tally both
 both-tally f g a zero = refl
 both-tally f g a (suc k) = set-in-pick (bit g a) f a (rowsFrom g (a + 1) k) ∙ ap (λ (n : ℕ). tick (bit f a && bit g a) + n) (both-tally f g (a + 1) k)
-
-both-bit : (u v : ℕ) → u < 2 → v < 2 → eqb (min u v) 1 ≡ eqb u 1 && eqb v 1
-both-bit zero v h l =
-    let z : min 0 v ≡ 0 = omega arith in
-    rw z
-both-bit (suc zero) zero h l = refl
-both-bit (suc zero) (suc zero) h l = refl
-both-bit (suc zero) (suc (suc v)) h l = absurd (omega arith)
-both-bit (suc (suc u)) v h l = absurd (omega arith)
-
-both-row : (f g : List ℕ) (i k j : ℕ) → k ≤ 8 → j < k → both f g (i * 8 + j) ≡ eqb (digit (bitAnd (getD f i 0) (getD g i 0 % 2 ^ k)) j) 1
-unfolding both
-both-row f g i k j h l =
-    rw (byte-row f i j (omega arith), byte-row g i j (omega arith), both-digit (getD f i 0) (getD g i 0 % 2 ^ k) j, low-digit (getD g i 0) k j l)
-    (sym (both-bit (digit (getD f i 0) j) (digit (getD g i 0) j) (omega arith) (omega arith)))
-
-both-ones : (f g : List ℕ) (i k : ℕ) → k ≤ 8 → tally (both f g) (i * 8) k ≡ ones (bitAnd (getD f i 0) (getD g i 0 % 2 ^ k))
-both-ones f g i k h =
-    let l : bitAnd (getD f i 0) (getD g i 0 % 2 ^ k) < 2 ^ k = omega (arith, and-le-r (getD f i 0) (getD g i 0 % 2 ^ k), mod-lt (getD g i 0) (pow-pos k)) in
-    tally-ones (both f g) (i * 8) (bitAnd (getD f i 0) (getD g i 0 % 2 ^ k)) k (λ j m. both-row f g i k j h m) ∙ ap ones (mod-eq-of-lt l)
-
--- ---- the walk's state: d is the field without g's rows below n, and t how many were removed
-
-pub record Taken (f g : List ℕ) (n : ℕ) (d : List ℕ) (t : ℕ) : Type 0 where
-  pub field : d ≡ subtracted n f g
-  pub rows : t ≡ removed n f g
-
-pub taken-none : (f g : List ℕ) → Taken f g 0 f 0
-unfolding rowsFrom without setIn
-taken-none f g = record { field = refl; rows = refl }
-
-pub taken-le : {f g : List ℕ} {n : ℕ} {d : List ℕ} {t : ℕ} → Taken f g n d t → t ≤ n
-taken-le {f} {g} {n} s = omega (arith, s .rows, both-tally f g 0 n, tally-le (both f g) 0 n)
-
-module _ (f g : List ℕ) (i : ℕ) (inside : i < length f) (bytes : Bytes f) where
-  part-field : (k : ℕ) → k ≤ 8
-      → subtracted (i * 8 + k) f g ≡ set (subtracted (i * 8) f g) i (bitAnd (getD (subtracted (i * 8) f g) i 0) (255 - getD g i 0 % 2 ^ k))
-  part-field k h =
-      let z : 0 + i * 8 ≡ i * 8 = omega arith in
-      rw (without-add (i * 8) k f g 0, z)
-      (without-byte (subtracted (i * 8) f g) g i k h (omega (arith, length-without f (rowsFrom g 0 (i * 8)))) (bytes-without f (rowsFrom g 0 (i * 8)) bytes))
-
-  part-rows : (k : ℕ) → k ≤ 8 → removed (i * 8 + k) f g ≡ removed (i * 8) f g + ones (bitAnd (getD (subtracted (i * 8) f g) i 0) (getD g i 0 % 2 ^ k))
-  part-rows k h =
-      let z : 0 + i * 8 ≡ i * 8 = omega arith in
-      let t = rw z at (tally-add (both f g) 0 (i * 8) k) in
-      rw (without-ahead (i * 8) f g 0 i (omega arith))
-      (omega (arith, both-tally f g 0 (i * 8 + k), both-tally f g 0 (i * 8), both-ones f g i k h))
-
-  -- k rows of a byte more
-  pub taken-part : (k : ℕ) {d : List ℕ} {t : ℕ} → k ≤ 8 → Taken f g (i * 8) d t
-      → Taken f g (i * 8 + k) (set d i (bitAnd (getD d i 0) (255 - getD g i 0 % 2 ^ k))) (t + ones (bitAnd (getD d i 0) (getD g i 0 % 2 ^ k)))
-  taken-part k h s = record { field = rw (s .field) (sym (part-field k h)); rows = rw (s .field, s .rows) (sym (part-rows k h)) }
-
-  -- a whole byte more
-  pub taken-byte : {d : List ℕ} {t : ℕ} → getD g i 0 < 256 → Taken f g (i * 8) d t
-      → Taken f g ((i + 1) * 8) (set d i (bitAnd (getD d i 0) (255 - getD g i 0))) (t + ones (bitAnd (getD d i 0) (getD g i 0)))
-  taken-byte h s =
-      let e : (i + 1) * 8 ≡ i * 8 + 8 = omega arith in
-      let m : getD g i 0 % 2 ^ 8 ≡ getD g i 0 = mod-eq-of-lt h in
-      rw e (rw m at (taken-part 8 (omega arith) s))
-
--- the rows of the last byte
-pub taken-last : (f g : List ℕ) (n : ℕ) {d : List ℕ} {t : ℕ} → n / 8 < length f → Bytes f → Taken f g (n / 8 * 8) d t
-    → Taken f g n (set d (n / 8) (bitAnd (getD d (n / 8) 0) (255 - getD g (n / 8) 0 % 2 ^ (n % 8))))
-    (t + ones (bitAnd (getD d (n / 8) 0) (getD g (n / 8) 0 % 2 ^ (n % 8))))
-taken-last f g n {d} {t} h b s =
-    let e : n / 8 * 8 + n % 8 ≡ n = omega arith in
-    rw e at (taken-part f g (n / 8) h b (n % 8) (omega arith) s)
 
 -- ---- what is left
 

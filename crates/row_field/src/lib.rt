@@ -3,12 +3,10 @@ ghost use mathlib.Core.Path.{_≡_};
 ghost use Prim.Native.Nat.{ℕ, _+_, _-_, _*_, _%_, _^_, _<_, _≤_, min};
 ghost use lib.Dec.{leb};
 ghost use lib.Bits.{bitAnd};
-ghost use lib.Count.{ones};
 ghost use lib.ListN.{length, getD, set};
-ghost use Rattle.row_field.specs.Meaning.{size, bit, markAll, anySet, cleared, upTo, rowsOf};
+ghost use Rattle.row_field.specs.Meaning.{size, bit, markAll, anySet, cleared, upTo, rowsOf, subtracted};
 ghost use Rattle.row_field.specs.Meaning as meaning;
 ghost use Rattle.row_field.specs.Reading.{subtraction, fieldAfter, subtractOut};
-ghost use Rattle.row_field.specs.Subtracts.{Taken};
 ghost use Rattle.row_field.specs.Bytes.{anySeen, byteRows};
 use numbers::Position;
 use refusal::Refusal;
@@ -213,46 +211,44 @@ pub enum Subtracted {
 // The most rows that a field may have.
 const MOST_ROWS: u64 = 2_147_483_647;
 
-// Clears the bits of one byte that are set in `bits`, and answers how many of them were set.
-fn clear_bits(field: &mut [u8], at: usize, bits: u8) -> u64
+// Clears the bits of one byte that are set in `bits`.
+fn clear_bits(field: &mut [u8], at: usize, bits: u8)
     requires { ⌜ at < length (now field) ⌝ }
-    ensures { λ r. ⌜ (r ≡ ones (bitAnd (getD (now (field .entry)) at 0) bits)) × (now (field .exit) ≡ set (now (field .entry)) at (bitAnd (getD (now (field .entry)) at 0) (255 - bits))) ⌝ }
+    ensures { λ _. ⌜ now (field .exit) ≡ set (now (field .entry)) at (bitAnd (getD (now (field .entry)) at 0) (255 - bits)) ⌝ }
 {
     let old = field[at];
     field[at] = old & !bits;
-    u8::count_ones(old & bits) as u64
 }
 
-// Subtracts the rows of the first `end` bytes, and answers how many were removed.
-fn subtract_bytes(first: &mut [u8], second: &[u8], end: usize) -> u64
-    requires { ⌜ (end ≤ length (now first)) × (end ≤ length (now second)) × (end * 8 < 2 ^ 64) ⌝ }
-    ensures { λ r. ⌜ Taken (now (first .entry)) (now (second .entry)) (end * 8) (now (first .exit)) r ⌝ }
+// Subtracts the rows of the first `end` bytes.
+fn subtract_bytes(first: &mut [u8], second: &[u8], end: usize)
+    requires { ⌜ (end ≤ length (now first)) × (end ≤ length (now second)) ⌝ }
+    ensures { λ _. ⌜ now (first .exit) ≡ subtracted (end * 8) (now (first .entry)) (now (second .entry)) ⌝ }
 {
-    let mut removed: u64 = 0;
     let mut i = 0;
     while i < end {
-        removed += clear_bits(first, i, second[i]);
+        clear_bits(first, i, second[i]);
         i += 1;
     }
-    removed
 }
 
 // Subtracts the rows below `rows`: those of whole bytes, then those of the last one's bits that stand for rows.
-fn subtract_rows(first: &mut [u8], second: &[u8], rows: u64) -> u64
+fn subtract_rows(first: &mut [u8], second: &[u8], rows: u64)
     requires { ⌜ (size rows ≤ length (now first)) × (size rows ≤ length (now second)) ⌝ }
-    ensures { λ r. ⌜ Taken (now (first .entry)) (now (second .entry)) rows (now (first .exit)) r ⌝ }
+    ensures { λ _. ⌜ now (first .exit) ≡ subtracted rows (now (first .entry)) (now (second .entry)) ⌝ }
 {
     let whole = (rows / 8) as usize;
-    let removed = subtract_bytes(first, second, whole);
+    subtract_bytes(first, second, whole);
     let more = rows % 8;
     if more == 0 {
-        return removed;
+        return;
     }
     let bits = low_bits(second[whole], more);
-    removed + clear_bits(first, whole, bits)
+    clear_bits(first, whole, bits);
 }
 
-// Document 01, Subtract: clears in the first field each row below `rows` that is set in the second. A refusal changes nothing.
+// Document 01, Subtract: clears in the first field each row below `rows` that is set in the second. A refusal changes nothing. Rows removed are those that
+// were, less those that are left: two counts by words are faster than a count of each byte as it is cleared.
 pub fn subtract(first: &mut [u8], second: &[u8], rows: u64) -> Subtracted
     ensures { λ r. ⌜ (r ≡ subtraction rows (now (first .entry)) (now (second .entry)))
         × (now (first .exit) ≡ fieldAfter r rows (now (first .entry)) (now (second .entry)))
@@ -267,7 +263,9 @@ pub fn subtract(first: &mut [u8], second: &[u8], rows: u64) -> Subtracted
     if !has_room(second, rows) {
         return Subtracted::Refused(Refusal::Room);
     }
-    let removed = subtract_rows(first, second, rows);
+    let before = count(first, rows);
+    subtract_rows(first, second, rows);
     let left = count(first, rows);
+    let removed = before - left;
     Subtracted::Done { left, removed }
 }

@@ -32,7 +32,7 @@ pub data Value (t : ℕ) : List ℕ → Type 0 where
   number : (v : List ℕ) → isString t ≡ false → length v ≡ width t → Bytes v → booleanOk t v ≡ true → Value t v
   string : (c : List ℕ) → isString t ≡ true → length c ≤ 65535 → Bytes c → Value t (be 4 (length c) ++ c)
 
--- ---- the order of values (01, "Numbers compare signed. Strings compare by unsigned bytes, a prefix first")
+-- ---- the order of values (01, "Numbers compare signed .. Strings compare by unsigned bytes, a prefix first")
 
 -- the number that the first w bytes hold
 unfoldable pub signedNumber : ℕ → List ℕ → ℤ

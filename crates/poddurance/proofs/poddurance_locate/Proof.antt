@@ -1,6 +1,6 @@
 -- `poddurance_locate` meets its contract: the answer of Locate on the buffer that is looked at, case by case.
 use mathlib.Core.Path.{refl, sym, _∙_}
-use Rattle.poddurance.specs.Reading.{locateOut}
+use Rattle.index_file.specs.Reading.{locateOut}
 use borrow.Author.Needs.{needs}
 use Rattle.poddurance.proofs.poddurance_locate.Statement.{statement}
 use Rattle.poddurance.proofs.poddurance_locate.Tie as tie

@@ -1,34 +1,31 @@
--- `row_field::subtract_bytes` meets its contract. The loop's invariant: the field is without the rows of the bytes passed, which are counted (`taken-byte`).
+-- `row_field::subtract_bytes` meets its contract. The loop's invariant: the field is without the rows of the bytes passed (`subtracted-byte`).
 -- Assumes nothing.
 use Prim.Native.Nat.{_≤_, _*_, _-_}
-use mathlib.Core.Path.{_≡_, refl}
+use mathlib.Core.Path.{_≡_, sym, ap, _∙_}
 use native.Mathlib.Omega.{arith}
-use lib.ListN.{length, length-set}
-use Rattle.row_field.specs.Subtracts.{Taken, taken-none, taken-byte, taken-le}
+use lib.ListN.{length}
+use Rattle.row_field.specs.Meaning.{subtracted}
+use Rattle.row_field.specs.Subtracts.{subtracted-none, subtracted-byte, length-subtracted}
 use Rattle.row_field.proofs.subtract_bytes.Statement.{statement}
 use Rattle.row_field.proofs.subtract_bytes.Tie as tie
 
 abbrev Inv-loop : tie.InvT-loop
-Inv-loop first₀ second end removed₀ i₀ first removed i = (i ≤ end) × (length first ≡ length first₀) × Taken first₀ second (i * 8) first removed
+Inv-loop first₀ second end i₀ first i = (i ≤ end) × (first ≡ subtracted (i * 8) first₀ second)
 
 abbrev μ-loop : tie.MeasureT-loop
-μ-loop first₀ second end removed₀ i₀ first removed i = end - i
+μ-loop first₀ second end i₀ first i = end - i
 
 loop-holds : tie.Need-loop-holds Inv-loop μ-loop
-loop-holds c = (omega arith, refl, taken-none _ _)
+loop-holds c = (omega arith, subtracted-none _ _)
 
 shared-slice-read-clear-bits : tie.Need-shared-slice-read-clear-bits Inv-loop μ-loop
 shared-slice-read-clear-bits c = omega arith
 
 clear-bits-requires : tie.Need-clear-bits-requires Inv-loop μ-loop
-clear-bits-requires c κs = omega arith
-
-add-removed : tie.Need-add-removed Inv-loop μ-loop
-add-removed c =
-    let a = c .before .before .before .before .before .before .before .before .before .args in
-    let i = c .before .before .before .before .before .before .loop .i in
-    let b = taken-byte (a .first .now) (a .second .now) i (omega arith) (λ j. c .before .before .before .before .before .before .before .before .slice-known .given j .fits) (c .before .before .before .before .before .before .before .shared-slice-known .given i .fits) (c .before .before .before .before .before .before .loop .inv .2) in
-    omega (arith, taken-le b, c .before .before .clear-bits .ensures .0)
+clear-bits-requires c κs =
+    let a = c .before .before .before .before .before .before .args in
+    let l = c .before .before .before .loop in
+    omega (arith, ap length (l .inv .1), length-subtracted (l .i * 8) (a .first .now) (a .second .now))
 
 add-i : tie.Need-add-i Inv-loop μ-loop
 add-i c = omega arith
@@ -39,17 +36,17 @@ loop-less c = omega arith
 loop-again : tie.Need-loop-again Inv-loop μ-loop
 loop-again c =
     let a = c .before .before .before .before .before .before .before .before .before .args in
-    let i = c .before .before .before .before .before .before .loop .i in
-    let b = taken-byte (a .first .now) (a .second .now) i (omega arith) (λ j. c .before .before .before .before .before .before .before .before .slice-known .given j .fits) (c .before .before .before .before .before .before .before .shared-slice-known .given i .fits) (c .before .before .before .before .before .before .loop .inv .2) in
-    (omega arith, rw (c .before .before .clear-bits .ensures .1) (simp length-set (omega arith)), rw (c .before .before .clear-bits .ensures .0, c .before .before .clear-bits .ensures .1) b)
+    let l = c .before .before .before .before .before .before .loop in
+    let b = subtracted-byte (a .first .now) (a .second .now) (l .i) (omega arith) (λ j. c .before .before .before .before .before .before .before .before .slice-known .given j .fits) (c .before .before .before .before .before .before .before .shared-slice-known .given (l .i) .fits) in
+    (omega arith, c .before .before .clear-bits .ensures ∙ rw (l .inv .1) (sym b))
 
 same-length : tie.Need-same-length Inv-loop μ-loop
-same-length c = omega arith
+same-length c = ap length (c .before .loop .inv .1) ∙ length-subtracted _ _ _
 
 returns : tie.Need-returns Inv-loop μ-loop
 returns c =
     let e : c .before .loop .i ≡ c .before .before .before .before .args .end = omega arith in
-    rw e at (c .before .loop .inv .2)
+    rw e at (c .before .loop .inv .1)
 
 pub subtract-bytes-spec : {M : Type 1} → statement M
 subtract-bytes-spec =
@@ -60,7 +57,6 @@ subtract-bytes-spec =
     loop-holds
     shared-slice-read-clear-bits
     clear-bits-requires
-    add-removed
     add-i
     loop-less
     loop-again

@@ -1,9 +1,8 @@
--- `row_field::subtract_rows` meets its contract. `taken-last` adds the last byte's rows to those of whole bytes. Assumes nothing.
-use Prim.Native.Nat.{_*_, _/_, _%_, _^_}
-use mathlib.Core.Path.{_≡_}
+-- `row_field::subtract_rows` meets its contract. `subtracted-last` takes the last byte's rows too. Assumes nothing.
+use Prim.Native.Nat.{_*_, _/_}
+use mathlib.Core.Path.{_≡_, sym, _∙_}
 use native.Mathlib.Omega.{arith}
-use lib.ListN.{getD}
-use Rattle.row_field.specs.Subtracts.{taken-last, taken-le}
+use Rattle.row_field.specs.Subtracts.{subtracted-last}
 use borrow.Author.Needs.{needs}
 use Rattle.row_field.proofs.subtract_rows.Statement.{statement}
 use Rattle.row_field.proofs.subtract_rows.Tie as tie
@@ -29,24 +28,14 @@ low-bits-requires c κs = search needs
 clear-bits-requires : tie.Need-clear-bits-requires
 clear-bits-requires c κs = search needs
 
-add-result : tie.Need-add-result
-add-result c =
-    let a = c .before .before .before .before .before .before .before .before .before .before .before .before .before .args in
-    let l = taken-last (a .first .now) (a .second .now) (a .rows) (omega arith) (λ j. c .before .before .before .before .before .before .before .before .before .before .before .before .slice-known .given j .fits) (c .before .before .before .before .before .before .before .before .before .subtract-bytes .ensures) in
-    let e : c .before .before .before .before .low-bits .result ≡ getD (a .second .now) (a .rows / 8) 0 % 2 ^ (a .rows % 8) = c .before .before .before .before .low-bits .ensures in
-    let t = rw (← e) at l in
-    omega (arith, taken-le t, c .before .before .clear-bits .ensures .0)
-
 same-length-2 : tie.Need-same-length-2
 same-length-2 c = search needs
 
 returns-2 : tie.Need-returns-2
 returns-2 c =
     let a = c .before .before .before .before .before .before .before .before .before .before .before .before .before .args in
-    let l = taken-last (a .first .now) (a .second .now) (a .rows) (omega arith) (λ j. c .before .before .before .before .before .before .before .before .before .before .before .before .slice-known .given j .fits) (c .before .before .before .before .before .before .before .before .before .subtract-bytes .ensures) in
-    let e : c .before .before .before .before .low-bits .result ≡ getD (a .second .now) (a .rows / 8) 0 % 2 ^ (a .rows % 8) = c .before .before .before .before .low-bits .ensures in
-    let t = rw (← e) at l in
-    rw (c .before .before .clear-bits .ensures .0, c .before .before .clear-bits .ensures .1) t
+    let l = subtracted-last (a .first .now) (a .second .now) (a .rows) (omega arith) (λ j. c .before .before .before .before .before .before .before .before .before .before .before .before .slice-known .given j .fits) in
+    c .before .before .clear-bits .ensures ∙ rw (c .before .before .before .before .before .before .before .before .before .subtract-bytes .ensures, c .before .before .before .before .low-bits .ensures) (sym l)
 
 pub subtract-rows-spec : {M : Type 1} → statement M
 subtract-rows-spec =
@@ -58,6 +47,5 @@ subtract-rows-spec =
     shared-slice-read-low-bits
     low-bits-requires
     clear-bits-requires
-    add-result
     same-length-2
     returns-2)
