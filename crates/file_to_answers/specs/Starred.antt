@@ -187,24 +187,15 @@ always : (extent n : ℕ) (region field : List ℕ) → n ≤ limit → placeAt 
 unfolding placeAt check
 always extent n region field h = rw (le-ltb 2147483647 n h)
 
+-- an offset that names a row is laid out as this row alone
+named-0 : Holds (names 0xFFFFFFFF 0)
+unfolding placeAt
+named-0 = (refl, λ extent n region field. refl, λ c extent region h. single 0 refl (omega arith) refl h)
+
+named-last : Holds (names 0x80000000 2147483647)
+unfolding placeAt
+named-last = (refl, λ extent n region field. refl, λ c extent region h. single 2147483647 refl (omega arith) refl h)
+
 pub starred : All Holds table
 unfolding number head.find head.file head.need head.count head.name head.entries head.afterEntry head.columns head.afterColumn head.placed head.head head.used read readPlain readFlagged contents containers need choose roaring.andThen offsetIs body bodySize bodyValues sound valuesOf runsOf rising apart bit mark markAll anySet zeroed upTo rowsFrom placeAt place placeAll check andThen valueSize valueOf literals width isString booleanOk same sameCell signedNumber less listed counted entriesOne listings past heads entriesTwo behind blocksOf blocked nullOf dictionary chosen takes scanFrom scan roomFor prepared audited audit chosenOf answered asked ask answeredBy keeps
-starred = (
-  (refl, refl, its-file),
-  (
-    (refl, one-is-its-body),
-    (
-      (refl, two-is-its-body),
-      (
-        (refl, refl, refl, refl),
-        (
-          (refl, refl, refl, refl),
-          (
-            (refl, refl, refl, refl),
-            ((refl, array-bitmap), ((refl, run-bitmap), (refl, (refl, (always, tt))))),
-          ),
-        ),
-      ),
-    ),
-  ),
-)
+starred = ((refl, refl, its-file, refl), ((refl, one-is-its-body), ((refl, two-is-its-body), ((refl, refl, refl, refl), ((refl, refl, refl, refl), ((refl, refl, refl, refl), ((refl, array-bitmap), ((refl, run-bitmap), (named-0, (named-last, (always, tt)))))))))))
