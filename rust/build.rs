@@ -1,10 +1,10 @@
 //! Links the archive that `rt staticlib poddurance` writes, and has it written first if it is missing or older than the sources.
 
 use std::ffi::OsStr;
-use std::fs::{self, OpenOptions};
+use std::fs::{self, File, OpenOptions};
 use std::io::{self, Write};
 use std::os::fd::AsFd;
-use std::path::{Path, PathBuf};
+use std::path::Path;
 use std::process::{exit, Command, Stdio};
 use std::time::SystemTime;
 
@@ -22,12 +22,12 @@ fn run() -> Result<(), String> {
     let folder = root.join("target").join("staticlib");
     let archive = folder.join("libpoddurance.a");
 
-    let sources = sources(&root)?;
-    for path in sources.iter().chain([&archive]) {
+    // The whole folder, so that a crate's first specs or proofs are noticed: cargo can't watch a folder that isn't there yet.
+    for path in [&root.join("crates.txt"), &root.join("crates"), &archive] {
         println!("cargo:rerun-if-changed={}", path.display());
     }
 
-    let newest = sources.iter().filter_map(|path| newest_in(path)).max().ok_or("there are no sources under crates/")?;
+    let newest = newest_source(&root)?;
     match changed(&archive) {
         None => make(&root, &archive, "is missing")?,
         Some(made) if made < newest => make(&root, &archive, "is older than the sources")?,
@@ -49,18 +49,19 @@ fn check_target() -> Result<(), String> {
     Ok(())
 }
 
-/// What the archive is made from: the list of crates, and of each crate what is compiled and proved. Must-fail edits and the
-/// output that programs are held to are not part of it.
-fn sources(root: &Path) -> Result<Vec<PathBuf>, String> {
+/// The latest change of what the archive is made from: the list of crates, and of each crate what is compiled and proved. Must-fail
+/// edits and the output that programs are held to are not part of it; a crate's folder itself is, since specs that are moved there
+/// or removed change nothing else.
+fn newest_source(root: &Path) -> Result<SystemTime, String> {
     let crates = root.join("crates");
-    let entries = fs::read_dir(&crates).map_err(|e| format!("can't read {}: {e}", crates.display()))?;
-    let mut paths = vec![root.join("crates.txt")];
-    for entry in entries {
-        let one = entry.map_err(|e| format!("can't read {}: {e}", crates.display()))?.path();
-        paths.extend(["src", "specs", "proofs"].map(|part| one.join(part)).into_iter().filter(|path| path.is_dir()));
+    let unreadable = |e: io::Error| format!("can't read {}: {e}", crates.display());
+    let mut newest = changed(&root.join("crates.txt"));
+    for entry in fs::read_dir(&crates).map_err(unreadable)? {
+        let one = entry.map_err(unreadable)?.path();
+        let parts = ["src", "specs", "proofs"].into_iter().filter_map(|part| newest_in(&one.join(part)));
+        newest = parts.chain(changed(&one)).chain(newest).max();
     }
-    paths.sort();
-    Ok(paths)
+    newest.ok_or_else(|| "there are no sources under crates/".to_string())
 }
 
 /// The latest change of a file, or of anything in a folder. The folder's own change counts too: a file that is removed or moved
@@ -97,8 +98,11 @@ fn make(root: &Path, archive: &Path, why: &str) -> Result<(), String> {
         return Err(format!("'rt staticlib poddurance' failed: {status}; its output is above"));
     }
     if !archive.is_file() {
-        return Err("'rt staticlib poddurance' ended well but wrote no target/staticlib/libpoddurance.a".to_string());
+        return Err("'rt staticlib poddurance' ended well but target/staticlib/libpoddurance.a isn't there".to_string());
     }
+    // rt leaves an archive that would come out the same as it is, and it would be made again each time.
+    let now = File::options().write(true).open(archive).and_then(|file| file.set_modified(SystemTime::now()));
+    now.map_err(|e| format!("can't set the time of target/staticlib/libpoddurance.a: {e}"))?;
     say("the archive is made");
     Ok(())
 }

@@ -254,8 +254,8 @@ fn every_refusal_of_an_index() {
         (changed(7, 0xAF), "MAGIC (2), index file or bin magic differs"),
         (changed(11, 2), "VERSION (3), index file not 1; body not 1 or 2; deletion file not 1"),
         (changed(47, 3), "VERSION (3), index file not 1; body not 1 or 2; deletion file not 1"),
-        (whole[..70].to_vec(), "HEAD (4), index file head breaks a rule below"),
-        (changed(66, 7), "DICT (5), dictionary breaks a rule below"),
+        (whole[..70].to_vec(), "HEAD (4), index file head breaks a rule"),
+        (changed(66, 7), "DICT (5), dictionary breaks a rule"),
         (changed(67, 0), "BITMAP (6), place, length or form of a bitmap is wrong"),
         (changed(70, 0xFC), "RANGE (7), a row at or above the row count"),
         (changed(70, 0xFF), "TWICE (8), a row already placed"),
@@ -269,11 +269,11 @@ fn every_refusal_of_an_index() {
         says(&["ask", file, "s", "TINYINT", "EQUAL", "7", "--rows"], 3, refused);
     }
     let file = &folder.write("index", &whole[..70]);
-    says(&["locate", file, "s"], 3, "refused: HEAD (4), index file head breaks a rule below");
+    says(&["locate", file, "s"], 3, "refused: HEAD (4), index file head breaks a rule");
     says(
         &["locate", file, "s", "--json"],
         3,
-        r#"{"answer":"refused","file":"index","name":"HEAD","number":4,"meaning":"index file head breaks a rule below"}"#,
+        r#"{"answer":"refused","file":"index","name":"HEAD","number":4,"meaning":"index file head breaks a rule"}"#,
     );
 }
 
