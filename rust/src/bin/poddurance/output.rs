@@ -295,6 +295,33 @@ mod tests {
         assert_eq!(text(&one, false), "refused: the index is of 1 row, the data file has 0\n");
     }
 
+    /// The keys of an object without text values that hold `":`.
+    fn keys(line: &str) -> Vec<&str> {
+        line.match_indices("\":").filter_map(|(at, _)| line[..at].rsplit('"').next()).collect()
+    }
+
+    #[test]
+    fn help_has_the_keys() {
+        let name = || "s".to_string();
+        let refused = |part| Outcome::Refused { refusal: Refusal::Twice, part };
+        for outcome in [
+            Outcome::Found { column: name(), kind: name(), start: 47, length: 1 },
+            Outcome::Absent { column: name(), kind: name() },
+            Outcome::Accepted { rows: 3 },
+            Outcome::Answered { field: others(), removed: None },
+            Outcome::Answered { field: RowField::for_rows(6).unwrap(), removed: Some(1) },
+            Outcome::Deleted { field: three() },
+            refused(Part::Index),
+            refused(Part::Literals),
+            Outcome::RowsDiffer { index_rows: 3, data_rows: 1000 },
+        ] {
+            let json = json(&outcome, false);
+            let start = &json[..json.find(',').unwrap()];
+            let line = include_str!("help.txt").lines().find(|line| line.trim_start().starts_with(start));
+            assert_eq!(keys(line.expect("every answer has a line")), keys(&json), "{start}");
+        }
+    }
+
     #[test]
     fn strings_in_json() {
         assert_eq!(quoted("plain"), r#""plain""#);
