@@ -29,8 +29,8 @@ fn run() -> Result<(), String> {
 
     let newest = newest_source(&root)?;
     match changed(&archive) {
-        None => make(&root, &archive, "is missing")?,
-        Some(made) if made < newest => make(&root, &archive, "is older than the sources")?,
+        None => make(&root, &archive, newest, "missing")?,
+        Some(made) if made < newest => make(&root, &archive, newest, "older than the sources")?,
         Some(_) => {}
     }
 
@@ -75,9 +75,9 @@ fn changed(path: &Path) -> Option<SystemTime> {
     fs::metadata(path).and_then(|data| data.modified()).ok()
 }
 
-fn make(root: &Path, archive: &Path, why: &str) -> Result<(), String> {
+fn make(root: &Path, archive: &Path, newest: SystemTime, why: &str) -> Result<(), String> {
     say(&format!(
-        "target/staticlib/libpoddurance.a {why}: running 'rt staticlib poddurance', which proves every crate and takes minutes"
+        "target/staticlib/libpoddurance.a is {why}: running 'rt staticlib poddurance', which proves every crate and takes minutes"
     ));
     // Cargo reads this script's standard output for its own words, so what rt prints goes to standard error.
     let stdout = io::stderr().as_fd().try_clone_to_owned().map_err(|e| format!("can't hand standard error to rt: {e}"))?;
@@ -89,7 +89,7 @@ fn make(root: &Path, archive: &Path, why: &str) -> Result<(), String> {
         .status()
         .map_err(|e| match e.kind() {
             io::ErrorKind::NotFound => format!(
-                "target/staticlib/libpoddurance.a {why}, and 'rt', which makes it, is not on the path; \
+                "target/staticlib/libpoddurance.a is {why}, and 'rt', which makes it, is not on the path; \
                  install the Rattle kit and put its folder with 'rt' on PATH"
             ),
             _ => format!("can't run rt: {e}"),
@@ -100,16 +100,20 @@ fn make(root: &Path, archive: &Path, why: &str) -> Result<(), String> {
     if !archive.is_file() {
         return Err("'rt staticlib poddurance' ended well but target/staticlib/libpoddurance.a isn't there".to_string());
     }
-    // rt leaves an archive that would come out the same as it is, and it would be made again each time.
-    let now = File::options().write(true).open(archive).and_then(|file| file.set_modified(SystemTime::now()));
-    now.map_err(|e| format!("can't set the time of target/staticlib/libpoddurance.a: {e}"))?;
+    // rt leaves an archive that would come out the same as it is, and it would be made again each time. It gets the time of the
+    // newest source it was made from, not of now: what is edited while rt proves is newer, and so is not missed.
+    let dated = File::options().write(true).open(archive).and_then(|file| file.set_modified(newest));
+    dated.map_err(|e| format!("can't set the time of target/staticlib/libpoddurance.a: {e}"))?;
     say("the archive is made");
+    // Cargo shows it once the script has ended, and again with each build until it runs anew: so it says what was done.
+    println!("cargo:warning=target/staticlib/libpoddurance.a was {why}, and 'rt staticlib poddurance' made it");
     Ok(())
 }
 
-/// Cargo hides what a build script prints until it ends, so the line goes to the terminal too, if there is one.
+/// Cargo hides what a build script prints while it runs, and shows standard error only where it fails, so the line goes to the
+/// terminal too, if there is one.
 fn say(line: &str) {
-    println!("cargo:warning={line}");
+    eprintln!("poddurance: {line}");
     if let Ok(mut terminal) = OpenOptions::new().write(true).open("/dev/tty") {
         // A terminal that takes no line is no reason to stop the build.
         let _ = writeln!(terminal, "poddurance: {line}");
