@@ -12,6 +12,10 @@ use crate::{raw, Literals, Question, Refusal, RowField, Type};
 /// let error = audit(&body, Type::TinyInt, RowField::for_rows(5)?).unwrap_err();
 /// assert_eq!(error, Error::RowsDiffer { expected: 5, found: 3 });
 /// assert_eq!(error.to_string(), "5 rows expected, 3 found");
+///
+/// let error = Error::from(Refusal::Twice);
+/// let source = std::error::Error::source(&error).and_then(|source| source.downcast_ref());
+/// assert_eq!(source, Some(&Refusal::Twice));
 /// # Ok::<(), Error>(())
 /// ```
 #[derive(Clone, Copy, Debug, PartialEq, Eq, Hash)]
@@ -25,6 +29,24 @@ pub enum Error {
         /// The row count of the index, or of the second field.
         found: u64,
     },
+}
+
+impl Error {
+    /// The library's refusal; none where the row counts differ.
+    ///
+    /// ```
+    /// use poddurance::{Error, Refusal};
+    ///
+    /// assert_eq!(Error::Refused(Refusal::Twice).refusal(), Some(Refusal::Twice));
+    /// assert_eq!(Error::RowsDiffer { expected: 5, found: 3 }.refusal(), None);
+    /// ```
+    #[must_use]
+    pub fn refusal(self) -> Option<Refusal> {
+        match self {
+            Error::Refused(refusal) => Some(refusal),
+            Error::RowsDiffer { .. } => None,
+        }
+    }
 }
 
 impl From<Refusal> for Error {
@@ -44,7 +66,14 @@ impl fmt::Display for Error {
     }
 }
 
-impl std::error::Error for Error {}
+impl std::error::Error for Error {
+    fn source(&self) -> Option<&(dyn std::error::Error + 'static)> {
+        match self {
+            Error::Refused(refusal) => Some(refusal),
+            Error::RowsDiffer { .. } => None,
+        }
+    }
+}
 
 /// Finds the body of the index of kind `kind` (`"bitmap"`) on column `column`: in `embedded`, the index bytes in the manifest, if
 /// there are any, else in `file`, the bytes of the index file. The other buffer isn't looked at.
@@ -75,7 +104,7 @@ pub fn locate<'a>(embedded: &'a [u8], file: &'a [u8], column: &str, kind: &str) 
 
 /// Checks the whole body of an index: that each of its rows has exactly one place.
 ///
-/// Gives the field back with no row set; its [`rows`](RowField::rows) are the row count of the body, now checked.
+/// Answers the row count of the body, now checked, and gives the field back cleared.
 ///
 /// A body with another row count than the field's is [`Error::RowsDiffer`], or [`Refusal::Room`] where it needs more bytes than
 /// the field has.
@@ -90,11 +119,59 @@ pub fn locate<'a>(embedded: &'a [u8], file: &'a [u8], column: &str, kind: &str) 
 /// assert_eq!(audit(&body, Type::TinyInt, RowField::for_body(&body)), Err(Error::Refused(Refusal::Twice)));
 /// # Ok::<(), Error>(())
 /// ```
-pub fn audit(body: &[u8], ty: Type, mut field: RowField) -> Result<RowField, Error> {
+pub fn audit(body: &[u8], ty: Type, mut field: RowField) -> Result<Audited, Error> {
     let (answer, rows) = raw::audit(body, ty.number(), field.bytes_mut());
     accepted(answer)?;
     same_rows(&field, rows)?;
-    Ok(field)
+    Ok(Audited { field })
+}
+
+/// The answer of [`audit`] to a body that it accepts.
+///
+/// ```
+/// use poddurance::{audit, RowField, Type};
+///
+/// let body = [1, 0, 0, 0, 3, 0, 0, 0, 2, 1, 255, 255, 255, 253, 7, 255, 255, 255, 255, 9, 255, 255, 255, 254];
+/// let audited = audit(&body, Type::TinyInt, RowField::for_rows(3)?)?;
+/// assert_eq!(audited.rows(), 3);
+/// # Ok::<(), poddurance::Error>(())
+/// ```
+#[derive(Clone, Debug, PartialEq, Eq)]
+pub struct Audited {
+    // Of the body's row count, with no row set.
+    field: RowField,
+}
+
+impl Audited {
+    /// How many rows the body has, each in exactly one place.
+    ///
+    /// ```
+    /// # use poddurance::{audit, RowField, Type};
+    /// // One row, null.
+    /// let body = [1, 0, 0, 0, 1, 0, 0, 0, 0, 1, 255, 255, 255, 255];
+    /// assert_eq!(audit(&body, Type::Int, RowField::for_body(&body))?.rows(), 1);
+    /// # Ok::<(), poddurance::Error>(())
+    /// ```
+    #[must_use]
+    pub fn rows(&self) -> u64 {
+        self.field.rows()
+    }
+
+    /// The field that was lent, with no row set, to lend to the next call.
+    ///
+    /// ```
+    /// # use poddurance::{ask, audit, Literals, Question, RowField, Type};
+    /// // One row, null.
+    /// let body = [1, 0, 0, 0, 1, 0, 0, 0, 0, 1, 255, 255, 255, 255];
+    /// let field = audit(&body, Type::Int, RowField::for_body(&body))?.into_field();
+    /// assert_eq!(field.count(), 0);
+    /// assert_eq!(ask(&body, Question::IsNull, &Literals::none(Type::Int), field)?.count(), 1);
+    /// # Ok::<(), poddurance::Error>(())
+    /// ```
+    #[must_use]
+    pub fn into_field(self) -> RowField {
+        self.field
+    }
 }
 
 /// Checks the whole body of an index as [`audit`] does, then answers a question: which rows does it choose?

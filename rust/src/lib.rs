@@ -23,9 +23,11 @@
 //! ];
 //! let row_count = 3; // as the table's metadata has it
 //!
-//! let body = locate(&[], &index_file, "s", "bitmap")?.expect("s has a bitmap index");
 //! let seven = Literals::of(Type::TinyInt, [7])?;
-//! let mut rows = ask(body, Question::NotEqual, &seven, RowField::for_rows(row_count)?)?.into_field();
+//! let mut rows = match locate(&[], &index_file, "s", "bitmap")? {
+//!     Some(body) => ask(body, Question::NotEqual, &seven, RowField::for_rows(row_count)?)?.into_field(),
+//!     None => RowField::all_of(row_count)?, // without an index all rows are to be read
+//! };
 //! assert!(rows.iter().eq([1, 2]));
 //!
 //! let deleted = read_deletions(&deletion_file, 0, RowField::for_rows(row_count)?)?;
@@ -48,7 +50,7 @@ pub mod raw;
 mod refusal;
 mod row_field;
 
-pub use calls::{ask, audit, locate, read_deletions, subtract, Answer, Error, Subtracted};
+pub use calls::{ask, audit, locate, read_deletions, subtract, Answer, Audited, Error, Subtracted};
 pub use literals::{Literals, Value};
 pub use names::{Question, Type, UnknownName};
 pub use refusal::Refusal;

@@ -15,9 +15,24 @@ const MOST_STRING_BYTES: usize = 65_535;
 /// assert_eq!(Value::from(true), Value::Boolean(true));
 /// assert_eq!(Value::from("login"), Value::String(b"login"));
 /// ```
+///
+/// A date is the days since 1970-01-01, a time the milliseconds of the day, a timestamp the milliseconds or the microseconds since
+/// 1970-01-01. A number in another unit fits as well, and finds no row or the wrong ones:
+///
+/// ```
+/// use poddurance::{Literals, Type};
+///
+/// let first_of_2024 = Literals::of(Type::Date, [19_723])?; // 2024-01-01
+/// let ten_o_clock = Literals::of(Type::Time, [36_000_000])?;
+/// let millis = Literals::of(Type::Timestamp, [1_704_103_200_000_i64])?; // 2024-01-01 10:00:00, precision up to 3
+/// let micros = Literals::of(Type::Timestamp, [1_704_103_200_000_000_i64])?; // the same, precision above 3
+/// # Ok::<(), poddurance::Refusal>(())
+/// ```
 #[derive(Clone, Copy, Debug, PartialEq, Eq, Hash)]
 pub enum Value<'a> {
-    /// A number of TINYINT, SMALLINT, INT, BIGINT, or the stored number of DATE, TIME and the TIMESTAMP types.
+    /// A number of TINYINT, SMALLINT, INT or BIGINT; the days since 1970-01-01 of a DATE; the milliseconds of the day of a TIME;
+    /// the milliseconds since 1970-01-01 of a TIMESTAMP or LOCAL ZONED TIMESTAMP whose column has a precision up to 3, and the
+    /// microseconds of one above it.
     Number(i64),
     /// A BOOLEAN.
     Boolean(bool),

@@ -3,7 +3,8 @@ use std::str::FromStr;
 
 /// A column's type: document 01's twelve, by which stored values and literals are read.
 ///
-/// Parsing takes document 01's names in either case, with `_` or `-` for a space.
+/// Document 01 gives dates and times a width alone; what their numbers count is how Paimon stores them. Parsing takes document 01's
+/// names in either case, with `_` or `-` for a space.
 ///
 /// ```
 /// use poddurance::Type;
@@ -24,15 +25,15 @@ pub enum Type {
     SmallInt = 2,
     /// Four bytes, signed.
     Int = 3,
-    /// Four bytes, signed.
+    /// Four bytes, signed: the days since 1970-01-01.
     Date = 4,
-    /// Four bytes, signed.
+    /// Four bytes, signed: the milliseconds of the day, whatever the column's precision.
     Time = 5,
     /// Eight bytes, signed.
     BigInt = 6,
-    /// Eight bytes, signed.
+    /// Eight bytes, signed: since 1970-01-01, the milliseconds where the column's precision is up to 3, else the microseconds.
     Timestamp = 7,
-    /// Eight bytes, signed.
+    /// Eight bytes, signed: an instant, since 1970-01-01 in UTC, in the units of [`Timestamp`](Type::Timestamp).
     LocalZonedTimestamp = 8,
     /// A length of four bytes and the bytes.
     Char = 9,

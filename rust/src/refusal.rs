@@ -116,7 +116,7 @@ impl Refusal {
         }
     }
 
-    /// When it is given, in the words of document 01's table of refusals.
+    /// When it is given, as document 01's table of refusals says it.
     ///
     /// ```
     /// assert_eq!(poddurance::Refusal::Twice.meaning(), "a row already placed");
@@ -127,8 +127,8 @@ impl Refusal {
             Refusal::Short => "the bytes end inside a field that is due, outside bitmaps",
             Refusal::Magic => "index file or bin magic differs",
             Refusal::Version => "index file not 1; body not 1 or 2; deletion file not 1",
-            Refusal::Head => "index file head breaks a rule below",
-            Refusal::Dict => "dictionary breaks a rule below",
+            Refusal::Head => "index file head breaks a rule",
+            Refusal::Dict => "dictionary breaks a rule",
             Refusal::Bitmap => "place, length or form of a bitmap is wrong",
             Refusal::Range => "a row at or above the row count",
             Refusal::Twice => "a row already placed",

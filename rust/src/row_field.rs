@@ -175,7 +175,7 @@ impl RowField {
         &self.bytes
     }
 
-    /// Its ceil(rows/8) bytes, for keeps.
+    /// Its ceil(rows/8) bytes, taken out of it.
     ///
     /// ```
     /// assert_eq!(poddurance::RowField::all_of(9)?.into_bytes(), vec![255, 1]);

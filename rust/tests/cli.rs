@@ -179,6 +179,32 @@ fn asks() {
 }
 
 #[test]
+fn an_index_of_another_row_count_than_the_data_file() {
+    let folder = Folder::new();
+    let file = &folder.write("index", &index_file("s", "bitmap", &SMALL));
+    let (audit, ask) = (["audit", file, "s", "TINYINT"], ["ask", file, "s", "TINYINT", "EQUAL"]);
+    says(&[&audit[..], &["--of", "3"]].concat(), 0, "accepted: 3 rows, each in exactly one place");
+    says(&[&ask[..], &["7", "--of", "3"]].concat(), 0, "keep: 1 of 3 rows");
+    for rows in ["0", "2", "4", "8", "9", "1000", "18446744073709551615"] {
+        let line = &format!("refused: the index is of 3 rows, the data file has {rows}");
+        says(&[&audit[..], &["--of", rows]].concat(), 3, line);
+        says(&[&ask[..], &["7", "--of", rows]].concat(), 3, line);
+        says(&[&ask[..], &["8", "--of", rows]].concat(), 3, line);
+    }
+    says(
+        &[&ask[..], &["7", "--of", "1000", "--json", "--deletions", "/no such folder/f", "--bin", "0"]].concat(),
+        3,
+        r#"{"answer":"refused","file":"index","name":null,"number":null,"meaning":"the index is of 3 rows, the data file has 1000"}"#,
+    );
+    // An index that the library refuses is refused by its number, whatever it claims.
+    let mut body = SMALL;
+    body[4] = 4;
+    let lost = &folder.write("lost", &index_file("s", "bitmap", &body));
+    says(&["audit", lost, "s", "TINYINT", "--of", "3"], 3, "refused: MISSING (9), a row never placed");
+    says(&["audit", file, "x", "TINYINT", "--of", "1000"], 1, "absent: no bitmap index on column \"x\"");
+}
+
+#[test]
 fn asks_with_deletions() {
     let folder = Folder::new();
     let file = &folder.write("index", &index_file("state", "bitmap", &events()));
@@ -254,8 +280,8 @@ fn every_refusal_of_an_index() {
         (changed(7, 0xAF), "MAGIC (2), index file or bin magic differs"),
         (changed(11, 2), "VERSION (3), index file not 1; body not 1 or 2; deletion file not 1"),
         (changed(47, 3), "VERSION (3), index file not 1; body not 1 or 2; deletion file not 1"),
-        (whole[..70].to_vec(), "HEAD (4), index file head breaks a rule below"),
-        (changed(66, 7), "DICT (5), dictionary breaks a rule below"),
+        (whole[..70].to_vec(), "HEAD (4), index file head breaks a rule"),
+        (changed(66, 7), "DICT (5), dictionary breaks a rule"),
         (changed(67, 0), "BITMAP (6), place, length or form of a bitmap is wrong"),
         (changed(70, 0xFC), "RANGE (7), a row at or above the row count"),
         (changed(70, 0xFF), "TWICE (8), a row already placed"),
@@ -269,11 +295,11 @@ fn every_refusal_of_an_index() {
         says(&["ask", file, "s", "TINYINT", "EQUAL", "7", "--rows"], 3, refused);
     }
     let file = &folder.write("index", &whole[..70]);
-    says(&["locate", file, "s"], 3, "refused: HEAD (4), index file head breaks a rule below");
+    says(&["locate", file, "s"], 3, "refused: HEAD (4), index file head breaks a rule");
     says(
         &["locate", file, "s", "--json"],
         3,
-        r#"{"answer":"refused","file":"index","name":"HEAD","number":4,"meaning":"index file head breaks a rule below"}"#,
+        r#"{"answer":"refused","file":"index","name":"HEAD","number":4,"meaning":"index file head breaks a rule"}"#,
     );
 }
 
@@ -285,10 +311,20 @@ fn every_refusal_of_literals() {
     says(&["ask", file, "s", "TINYINT", "EQUAL"], 3, misfit);
     says(&["ask", file, "s", "TINYINT", "EQUAL", "7", "9"], 3, misfit);
     says(&["ask", file, "s", "TINYINT", "IS NULL", "7"], 3, misfit);
+    says(
+        &["ask", file, "s", "TINYINT", "EQUAL", "--json"],
+        3,
+        r#"{"answer":"refused","file":null,"name":"LITERAL","number":11,"meaning":"literals don't fit question and type"}"#,
+    );
 
     let many = |number: usize| [&["ask", file, "s", "TINYINT", "IN"][..], &vec!["7"; number]].concat();
     says(&many(1_024), 0, "keep: 1 of 3 rows");
     says(&many(1_025), 3, "refused: LIMIT (12), a limit is passed");
+    says(
+        &[many(1_025), vec!["--json"]].concat(),
+        3,
+        r#"{"answer":"refused","file":null,"name":"LIMIT","number":12,"meaning":"a limit is passed"}"#,
+    );
 
     let strings = &folder.write("strings", &index_file("state", "bitmap", &events()));
     let long = |length: usize| ["ask", strings, "state", "STRING", "EQUAL", &"x".repeat(length)].map(String::from);
@@ -334,12 +370,13 @@ fn literals_of_every_type() {
         ("BOOLEAN", &[1], &[&["true"], &["TRUE"]]),
         ("SMALLINT", &[0xFF, 0xFD], &[&["-3"], &["--", "-3"]]),
         ("INT", &[0, 0, 0, 7], &[&["7"], &["+7"]]),
-        ("DATE", &day, &[&["2024-01-01"], &["19723"]]),
-        ("TIME", &time, &[&["10:01:00.25"], &["10:01:00.250"], &["36060250"]]),
+        ("DATE", &day, &[&["2024-01-01"], &["19723", "--stored"]]),
+        ("TIME", &time, &[&["10:01:00.25"], &["10:01:00.250"], &["36060250", "--stored"]]),
         ("BIGINT", &[0x80, 0, 0, 0, 0, 0, 0, 0], &[&["-9223372036854775808"]]),
-        ("TIMESTAMP", &millis, &[&["2024-01-01T10:00:00.25"], &["2024-01-01 10:00:00.250"], &["1704103200250"]]),
-        ("TIMESTAMP", &micros, &[&["2024-01-01T10:00:00.250001", "--micros"], &["1704103200250001"]]),
-        ("LOCAL ZONED TIMESTAMP", &millis, &[&["2024-01-01T10:00:00.25Z"], &["2024-01-01T10:00:00.25"]]),
+        ("TIMESTAMP", &millis, &[&["2024-01-01T10:00:00.25", "--millis"], &["2024-01-01 10:00:00.250", "--millis"]]),
+        ("TIMESTAMP", &millis, &[&["1704103200250", "--stored"]]),
+        ("TIMESTAMP", &micros, &[&["2024-01-01T10:00:00.250001", "--micros"], &["1704103200250001", "--stored"]]),
+        ("LOCAL ZONED TIMESTAMP", &millis, &[&["2024-01-01T10:00:00.25Z", "--millis"], &["2024-01-01T10:00:00.25", "--millis"]]),
         ("local-zoned-timestamp", &micros, &[&["2024-01-01T10:00:00.250001Z", "--micros"]]),
         ("CHAR", b"\0\0\0\x02-3", &[&["-3"]]),
         ("VARCHAR", b"\0\0\0\0", &[&[""]]),
@@ -370,9 +407,25 @@ fn wrong_usage() {
     complains(&["ask", file, "s", "BOOLEAN", "EQUAL", "yes"], "\"yes\" is no BOOLEAN: it takes true and false");
     complains(&["ask", file, "s", "DATE", "EQUAL", "2023-02-29"], "that month has no day 29");
     complains(&["ask", file, "s", "TIME", "EQUAL", "10:01:00.0005"], "the fraction .0005 is finer than milliseconds");
-    complains(&["ask", file, "s", "TIMESTAMP", "EQUAL", "2024-01-01T10:00:00.0005"], "finer than milliseconds");
+    complains(&["ask", file, "s", "TIMESTAMP", "EQUAL", "2024-01-01T10:00:00.0005", "--millis"], "finer than milliseconds");
     complains(&["ask", file, "s", "TIMESTAMP", "EQUAL", "2024-01-01T10:00:00.0000005", "--micros"], "finer than microseconds");
     complains(&["ask", file, "s", "TINYINT", "EQUAL", "7", "--deletions", file], "--deletions needs --bin N");
+    // In the wrong unit, or as a number that isn't the stored one, a literal would be found nowhere and the data file skipped.
+    for ty in ["TIMESTAMP", "LOCAL ZONED TIMESTAMP"] {
+        complains(
+            &["ask", file, "s", ty, "EQUAL", "2024-01-01T10:00:00"],
+            &format!(
+                "\"2024-01-01T10:00:00\" needs --millis or --micros: \
+                 a {ty} column of precision up to 3 stores milliseconds, above 3 microseconds"
+            ),
+        );
+        complains(&["ask", file, "s", ty, "EQUAL", "1704103200250", "--millis"], "a timestamp is written 2024-01-31T10:01:00");
+    }
+    complains(
+        &["ask", file, "s", "DATE", "EQUAL", "20240101"],
+        "\"20240101\" is no DATE: a date is written 2024-01-31; for the stored number give --stored",
+    );
+    complains(&["ask", file, "s", "TIME", "EQUAL", "100100"], "\"100100\" is no TIME: a time of day is written 10:01:00");
     complains(&["locate", file, "s", "--row"], "\"--row\" is no option");
     complains(&["deletions", file, "0", "many"], "ROWS \"many\" is no whole number");
     // Nothing is asked of a file before all words are read.
@@ -404,7 +457,7 @@ fn a_file_name_that_is_no_utf_8() {
 
 #[test]
 fn help_and_version() {
-    for words in [&["--help"][..], &["ask", "--help"], &["help"], &["-h"]] {
+    for words in [&["--help"][..], &["ask", "--help"], &["help"], &["-h"], &["audit", "-h"]] {
         let (status, out, err) = run(words);
         assert_eq!((status, err.as_str()), (0, ""));
         assert!(out.contains("poddurance ask FILE COLUMN TYPE QUESTION [LITERAL..] [--deletions FILE --bin N]"));
@@ -424,6 +477,25 @@ fn an_answer_that_cannot_be_written_is_none() {
         .stdout(File::options().write(true).open("/dev/full").unwrap())
         .output()
         .unwrap();
+    assert_eq!(output.status.code(), Some(2));
+    assert!(String::from_utf8(output.stderr).unwrap().contains("can't write the answer"));
+}
+
+#[test]
+fn a_closed_pipe_is_no_answer() {
+    let folder = Folder::new();
+    // Every second of 65,536 rows, as bits: more text than a pipe holds, so that the program can't be done before it is closed.
+    let mut bits = vec![0x3A, 0x30, 0, 0, 1, 0, 0, 0, 0, 0, 0xFF, 0x7F, 16, 0, 0, 0];
+    bits.extend([0x55; 8192]);
+    let file = folder.write("deletions", &deletion_file(&[bits]));
+    let mut program = Command::new(env!("CARGO_BIN_EXE_poddurance"))
+        .args(["deletions", &file, "0", "65536", "--rows"])
+        .stdout(Stdio::piped())
+        .stderr(Stdio::piped())
+        .spawn()
+        .unwrap();
+    drop(program.stdout.take());
+    let output = program.wait_with_output().unwrap();
     assert_eq!(output.status.code(), Some(2));
     assert!(String::from_utf8(output.stderr).unwrap().contains("can't write the answer"));
 }

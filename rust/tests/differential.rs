@@ -4,8 +4,14 @@
 //! The environment variables PODDURANCE_SEED (where the seeds start) and PODDURANCE_CASES (how many calls at least) ask
 //! for other or more cases; PODDURANCE_HEAP lends buffers from the heap instead of between guards, so that valgrind sees
 //! their ends. `tests/valgrind` runs the test so.
+//!
+//! A guard that is touched ends the test program at once. Before each round its seed is written to the file
+//! `target/tmp/differential-seed`, so that the round can be repeated alone: PODDURANCE_SEED is the seed, PODDURANCE_CASES is 1.
 
 mod support;
+
+use std::fs::File;
+use std::os::unix::fs::FileExt;
 
 use plain::random::{self, Random};
 use plain::reader;
@@ -176,11 +182,9 @@ impl Comparison {
 // Random rounds
 
 fn round(both: &mut Comparison, random: &mut Random) {
-    // Whether buffers of this round begin or end at a guard doesn't depend on the number of calls before.
+    // Whether buffers of this round begin or end at a guard is the seed's choice alone, so that a round repeats without the others.
     for lender in [&mut both.first, &mut both.second, &mut both.third, &mut both.fourth] {
-        if random.percent(50) {
-            lender.turn();
-        }
+        lender.place_next(random.percent(50));
     }
     match random.below(100) {
         0..=39 => sound_column(both, random),
@@ -856,6 +860,27 @@ fn buffers_past_the_limit(both: &mut Comparison) {
     both.tally.add(SUBTRACT, 0);
 }
 
+/// The file with the seed of the round that runs. What is written to it stays there however the program ends.
+struct SeedNote(File);
+
+impl SeedNote {
+    fn new() -> SeedNote {
+        let file = File::create(concat!(env!("CARGO_TARGET_TMPDIR"), "/differential-seed")).expect("target/tmp can be written");
+        let note = SeedNote(file);
+        note.put("none: the fixed cases run");
+        note
+    }
+
+    fn write(&self, seed: u64) {
+        self.put(&seed.to_string());
+    }
+
+    /// Over the line before, with spaces so that nothing of it is left.
+    fn put(&self, text: &str) {
+        self.0.write_all_at(format!("{text:<26}\n").as_bytes(), 0).expect("target/tmp can be written");
+    }
+}
+
 #[test]
 fn library_and_plain_reader_agree() {
     let asked_seed = number_from_environment("PODDURANCE_SEED");
@@ -864,6 +889,7 @@ fn library_and_plain_reader_agree() {
     let alone = cases == 1;
     let mut both = Comparison::new();
     let mut fixed = 0;
+    let note = SeedNote::new();
     if !alone {
         let random = &mut Random::new(first_seed);
         every_cut_and_flip(&mut both);
@@ -880,6 +906,7 @@ fn library_and_plain_reader_agree() {
     let mut seed = first_seed;
     loop {
         both.seed = Some(seed);
+        note.write(seed);
         round(&mut both, &mut Random::new(seed));
         if both.tally.calls() - fixed >= cases {
             break;

@@ -34,6 +34,23 @@ fn a_byte_outside_a_buffer_ends_the_program() {
     }
 }
 
+#[test]
+fn the_side_can_be_set_whatever_was_lent_before() {
+    let mut lender = Lender::guarded();
+    for before in 0..4 {
+        for _ in 0..before {
+            lender.lend(&[7; 50]);
+        }
+        lender.place_next(true);
+        let at_end = lender.lend(&[7; 100]).as_ptr();
+        let at_beginning = lender.lend(&[7; 100]).as_ptr();
+        assert!(at_beginning < at_end);
+        lender.place_next(false);
+        assert_eq!(lender.lend(&[7; 100]).as_ptr(), at_beginning);
+        assert_eq!(lender.lend(&[7; 100]).as_ptr(), at_end);
+    }
+}
+
 fn read_byte(which: &str) {
     let mut lender = Lender::guarded();
     // The first buffer lies at the end, the second at the beginning.

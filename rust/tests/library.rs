@@ -67,7 +67,8 @@ fn the_answers_that_document_01_writes_out() {
         assert_eq!((answer.field().as_bytes(), answer.count(), answer.is_skip()), (&[0b110][..], 2, false));
         let answer = field(Question::Equal, &Literals::of(Type::TinyInt, [8]).unwrap());
         assert_eq!((answer.field().as_bytes(), answer.count(), answer.is_skip()), (&[0][..], 0, true));
-        assert_eq!(audit(body, Type::TinyInt, used(3)), RowField::for_rows(3).map_err(Error::from));
+        let audited = audit(body, Type::TinyInt, used(3)).unwrap();
+        assert_eq!((audited.rows(), audited.into_field()), (3, RowField::for_rows(3).unwrap()));
     }
 }
 
@@ -76,7 +77,7 @@ fn a_field_with_rows_of_an_earlier_answer_holds_the_new_answer_alone() {
     let answer = ask(&SMALL, Question::IsNull, &none(), used(3)).unwrap();
     assert!(answer.field().iter().eq([2]));
     assert!(read_deletions(&DELETIONS, 0, used(6)).unwrap().iter().eq([0, 2, 5]));
-    assert_eq!(audit(&SMALL, Type::TinyInt, used(3)).unwrap().count(), 0);
+    assert_eq!(audit(&SMALL, Type::TinyInt, used(3)).unwrap().into_field().count(), 0);
 }
 
 #[test]
@@ -117,7 +118,9 @@ fn subtracts() {
 fn fields_sized_by_the_claim_of_a_body() {
     for rows in [1, 7, 8, 9, 65_536, 65_537, 300_000] {
         let body = nulls(rows);
-        let field = audit(&body, Type::Int, RowField::for_body(&body)).unwrap();
+        let audited = audit(&body, Type::Int, RowField::for_body(&body)).unwrap();
+        assert_eq!(audited.rows(), rows.into());
+        let field = audited.into_field();
         assert_eq!((field.rows(), field.count()), (rows.into(), 0));
         let answer = ask(&body, Question::IsNull, &Literals::none(Type::Int), field).unwrap();
         assert_eq!(answer.count(), rows.into());

@@ -74,7 +74,7 @@ pub struct Lender {
 }
 
 enum Memory {
-    /// Next to a guard, at the end and at the beginning in turn.
+    /// Next to a guard, at the end and at the beginning in turn; the side is that of the buffer lent last.
     Guarded { mapping: Mapping, at_end: bool },
     /// In a heap block of exactly the length, for valgrind.
     Heap { block: Box<[u8]> },
@@ -119,10 +119,10 @@ impl Lender {
         }
     }
 
-    /// The next buffer lies at the other end than it would.
-    pub fn turn(&mut self) {
+    /// The next buffer lies at the end, or at the beginning, whatever was lent before.
+    pub fn place_next(&mut self, next_at_end: bool) {
         if let Memory::Guarded { at_end, .. } = &mut self.memory {
-            *at_end = !*at_end;
+            *at_end = !next_at_end;
         }
     }
 }

@@ -25,26 +25,56 @@ impl<'a> From<&'a Literal> for Value<'a> {
     }
 }
 
-/// Reads a literal of a type; the unit is that of the timestamp types. The error says what is wrong with it.
-pub fn parse(text: &str, ty: Type, unit: Unit) -> Result<Literal, String> {
-    let read = match ty {
-        Type::TinyInt => whole(text, i8::MIN, i8::MAX).map(Literal::Number),
-        Type::SmallInt => whole(text, i16::MIN, i16::MAX).map(Literal::Number),
-        Type::Int => whole(text, i32::MIN, i32::MAX).map(Literal::Number),
-        Type::BigInt => whole(text, i64::MIN, i64::MAX).map(Literal::Number),
-        Type::Boolean => boolean(text).map(Literal::Boolean),
-        Type::Date if is_whole(text) => whole(text, i32::MIN, i32::MAX).map(Literal::Number),
-        Type::Date => calendar::date(text).map(Literal::Number),
-        Type::Time if is_whole(text) => whole(text, i32::MIN, i32::MAX).map(Literal::Number),
+/// How dates and times are written.
+#[derive(Clone, Copy, Debug, PartialEq, Eq)]
+pub enum Form {
+    /// As people write them; timestamps are stored in the unit. None is assumed, since in the wrong one every literal would be
+    /// found nowhere and the data file skipped.
+    Written(Option<Unit>),
+    /// As the stored numbers. They are asked for apart, since `20240101` as a number of days would be found nowhere either.
+    Stored,
+}
+
+/// Reads a literal of a type. The error says what is wrong with it.
+pub fn parse(text: &str, ty: Type, form: Form) -> Result<Literal, String> {
+    // Where no unit is given the finest one shows whether it is all that is missing.
+    let timestamp = |text, unit: Option<Unit>| calendar::timestamp(text, unit.unwrap_or(Unit::Microseconds));
+    let read = match (ty, form) {
+        (Type::TinyInt, _) => whole(text, i8::MIN, i8::MAX).map(Literal::Number),
+        (Type::SmallInt, _) => whole(text, i16::MIN, i16::MAX).map(Literal::Number),
+        (Type::Int, _) => whole(text, i32::MIN, i32::MAX).map(Literal::Number),
+        (Type::BigInt, _) => whole(text, i64::MIN, i64::MAX).map(Literal::Number),
+        (Type::Boolean, _) => boolean(text).map(Literal::Boolean),
+        (Type::Date | Type::Time, Form::Stored) => stored(text, i32::MIN, i32::MAX),
+        (Type::Timestamp | Type::LocalZonedTimestamp, Form::Stored) => stored(text, i64::MIN, i64::MAX),
+        (Type::Date, Form::Written(_)) => written(text, calendar::date(text)),
         // Paimon stores a time of day as milliseconds, whatever its precision.
-        Type::Time => calendar::time(text, Unit::Milliseconds).map(Literal::Number),
-        Type::Timestamp | Type::LocalZonedTimestamp if is_whole(text) => whole(text, i64::MIN, i64::MAX).map(Literal::Number),
-        Type::Timestamp => calendar::timestamp(text, unit).map(Literal::Number),
+        (Type::Time, Form::Written(_)) => written(text, calendar::time(text, Unit::Milliseconds)),
+        (Type::Timestamp, Form::Written(unit)) => written(text, timestamp(text, unit)),
         // It is stored as an instant, so that it is UTC that is read here, with its sign or without.
-        Type::LocalZonedTimestamp => calendar::timestamp(text.strip_suffix('Z').unwrap_or(text), unit).map(Literal::Number),
-        Type::Char | Type::VarChar | Type::String => Ok(Literal::Text(text.to_string())),
+        (Type::LocalZonedTimestamp, Form::Written(unit)) => {
+            written(text, timestamp(text.strip_suffix('Z').unwrap_or(text), unit))
+        }
+        (Type::Char | Type::VarChar | Type::String, _) => Ok(Literal::Text(text.to_string())),
     };
-    read.map_err(|reason| format!("{text:?} is no {ty}: {reason}"))
+    let literal = read.map_err(|reason| format!("{text:?} is no {ty}: {reason}"))?;
+    match (ty, form) {
+        (Type::Timestamp | Type::LocalZonedTimestamp, Form::Written(None)) => Err(format!(
+            "{text:?} needs --millis or --micros: a {ty} column of precision up to 3 stores milliseconds, above 3 microseconds"
+        )),
+        _ => Ok(literal),
+    }
+}
+
+fn stored<T: FromStr + Into<i64> + Display>(text: &str, least: T, most: T) -> Result<Literal, String> {
+    whole(text, least, most).map(Literal::Number).map_err(|reason| format!("with --stored {reason}"))
+}
+
+fn written(text: &str, read: Result<i64, String>) -> Result<Literal, String> {
+    read.map(Literal::Number).map_err(|reason| match is_whole(text) {
+        true => format!("{reason}; for the stored number give --stored"),
+        false => reason,
+    })
 }
 
 fn is_whole(text: &str) -> bool {
@@ -70,8 +100,12 @@ fn boolean(text: &str) -> Result<bool, String> {
 mod tests {
     use super::*;
 
-    fn number(text: &str, ty: Type) -> Option<i64> {
-        match parse(text, ty, Unit::Milliseconds) {
+    const MILLIS: Form = Form::Written(Some(Unit::Milliseconds));
+    const MICROS: Form = Form::Written(Some(Unit::Microseconds));
+    const NO_UNIT: Form = Form::Written(None);
+
+    fn number(text: &str, ty: Type, form: Form) -> Option<i64> {
+        match parse(text, ty, form) {
             Ok(Literal::Number(number)) => Some(number),
             Ok(other) => panic!("{other:?}"),
             Err(_) => None,
@@ -80,51 +114,84 @@ mod tests {
 
     #[test]
     fn numbers_to_the_ends_of_their_type() {
-        for (ty, least, most) in [
-            (Type::TinyInt, -128, 127),
-            (Type::SmallInt, -32_768, 32_767),
-            (Type::Int, i64::from(i32::MIN), i64::from(i32::MAX)),
-            (Type::Date, i64::from(i32::MIN), i64::from(i32::MAX)),
-            (Type::Time, i64::from(i32::MIN), i64::from(i32::MAX)),
-            (Type::BigInt, i64::MIN, i64::MAX),
-            (Type::Timestamp, i64::MIN, i64::MAX),
-            (Type::LocalZonedTimestamp, i64::MIN, i64::MAX),
+        for (ty, form, least, most) in [
+            (Type::TinyInt, NO_UNIT, -128, 127),
+            (Type::SmallInt, NO_UNIT, -32_768, 32_767),
+            (Type::Int, NO_UNIT, i64::from(i32::MIN), i64::from(i32::MAX)),
+            (Type::Date, Form::Stored, i64::from(i32::MIN), i64::from(i32::MAX)),
+            (Type::Time, Form::Stored, i64::from(i32::MIN), i64::from(i32::MAX)),
+            (Type::BigInt, NO_UNIT, i64::MIN, i64::MAX),
+            (Type::Timestamp, Form::Stored, i64::MIN, i64::MAX),
+            (Type::LocalZonedTimestamp, Form::Stored, i64::MIN, i64::MAX),
         ] {
-            assert_eq!(number(&least.to_string(), ty), Some(least), "{ty}");
-            assert_eq!(number(&most.to_string(), ty), Some(most), "{ty}");
-            assert_eq!(number(&(i128::from(least) - 1).to_string(), ty), None, "{ty}");
-            assert_eq!(number(&(i128::from(most) + 1).to_string(), ty), None, "{ty}");
-            for text in ["", "-", "+", "7.0", "0x7", "seven", " 7", "7 ", "--7", "1e3"] {
-                assert_eq!(number(text, ty), None, "{text:?} as {ty}");
+            assert_eq!(number(&least.to_string(), ty, form), Some(least), "{ty}");
+            assert_eq!(number(&most.to_string(), ty, form), Some(most), "{ty}");
+            assert_eq!(number(&(i128::from(least) - 1).to_string(), ty, form), None, "{ty}");
+            assert_eq!(number(&(i128::from(most) + 1).to_string(), ty, form), None, "{ty}");
+            for text in ["", "-", "+", "7.0", "0x7", "seven", " 7", "7 ", "--7", "1e3", "2024-01-01", "10:01:00"] {
+                assert_eq!(number(text, ty, form), None, "{text:?} as {ty}");
             }
         }
     }
 
     #[test]
     fn days_and_times() {
-        assert_eq!(number("2024-01-01", Type::Date), Some(19_723));
-        assert_eq!(number("10:01:00", Type::Time), Some(36_060_000));
-        assert_eq!(number("2024-01-01T10:00:00", Type::Timestamp), Some(1_704_103_200_000));
-        assert_eq!(number("2024-01-01 10:00:00", Type::LocalZonedTimestamp), Some(1_704_103_200_000));
-        assert_eq!(number("2024-01-01T10:00:00Z", Type::LocalZonedTimestamp), Some(1_704_103_200_000));
-        assert_eq!(number("2024-01-01T10:00:00Z", Type::Timestamp), None);
-        assert_eq!(number("2024-01-01T10:00:00", Type::Date), None);
-        assert_eq!(number("2024-01-01", Type::Timestamp), None);
-        assert_eq!(number("2024-01-01", Type::Int), None);
+        assert_eq!(number("2024-01-01", Type::Date, NO_UNIT), Some(19_723));
+        assert_eq!(number("10:01:00", Type::Time, NO_UNIT), Some(36_060_000));
+        assert_eq!(number("10:01:00.0001", Type::Time, NO_UNIT), None);
+        for (form, ten_o_clock) in [(MILLIS, 1_704_103_200_000), (MICROS, 1_704_103_200_000_000)] {
+            let number = |text, ty| number(text, ty, form);
+            assert_eq!(number("2024-01-01T10:00:00", Type::Timestamp), Some(ten_o_clock));
+            assert_eq!(number("2024-01-01 10:00:00", Type::LocalZonedTimestamp), Some(ten_o_clock));
+            assert_eq!(number("2024-01-01T10:00:00Z", Type::LocalZonedTimestamp), Some(ten_o_clock));
+            assert_eq!(number("2024-01-01T10:00:00Z", Type::Timestamp), None);
+            assert_eq!(number("2024-01-01", Type::Timestamp), None);
+        }
+        assert_eq!(number("2024-01-01T10:00:00", Type::Date, NO_UNIT), None);
+        assert_eq!(number("2024-01-01", Type::Int, NO_UNIT), None);
     }
 
     #[test]
-    fn the_unit_is_of_timestamps_alone() {
-        let micros = |text, ty| parse(text, ty, Unit::Microseconds);
-        assert_eq!(micros("2024-01-01T10:00:00", Type::Timestamp), Ok(Literal::Number(1_704_103_200_000_000)));
-        assert_eq!(micros("1704103200000", Type::Timestamp), Ok(Literal::Number(1_704_103_200_000)));
-        assert_eq!(micros("10:01:00", Type::Time), Ok(Literal::Number(36_060_000)));
-        assert!(micros("10:01:00.0001", Type::Time).is_err());
+    fn timestamps_need_their_unit() {
+        for ty in [Type::Timestamp, Type::LocalZonedTimestamp] {
+            for text in ["2024-01-01T10:00:00", "2024-01-01 10:00:00.25", "2024-01-01T10:00:00.000001"] {
+                assert_eq!(
+                    parse(text, ty, NO_UNIT),
+                    Err(format!(
+                        "{text:?} needs --millis or --micros: \
+                         a {ty} column of precision up to 3 stores milliseconds, above 3 microseconds"
+                    ))
+                );
+            }
+        }
+    }
+
+    #[test]
+    fn stored_numbers_are_asked_for_apart() {
+        for (text, ty, message) in [
+            ("20240101", Type::Date, "a date is written 2024-01-31; for the stored number give --stored"),
+            ("-1", Type::Date, "a date is written 2024-01-31; for the stored number give --stored"),
+            ("100100", Type::Time, "a time of day is written 10:01:00 or 10:01:00.5; for the stored number give --stored"),
+            (
+                "1704103200000",
+                Type::Timestamp,
+                "a timestamp is written 2024-01-31T10:01:00, '2024-01-31 10:01:00', or with a fraction behind; \
+                 for the stored number give --stored",
+            ),
+        ] {
+            for form in [NO_UNIT, MILLIS, MICROS] {
+                assert_eq!(parse(text, ty, form), Err(format!("{text:?} is no {ty}: {message}")));
+            }
+        }
+        assert_eq!(
+            parse("2024-01-01", Type::Date, Form::Stored),
+            Err("\"2024-01-01\" is no DATE: with --stored it takes whole numbers from -2147483648 to 2147483647".to_string())
+        );
     }
 
     #[test]
     fn booleans_and_strings() {
-        let read = |text, ty| parse(text, ty, Unit::Milliseconds);
+        let read = |text, ty| parse(text, ty, NO_UNIT);
         assert_eq!(read("true", Type::Boolean), Ok(Literal::Boolean(true)));
         assert_eq!(read("FALSE", Type::Boolean), Ok(Literal::Boolean(false)));
         assert!(read("1", Type::Boolean).is_err());
@@ -138,11 +205,11 @@ mod tests {
     #[test]
     fn errors_say_what_is_taken() {
         assert_eq!(
-            parse("300", Type::TinyInt, Unit::Milliseconds),
+            parse("300", Type::TinyInt, NO_UNIT),
             Err("\"300\" is no TINYINT: it takes whole numbers from -128 to 127".to_string())
         );
         assert_eq!(
-            parse("2024-01-01T10:00:00.0005", Type::Timestamp, Unit::Milliseconds),
+            parse("2024-01-01T10:00:00.0005", Type::Timestamp, MILLIS),
             Err("\"2024-01-01T10:00:00.0005\" is no TIMESTAMP: the fraction .0005 is finer than milliseconds".to_string())
         );
     }

@@ -15,7 +15,7 @@ use std::process::ExitCode;
 
 use poddurance::{ask, audit, locate, raw, read_deletions, subtract, Error, Literals, Refusal, RowField, LIMIT};
 
-use args::{Command, Deletions, Job, BITMAP};
+use args::{Command, Deletions, IndexOf, Job, BITMAP};
 use output::{Outcome, Part};
 
 /// Wrong usage, a file that can't be read, or an answer that can't be written.
@@ -57,21 +57,19 @@ fn carry_out(command: Command) -> Result<Outcome, String> {
     Ok(match command {
         Command::Help | Command::Version => unreachable!("these have been answered"),
         Command::Locate { file, column, kind } => place(&read(&file)?, column, kind),
-        Command::Audit { file, column, ty } => {
-            let bytes = read(&file)?;
-            in_index(&bytes, column, |body| {
-                let field = audit(body, ty, RowField::for_body(body))?;
-                Ok(Outcome::Accepted { rows: field.rows() })
-            })
-        }
-        Command::Ask { file, column, ty, question, literals, deletions } => {
-            let bytes = read(&file)?;
-            let answered = in_index(&bytes, column, |body| {
-                let literals = Literals::of(ty, &literals)?;
-                let answer = ask(body, question, &literals, RowField::for_body(body))?;
-                Ok(Outcome::Answered { field: answer.into_field(), removed: None })
-            });
-            drop(bytes);
+        Command::Audit { index } => in_index(&index, |body| {
+            let rows = audit(body, index.ty, RowField::for_body(body))?.rows();
+            Ok(differing(rows, index.data_rows).unwrap_or(Outcome::Accepted { rows }))
+        })?,
+        Command::Ask { index, question, literals, deletions } => {
+            let answered = in_index(&index, |body| {
+                let literals = match Literals::of(index.ty, &literals) {
+                    Ok(literals) => literals,
+                    Err(refusal) => return Ok(Outcome::Refused { refusal, part: Part::Literals }),
+                };
+                let field = ask(body, question, &literals, RowField::for_body(body))?.into_field();
+                Ok(differing(field.rows(), index.data_rows).unwrap_or(Outcome::Answered { field, removed: None }))
+            })?;
             match (answered, deletions) {
                 (Outcome::Answered { field, .. }, Some(deletions)) => without(field, &deletions)?,
                 (outcome, _) => outcome,
@@ -100,16 +98,24 @@ fn place(bytes: &[u8], column: String, kind: String) -> Outcome {
 }
 
 /// What the bitmap index on the column answers.
-fn in_index(bytes: &[u8], column: String, answer: impl FnOnce(&[u8]) -> Result<Outcome, Error>) -> Outcome {
-    let answered = match locate(&[], bytes, &column, BITMAP) {
+fn in_index(index: &IndexOf, answer: impl FnOnce(&[u8]) -> Result<Outcome, Error>) -> Result<Outcome, String> {
+    let bytes = read(&index.file)?;
+    let answered = match locate(&[], &bytes, &index.column, BITMAP) {
         Ok(Some(body)) => answer(body),
-        Ok(None) => return Outcome::Absent { column, kind: BITMAP.to_string() },
+        Ok(None) => Ok(Outcome::Absent { column: index.column.clone(), kind: BITMAP.to_string() }),
         Err(refusal) => Err(refusal.into()),
     };
-    match answered {
-        Ok(outcome) => outcome,
-        Err(error) => Outcome::Refused { refusal: refusal_of(error), part: Part::Index },
-    }
+    Ok(answered.unwrap_or_else(|error| match refusal_of(error) {
+        refusal @ Refusal::Literal => Outcome::Refused { refusal, part: Part::Literals },
+        refusal => Outcome::Refused { refusal, part: Part::Index },
+    }))
+}
+
+/// The outcome where an accepted index has another row count than the data file: it is of another one, or of the same before it
+/// was written anew, and no answer of it counts.
+fn differing(index_rows: u64, data_rows: Option<u64>) -> Option<Outcome> {
+    let data_rows = data_rows.filter(|data_rows| *data_rows != index_rows)?;
+    Some(Outcome::RowsDiffer { index_rows, data_rows })
 }
 
 /// The rows that are left when those of the bin are taken away. The deletion file is read where nothing is left to take away too:

@@ -17,13 +17,17 @@ pub enum Outcome {
     Answered { field: RowField, removed: Option<u64> },
     /// The deletions were read.
     Deleted { field: RowField },
-    /// Something was refused.
+    /// The library refused something.
     Refused { refusal: Refusal, part: Part },
+    /// The index is accepted, but it is not of the data file's row count.
+    RowsDiffer { index_rows: u64, data_rows: u64 },
 }
 
-/// The file that a refusal is about.
+/// What a refusal is about.
 #[derive(Clone, Copy, Debug, PartialEq, Eq)]
 pub enum Part {
+    /// The literals, whatever the file has.
+    Literals,
     Index,
     Deletions,
     /// The deletion file beside an index that was accepted; the line says so, since the user named two files.
@@ -36,7 +40,7 @@ impl Outcome {
             Outcome::Found { .. } | Outcome::Accepted { .. } | Outcome::Deleted { .. } => 0,
             Outcome::Answered { field, .. } => u8::from(field.count() == 0),
             Outcome::Absent { .. } => 1,
-            Outcome::Refused { .. } => 3,
+            Outcome::Refused { .. } | Outcome::RowsDiffer { .. } => 3,
         }
     }
 
@@ -70,6 +74,9 @@ impl Outcome {
                 writeln!(out, "refused: {refusal}, in the deletion file")
             }
             Outcome::Refused { refusal, .. } => writeln!(out, "refused: {refusal}"),
+            Outcome::RowsDiffer { index_rows, data_rows } => {
+                writeln!(out, "refused: {}", difference(*index_rows, *data_rows))
+            }
         }
     }
 
@@ -99,15 +106,25 @@ impl Outcome {
             }
             Outcome::Refused { refusal, part } => {
                 let file = match part {
-                    Part::Index => "index",
-                    Part::Deletions | Part::DeletionsBesideIndex => "deletions",
+                    Part::Literals => "null",
+                    Part::Index => r#""index""#,
+                    Part::Deletions | Part::DeletionsBesideIndex => r#""deletions""#,
                 };
                 let (name, number, meaning) = (refusal.name(), refusal.number(), quoted(refusal.meaning()));
-                write!(out, r#"{{"answer":"refused","file":"{file}","name":"{name}","number":{number},"meaning":{meaning}"#)?;
+                write!(out, r#"{{"answer":"refused","file":{file},"name":"{name}","number":{number},"meaning":{meaning}"#)?;
+            }
+            Outcome::RowsDiffer { index_rows, data_rows } => {
+                // Document 01 has neither a name nor a number for it.
+                let meaning = quoted(&difference(*index_rows, *data_rows));
+                write!(out, r#"{{"answer":"refused","file":"index","name":null,"number":null,"meaning":{meaning}"#)?;
             }
         }
         writeln!(out, "}}")
     }
+}
+
+fn difference(index_rows: u64, data_rows: u64) -> String {
+    format!("the index is of {}, the data file has {data_rows}", counted(index_rows, "row"))
 }
 
 /// A number of things, with an s where there isn't one alone.
@@ -250,18 +267,59 @@ mod tests {
         assert_eq!(text(&accepted, false), "accepted: 3 rows, each in exactly one place\n");
         assert_eq!(json(&accepted, false), "{\"answer\":\"accepted\",\"rows\":3}\n");
 
-        let refused = |part| Outcome::Refused { refusal: Refusal::Literal, part };
-        assert_eq!(refused(Part::Index).exit_status(), 3);
-        assert_eq!(text(&refused(Part::Index), true), "refused: LITERAL (11), literals don't fit question and type\n");
+        let refused = |part| Outcome::Refused { refusal: Refusal::Limit, part };
+        for (part, behind, file) in [
+            (Part::Literals, "", "null"),
+            (Part::Index, "", "\"index\""),
+            (Part::Deletions, "", "\"deletions\""),
+            (Part::DeletionsBesideIndex, ", in the deletion file", "\"deletions\""),
+        ] {
+            assert_eq!(refused(part).exit_status(), 3);
+            assert_eq!(text(&refused(part), true), format!("refused: LIMIT (12), a limit is passed{behind}\n"));
+            let rest = r#""name":"LIMIT","number":12,"meaning":"a limit is passed""#;
+            assert_eq!(json(&refused(part), true), format!("{{\"answer\":\"refused\",\"file\":{file},{rest}}}\n"));
+        }
+    }
+
+    #[test]
+    fn rows_that_differ() {
+        let differ = Outcome::RowsDiffer { index_rows: 3, data_rows: 1000 };
+        assert_eq!(differ.exit_status(), 3);
+        assert_eq!(text(&differ, true), "refused: the index is of 3 rows, the data file has 1000\n");
         assert_eq!(
-            text(&refused(Part::DeletionsBesideIndex), true),
-            "refused: LITERAL (11), literals don't fit question and type, in the deletion file\n"
+            json(&differ, true),
+            "{\"answer\":\"refused\",\"file\":\"index\",\"name\":null,\"number\":null,\
+             \"meaning\":\"the index is of 3 rows, the data file has 1000\"}\n"
         );
-        assert_eq!(
-            json(&refused(Part::DeletionsBesideIndex), true),
-            "{\"answer\":\"refused\",\"file\":\"deletions\",\"name\":\"LITERAL\",\"number\":11,\
-             \"meaning\":\"literals don't fit question and type\"}\n"
-        );
+        let one = Outcome::RowsDiffer { index_rows: 1, data_rows: 0 };
+        assert_eq!(text(&one, false), "refused: the index is of 1 row, the data file has 0\n");
+    }
+
+    /// The keys of an object without text values that hold `":`.
+    fn keys(line: &str) -> Vec<&str> {
+        line.match_indices("\":").filter_map(|(at, _)| line[..at].rsplit('"').next()).collect()
+    }
+
+    #[test]
+    fn help_has_the_keys() {
+        let name = || "s".to_string();
+        let refused = |part| Outcome::Refused { refusal: Refusal::Twice, part };
+        for outcome in [
+            Outcome::Found { column: name(), kind: name(), start: 47, length: 1 },
+            Outcome::Absent { column: name(), kind: name() },
+            Outcome::Accepted { rows: 3 },
+            Outcome::Answered { field: others(), removed: None },
+            Outcome::Answered { field: RowField::for_rows(6).unwrap(), removed: Some(1) },
+            Outcome::Deleted { field: three() },
+            refused(Part::Index),
+            refused(Part::Literals),
+            Outcome::RowsDiffer { index_rows: 3, data_rows: 1000 },
+        ] {
+            let json = json(&outcome, false);
+            let start = &json[..json.find(',').unwrap()];
+            let line = include_str!("help.txt").lines().find(|line| line.trim_start().starts_with(start));
+            assert_eq!(keys(line.expect("every answer has a line")), keys(&json), "{start}");
+        }
     }
 
     #[test]

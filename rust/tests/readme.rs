@@ -1,0 +1,88 @@
+//! The README's examples in Rust and C are what runs, and print what stands beside them.
+
+mod support;
+
+use std::fs;
+use std::os::unix::fs::symlink;
+use std::path::{Path, PathBuf};
+use std::process::{Command, Output};
+
+use support::say;
+
+fn root() -> PathBuf {
+    Path::new(env!("CARGO_MANIFEST_DIR")).join("..").canonicalize().unwrap()
+}
+
+/// The lines of the README behind a heading, up to the next one.
+fn section(heading: &str) -> Vec<String> {
+    let readme = fs::read_to_string(root().join("README.md")).unwrap();
+    let mut lines = readme.lines().skip_while(|line| *line != heading);
+    assert!(lines.next().is_some(), "README.md has no heading {heading:?}");
+    lines.take_while(|line| !line.starts_with("## ")).map(str::to_string).collect()
+}
+
+/// The first block of code of that language, and the lines behind it.
+fn block(section: &[String], language: &str) -> (Vec<String>, Vec<String>) {
+    let fence = format!("```{language}");
+    let start = section.iter().position(|line| *line == fence).expect("the section has a block") + 1;
+    let end = start + section[start..].iter().position(|line| line == "```").expect("the block ends");
+    (section[start..end].to_vec(), section[end + 1..].to_vec())
+}
+
+/// What a program printed that ended well.
+fn lines(output: Output) -> Vec<String> {
+    assert!(output.status.success(), "{}: {}", output.status, String::from_utf8_lossy(&output.stderr));
+    String::from_utf8(output.stdout).unwrap().lines().map(str::to_string).collect()
+}
+
+#[test]
+fn rust_example() {
+    let (block, _) = block(&section("## From Rust"), "rust");
+
+    // The example is the block, what stands behind its first blank line in a main function.
+    let blank = block.iter().position(|line| line.is_empty()).expect("the names come first");
+    let (names, code) = block.split_at(blank);
+    let main = ["fn main() -> Result<(), Box<dyn std::error::Error>> {".to_string()];
+    let end = ["Ok(())", "}"].map(str::to_string);
+    let parts = [names, &main, code, &end].concat();
+    let example = fs::read_to_string(root().join("rust/examples/readme.rs")).unwrap();
+    let bare = |lines: Vec<&str>| -> Vec<String> {
+        let trimmed = lines.into_iter().map(str::trim);
+        trimmed.filter(|line| !line.is_empty() && !line.starts_with("//!")).map(str::to_string).collect()
+    };
+    assert_eq!(bare(example.lines().collect()), bare(parts.iter().map(String::as_str).collect()));
+
+    // Each printing line has its output as a comment.
+    let printing = block.iter().filter(|line| line.trim_start().starts_with("println!"));
+    let expected: Vec<&str> = printing.map(|line| line.split_once("); // ").expect("a comment with the output").1).collect();
+    assert!(!expected.is_empty());
+    let output = Command::new(env!("CARGO"))
+        .args(["run", "--quiet", "--offline", "--manifest-path", "rust/Cargo.toml", "--example", "readme"])
+        .current_dir(root())
+        .output()
+        .unwrap();
+    assert_eq!(lines(output), expected);
+}
+
+#[test]
+fn c_example() {
+    if Command::new("cc").arg("--version").output().is_err() {
+        return say("\nskipped: README's example in C, since there is no C compiler 'cc'");
+    }
+    let (block, behind) = block(&section("## From C"), "c");
+    let mut shown = behind.iter().skip_while(|line| !line.ends_with("./example"));
+    let command = shown.next().expect("the command that compiles and runs ./example").trim_start().trim_start_matches("$ ");
+    let expected: Vec<&str> = shown.map_while(|line| line.strip_prefix("    ")).collect();
+    assert!(!expected.is_empty());
+
+    // The command is run as printed, in a folder that has the repository's headers and archive.
+    let folder = Path::new(env!("CARGO_TARGET_TMPDIR")).join("readme-c");
+    let _ = fs::remove_dir_all(&folder);
+    fs::create_dir(&folder).unwrap();
+    for name in ["include", "target"] {
+        symlink(root().join(name), folder.join(name)).unwrap();
+    }
+    fs::write(folder.join("example.c"), block.join("\n") + "\n").unwrap();
+    let output = Command::new("sh").args(["-c", command]).current_dir(&folder).output().unwrap();
+    assert_eq!(lines(output), expected);
+}
