@@ -1,8 +1,7 @@
 -- Demand 3, one claim from file to answers: all versions, cuts and forms at once, and over the scan. Assumes nothing.
 use Prim.Native.Nat.{ℕ, _≤_}
-use mathlib.Core.Path.{_≡_, refl, ap, sym, _∙_}
+use mathlib.Core.Path.{_≡_}
 use mathlib.Core.List.{List, _++_}
-use lib.Dec.{eqb}
 use lib.ListN.{length, drop, replicate, length-replicate}
 use Rattle.numbers.specs.Meaning.{Bytes, joined}
 use Rattle.row_field.specs.Meaning.{size, cleared}

@@ -1,24 +1,23 @@
 -- 01, "Files written out": the cases marked * stand together in one table, with one proved statement, `starred`. Assumes nothing.
-use Prim.Native.Nat.{ℕ, zero, suc, _+_, _-_, _*_, _/_, _%_, _^_, _≤_, _<_}
+use Prim.Native.Nat.{ℕ, zero, suc, _-_, _≤_, _<_}
 use mathlib.Core.Path.{_≡_, refl}
 use native.Mathlib.Omega.{arith}
 use borrow.Author.Tests.{le-ltb}
-use mathlib.Core.Bool.{Bool, true, false, not, _&&_, _||_, cond}
-use mathlib.Core.List.{List, [], _∷_, _++_}
-use lib.Bits.{bitOr}
-use lib.Dec.{eqb, ltb, leb}
-use lib.IntN.{ℤ, pos, negsuc}
-use lib.ListN.{length, getD, set, take, drop, replicate}
+use mathlib.Core.Bool.{not}
+use mathlib.Core.List.{List, [], _∷_}
+use lib.Dec.{ltb}
+use lib.IntN.{negsuc}
+use lib.ListN.{length}
 use Rattle.numbers.specs.Meaning.{All, number, signed32, same, Bytes}
 use Rattle.refusal.specs.Meaning.{limit}
 use Rattle.refusal.specs.declared.Refusal.the-variants.{Range, Twice}
 use Rattle.row_field.specs.Meaning.{bit, mark, markAll, anySet, zeroed, upTo, rowsFrom}
-use Rattle.roaring.specs.Reading.{Read, got, need, choose, valuesOf, runsOf, rising, apart, bodySize, bodyValues, sound, body, offsetIs, containers, contents, readPlain, readFlagged, read}
+use Rattle.roaring.specs.Reading.{got, need, choose, valuesOf, runsOf, rising, apart, bodySize, bodyValues, sound, body, offsetIs, containers, contents, readPlain, readFlagged, read}
 use Rattle.roaring.specs.Reading as roaring
 use Rattle.roaring.specs.Layout.{Bitmap, plain-bitmap, flagged-bitmap, array, runs}
 use Rattle.stored_value.specs.Meaning.{Cell, null, value, Value, width, isString, booleanOk, sameCell, signedNumber, less, listed}
 use Rattle.stored_value.specs.Meaning as values
-use Rattle.refusal.specs.Reading.{Out, refuse, ok, check, andThen}
+use Rattle.refusal.specs.Reading.{refuse, ok, check, andThen}
 use Rattle.stored_value.specs.Reading.{valueSize, valueOf, literals}
 use Rattle.dictionary.specs.Reading.{counted, entriesOne, listings, past, heads, entriesTwo, behind, blocksOf, blocked, nullOf, dictionary}
 use Rattle.index_file.specs.Reading.{located, answerOf, partOf, lookedAt}
@@ -29,7 +28,7 @@ use Rattle.bitmap_index.specs.declared.Answered.{Answered}
 use Rattle.bitmap_index.specs.declared.Answered.the-variants.{Skip, Keep}
 use Rattle.bitmap_index.specs.Meaning.{Column, chosen, takes, scanFrom, scan, keeps}
 use Rattle.bitmap_index.specs.Layout.{Placed, Kept, single, Body, version1, version2}
-use Rattle.bitmap_index.specs.Reading.{Answer, placeAt, place, placeAll, roomFor, prepared, audited, audit, chosenOf, answered, asked, ask, answeredBy}
+use Rattle.bitmap_index.specs.Reading.{placeAt, place, placeAll, roomFor, prepared, audited, audit, chosenOf, answered, asked, ask, answeredBy}
 use Rattle.file_to_answers.specs.Layout.{ColumnFile}
 
 -- TINYINT column s = 7, 9, null
