@@ -14,13 +14,13 @@ use Rattle.row_field.specs.Meaning.{cleared, count, size}
 use Rattle.stored_value.specs.declared.Counted.{Counted}
 use Rattle.stored_value.specs.declared.Counted.the-variants.{Count}
 use Rattle.refusal.specs.Reading.{Out, refuse, ok, check, andThen}
-use Rattle.stored_value.specs.Code.{countedBy}
+use Rattle.stored_value.specs.Promises.{countedBy}
 use Rattle.stored_value.specs.Reading.{literals}
 use Rattle.dictionary.specs.declared.Checked.{Checked}
 use Rattle.dictionary.specs.declared.Checked.the-variants.{Found}
 use Rattle.dictionary.specs.declared.Head.{Head}
 use Rattle.dictionary.specs.Layout.{Entry}
-use Rattle.dictionary.specs.Code.{nullsOf}
+use Rattle.dictionary.specs.Promises.{nullsOf}
 use Rattle.bitmap_index.specs.Meaning.{takes, keeps}
 use Rattle.bitmap_index.specs.Reading.{Answer, placeAll, prepared, audited, answered, asked, ask, bufferOf, zeroedFrom, askBuffer, chosenOf, auditedBy, answeredBy, askOut, numbersOf}
 use Rattle.bitmap_index.specs.declared.Audited.{Audited}
@@ -29,7 +29,7 @@ use Rattle.bitmap_index.specs.declared.Answered.{Answered}
 use Rattle.bitmap_index.specs.declared.Answered.the-variants.{Skip, Keep}
 use Rattle.bitmap_index.specs.declared.Outcome.{Outcome}
 use Rattle.bitmap_index.specs.declared.Outcome.the-variants.{Done}
-use Rattle.bitmap_index.specs.Code.{Placing, picks, picked, answerOf, ReadAs, Laid, dictionaryOf, Readied, Asks, answeredAfter, Answers}
+use Rattle.bitmap_index.specs.Promises.{Placing, picks, picked, answerOf, ReadAs, Laid, dictionaryOf, Readied, Asks, answeredAfter, Answers}
 use Rattle.bitmap_index.proofs.Auditing.{zeroed-again}
 
 -- ---- the answer's number and count

@@ -17,13 +17,13 @@ use Rattle.dictionary.specs.declared.Checked.the-variants.{Found}
 use Rattle.dictionary.specs.declared.Head.{Head}
 use Rattle.dictionary.specs.Layout.{Entry}
 use Rattle.dictionary.specs.Reading.{dictionary}
-use Rattle.dictionary.specs.Code.{nullsOf, Tells}
+use Rattle.dictionary.specs.Promises.{nullsOf, Tells}
 use Rattle.bitmap_index.specs.Reading.{placeAll, roomFor, prepared, audited, audit, zeroedFrom, auditBuffer, auditedBy, auditOut, numbersOf}
 use Rattle.bitmap_index.specs.declared.Audited.{Audited}
 use Rattle.bitmap_index.specs.declared.Audited.the-variants.{Rows}
 use Rattle.bitmap_index.specs.declared.Outcome.{Outcome}
 use Rattle.bitmap_index.specs.declared.Outcome.the-variants.{Done}
-use Rattle.bitmap_index.specs.Code.{Placing, picks, picked, filled, ReadAs, Laid, Sound, dictionaryOf, Readied}
+use Rattle.bitmap_index.specs.Promises.{Placing, picks, picked, filled, ReadAs, Laid, Sound, dictionaryOf, Readied}
 
 -- an audit picks every entry, whatever the question
 all-picked : (q : ℕ) (ls : List (List ℕ)) (es : List Entry) → picked true q ls es ≡ es

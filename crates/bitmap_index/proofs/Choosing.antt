@@ -9,7 +9,7 @@ use types.Run.{OneOf}
 use borrow.Author.Tests.{ne-eqb}
 use Rattle.stored_value.specs.Meaning.{Cell, null, value, listed}
 use Rattle.bitmap_index.specs.Meaning.{chosen}
-use Rattle.bitmap_index.specs.Code.{picks}
+use Rattle.bitmap_index.specs.Promises.{picks}
 
 module _ (q : ℕ) (v : List ℕ) (ls : List (List ℕ)) {found : Bool} where
   pub is-listed : OneOf (0 ∷ 2 ∷ []) q → found ≡ listed v ls → found ≡ chosen q ls (value v)

@@ -10,13 +10,13 @@ use Rattle.refusal.specs.declared.Refusal.{Refusal}
 use Rattle.stored_value.specs.Meaning.{null}
 use Rattle.refusal.specs.Reading.{Out, refuse, ok, andThen}
 use Rattle.dictionary.specs.declared.Head.{Head}
-use Rattle.dictionary.specs.Code.{pattern, nullsOf}
+use Rattle.dictionary.specs.Promises.{pattern, nullsOf}
 use Rattle.dictionary.specs.Layout.{Entry}
-use Rattle.dictionary.specs.Offsets.{read-signed}
+use Rattle.dictionary.proofs.Offsets.{read-signed}
 use Rattle.bitmap_index.specs.Reading.{placeAt, place, placeAll}
 use Rattle.bitmap_index.specs.declared.Outcome.{Outcome}
 use Rattle.bitmap_index.specs.declared.Outcome.the-variants.{Done}
-use Rattle.bitmap_index.specs.Code.{Placing, picks, picked}
+use Rattle.bitmap_index.specs.Promises.{Placing, picks, picked}
 
 -- ---- one entry
 

@@ -24,7 +24,7 @@ use Rattle.roaring.specs.Reading.{Read, refused, got, choose, fits, anyFrom, re
 use Rattle.refusal.specs.Reading.{ok, check}
 use Rattle.bitmap_index.specs.Reading.{extentOf, once, placeBitmap, placeAt}
 use Rattle.bitmap_index.specs.declared.Outcome.{Outcome}
-use Rattle.bitmap_index.specs.Code.{Placing}
+use Rattle.bitmap_index.specs.Promises.{Placing}
 use Rattle.bitmap_index.proofs.Offsets.{of, row-is, at, place-is}
 
 -- ---- no byte behind the field changes

@@ -10,12 +10,12 @@ use Rattle.row_field.specs.Meaning.{cleared}
 use Rattle.refusal.specs.Reading.{Out, ok, andThen}
 use Rattle.dictionary.specs.declared.Head.{Head}
 use Rattle.dictionary.specs.declared.EntryAt.{EntryAt}
-use Rattle.dictionary.specs.Code.{Stand, Steps, entryAt, firstLeft}
+use Rattle.dictionary.specs.Promises.{Stand, Steps, entryAt, firstLeft}
 use Rattle.dictionary.specs.Layout.{Entry}
 use Rattle.bitmap_index.specs.Reading.{placeAll}
 use Rattle.bitmap_index.specs.declared.Outcome.{Outcome}
 use Rattle.bitmap_index.specs.declared.Outcome.the-variants.{Done}
-use Rattle.bitmap_index.specs.Code.{Placing, placeOf, picked, ReadAs, Laid, Sound}
+use Rattle.bitmap_index.specs.Promises.{Placing, placeOf, picked, ReadAs, Laid, Sound}
 use Rattle.bitmap_index.proofs.Entries.{place-cons}
 
 -- the picked ones of the entries es, placed in a field

@@ -3,12 +3,4 @@
 pub mod Meaning
 pub mod Layout
 pub mod Reading
-pub mod Code
-pub mod Rows
-pub mod Answered
-pub mod Theorems
-pub mod Alike
-pub mod Taken
-pub mod Accepted
-pub mod Versions
-pub mod Demand2
+pub mod Promises

@@ -1,2 +1,4 @@
 pub mod Register
 pub mod Table
+pub mod Laws
+pub mod Theorems

@@ -1,3 +1,9 @@
 pub mod Mark
 pub mod Open
 pub mod Walk
+pub mod Frames
+pub mod Fields
+pub mod Bytes
+pub mod LaidOut
+pub mod Accepted
+pub mod Theorems

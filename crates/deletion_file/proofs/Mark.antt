@@ -20,7 +20,7 @@ use Rattle.deletion_file.specs.declared.Deletions.the-variants.{Deleted}
 use Rattle.deletion_file.specs.declared.Deletions.{Deletions}
 use Rattle.refusal.specs.Reading.{Out, refuse, ok}
 use Rattle.deletion_file.specs.Reading.{before, markedBy, bitmapIn, bitmapOf, outcome, answerOf, fieldThen, deletionsOut}
-use Rattle.deletion_file.specs.Code.{part, bytesAt, fieldFrom}
+use Rattle.deletion_file.specs.Promises.{part, bytesAt, fieldFrom}
 use Rattle.deletion_file.specs.declared.Place.{Place}
 use Rattle.deletion_file.specs.declared.Place.the-variants.{At}
 

@@ -8,13 +8,13 @@ use lib.ListN.{length, take, drop, getD}
 use lib.Seq.{getD-take, drop-drop, take-nil}
 use borrow.Author.Tests.{le-leb, lt-leb, eq-eqb, ne-eqb}
 use Rattle.numbers.specs.Meaning.{beAt, big}
-use Rattle.numbers.specs.Laws.{numberAt-drop}
+use Rattle.numbers.proofs.Laws.{numberAt-drop}
 use Rattle.refusal.specs.declared.Refusal.{Refusal}
 use Rattle.refusal.specs.declared.Refusal.the-variants.{Short, Magic, Version, Checksum}
 use Rattle.crc32.specs.Meaning.{checksum}
 use Rattle.refusal.specs.Reading.{refuse, ok, check, andThen}
 use Rattle.deletion_file.specs.Reading.{bins, asked, opened, bitmapOf}
-use Rattle.deletion_file.specs.Code.{part, binFrom, binAt}
+use Rattle.deletion_file.specs.Promises.{part, binFrom, binAt}
 use Rattle.deletion_file.specs.declared.Place.{Place}
 use Rattle.deletion_file.specs.declared.Place.the-variants.{Refused, At}
 

@@ -11,12 +11,12 @@ use lib.ListN.{length, drop, length-drop}
 use lib.Seq.{drop-drop}
 use borrow.Author.Tests.{lt-ltb, le-ltb, le-leb, lt-leb, eq-eqb, ne-eqb}
 use Rattle.numbers.specs.Meaning.{beAt, big}
-use Rattle.numbers.specs.Laws.{numberAt-drop, number-at, number-short}
+use Rattle.numbers.proofs.Laws.{numberAt-drop, number-at, number-short}
 use Rattle.refusal.specs.declared.Refusal.the-variants.{Short, NoBin}
 use Rattle.deletion_file.specs.Layout.{Bin}
 use Rattle.refusal.specs.Reading.{Out, refuse, ok, check, andThen}
 use Rattle.deletion_file.specs.Reading.{front, bins, asked}
-use Rattle.deletion_file.specs.Code.{binFrom}
+use Rattle.deletion_file.specs.Promises.{binFrom}
 
 -- ---- one after the other
 

@@ -7,7 +7,7 @@ ghost use lib.ListN.{length, drop};
 ghost use Rattle.row_field.specs.Meaning.{size, cleared};
 ghost use Rattle.refusal.specs.Reading.{andThen, ok};
 ghost use Rattle.deletion_file.specs.Reading.{bins, asked, opened, bitmapOf, bitmapIn, outcome, answerOf, fieldThen, deletionsOut};
-ghost use Rattle.deletion_file.specs.Code.{part, binFrom, binAt, bytesAt, HoldsBin, Lies, fieldFrom};
+ghost use Rattle.deletion_file.specs.Promises.{part, binFrom, binAt, bytesAt, HoldsBin, Lies, fieldFrom};
 use numbers::Position;
 use refusal::Refusal;
 use roaring::Extent;

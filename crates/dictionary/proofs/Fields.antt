@@ -22,9 +22,9 @@ use Rattle.dictionary.specs.declared.Fixed.the-variants.{Fields}
 use Rattle.dictionary.specs.Layout.{Entry, minusOne}
 use Rattle.dictionary.specs.Reading.{Dictionary, counted, nullOf, entriesOne, blocked, dictionary}
 use Rattle.dictionary.specs.Answers.{CountAt, entriesOf, FixedOf}
-use Rattle.dictionary.specs.Code.{pattern, nulls}
-use Rattle.dictionary.specs.Offsets.{pattern-passed}
-use Rattle.dictionary.specs.Steps.{word-at, word-short}
+use Rattle.dictionary.specs.Promises.{pattern, nulls}
+use Rattle.dictionary.proofs.Offsets.{pattern-passed}
+use Rattle.dictionary.proofs.Steps.{word-at, word-short}
 
 -- ---- a count
 

@@ -9,7 +9,7 @@ use lib.ListN.{length, take, drop, length-append, length-drop}
 use lib.Seq.{drop-drop}
 use borrow.Author.Tests.{leb-true, leb-false, le-leb, lt-leb, lt-ltb, le-ltb, eq-eqb, ne-eqb}
 use Rattle.numbers.specs.Meaning.{big, beAt, number, same}
-use Rattle.numbers.specs.Laws.{numberAt-drop}
+use Rattle.numbers.proofs.Laws.{numberAt-drop}
 use Rattle.refusal.specs.declared.Refusal.{Refusal}
 use Rattle.refusal.specs.declared.Refusal.the-variants.{Short, Dict}
 use Rattle.stored_value.specs.Meaning.{Cell, null, value, less}
@@ -26,9 +26,9 @@ use Rattle.dictionary.specs.declared.Walked.{Walked}
 use Rattle.dictionary.specs.declared.Value.{Value}
 use Rattle.dictionary.specs.Layout.{Entry}
 use Rattle.dictionary.specs.Reading.{Dictionary, Listing, listings, past, heads, entriesTwo, behind, blocksOf, blocked}
-use Rattle.dictionary.specs.Code.{entryOf, position, Stand}
+use Rattle.dictionary.specs.Promises.{entryOf, position, Stand}
 use Rattle.dictionary.specs.Answers.{ValueAt, CountAt, Listed, DirectoryAt, cellAt, PassedAt, BlockAt, BlocksAt, WalkedAt}
-use Rattle.dictionary.specs.Steps.{offset-behind, drop-past, value-ok, value-refused, word-at, word-short, stand-cons, stand-opening}
+use Rattle.dictionary.proofs.Steps.{offset-behind, drop-past, value-ok, value-refused, word-at, word-short, stand-cons, stand-opening}
 
 -- ---- the directory: i of the n listings from `start` on are read, and `rest` is left
 

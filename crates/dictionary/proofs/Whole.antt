@@ -15,7 +15,7 @@ use Rattle.dictionary.specs.declared.Fixed.{Fixed}
 use Rattle.dictionary.specs.declared.Null.{Null}
 use Rattle.dictionary.specs.declared.Walked.{Walked}
 use Rattle.dictionary.specs.Reading.{dictionary}
-use Rattle.dictionary.specs.Code.{nulls, Tells}
+use Rattle.dictionary.specs.Promises.{nulls, Tells}
 use Rattle.dictionary.specs.Answers.{FixedOf, NullAt, WalkedAt}
 
 pub walked-two : (t n : ℕ) (s : List ℕ) (at : ℕ) (two : Bool) (r : Walked) → two ≡ true → WalkedAt true t n s at r → WalkedAt two t n s at r

@@ -26,7 +26,7 @@ use Rattle.dictionary.specs.declared.Blocks.{Blocks}
 use Rattle.dictionary.specs.declared.Walked.{Walked}
 use Rattle.dictionary.specs.Layout.{Entry, someHas}
 use Rattle.dictionary.specs.Reading.{Dictionary, Listing, counted, nullOf, entriesOne, listings, entriesTwo, blocksOf, blocked, dictionary}
-use Rattle.dictionary.specs.Code.{nulls, Stand}
+use Rattle.dictionary.specs.Promises.{nulls, Stand}
 
 -- a value at a position, and where it ends
 abbrev pub ValueAt : ℕ → List ℕ → ℕ → Value → Type 0

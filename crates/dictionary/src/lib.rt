@@ -8,7 +8,7 @@ ghost use lib.ListN.{length, take, drop};
 ghost use Rattle.numbers.specs.Meaning.{beAt, signed32};
 ghost use Rattle.dictionary.specs.Layout.{Entry};
 ghost use Rattle.dictionary.specs.Reading.{past, heads};
-ghost use Rattle.dictionary.specs.Code.{tail, extentAt, noEntry, entryFrom, nextOf, Stand, Tells, Steps};
+ghost use Rattle.dictionary.specs.Promises.{tail, extentAt, noEntry, entryFrom, nextOf, Stand, Tells, Steps};
 ghost use Rattle.dictionary.specs.Answers.{ValueAt, TakenAt, CountAt, NullAt, FixedOf, DirectoryAt, cellAt, PassedAt, BlockAt, BlocksAt, WalkedAt};
 use numbers::Position;
 use refusal::Refusal;

@@ -1,6 +1,4 @@
 -- From file to answers: the files of a column, what the calls in turn answer for any buffers, and demand 3.
 pub mod Layout
 pub mod Reading
-pub mod Demand3
-pub mod Calls
 pub mod Starred

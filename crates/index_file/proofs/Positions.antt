@@ -10,7 +10,7 @@ use lib.ListN.{length, take, drop, length-drop}
 use lib.Seq.{drop-drop, length-take-le}
 use borrow.Author.Tests.{lt-ltb, le-ltb, le-leb, lt-leb, eq-eqb, ne-eqb}
 use Rattle.numbers.specs.Meaning.{beAt, number, big, same}
-use Rattle.numbers.specs.Laws.{number-at, number-short}
+use Rattle.numbers.proofs.Laws.{number-at, number-short}
 use Rattle.numbers.specs.declared.Position.{Position}
 use Rattle.refusal.specs.Meaning.{numberOf}
 use Rattle.refusal.specs.declared.Refusal.{Refusal}
@@ -20,8 +20,8 @@ use Rattle.index_file.specs.declared.Name.{Name}
 use Rattle.index_file.specs.declared.Count.{Count}
 use Rattle.index_file.specs.declared.Walk.{Walk}
 use Rattle.index_file.specs.Reading.{need, broken, count, name, afterEntry, entries, afterColumn, columns, position, placed, head, file, find, used, answerOf, locateOut, partOf, HandedBack}
-use Rattle.index_file.specs.Laws.{from-count}
-use Rattle.index_file.specs.Steps.{named, counted, walked}
+use Rattle.index_file.proofs.Laws.{from-count}
+use Rattle.index_file.specs.Promises.{named, counted, walked}
 
 -- ---- a name
 

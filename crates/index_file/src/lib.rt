@@ -5,7 +5,7 @@ ghost use Prim.Native.Nat.{_≤_};
 ghost use lib.ListN.{length, drop};
 ghost use Rattle.numbers.specs.Meaning.{same};
 ghost use Rattle.index_file.specs.Reading.{afterEntry, afterColumn, entries, columns, placed, head, file, find, answerOf, locateOut, partOf, HandedBack};
-ghost use Rattle.index_file.specs.Steps.{named, counted, walked};
+ghost use Rattle.index_file.specs.Promises.{named, counted, walked};
 use numbers::Position;
 use refusal::Refusal;
 

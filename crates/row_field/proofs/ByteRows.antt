@@ -14,8 +14,8 @@ use lib.Pow.{shr-shr, pow-add, pow-lt}
 use lib.Bits.{bitOr, bitAnd, or-step, or-zero-l, or-zero-r, or-comm, or-shifted, and-step, and-zero-r}
 use borrow.Author.Tests.{eq-eqb, ne-eqb}
 use Rattle.row_field.specs.Meaning.{markAll, anySet, rowsFrom}
-use Rattle.row_field.specs.Bytes.{anySeen, byteRows}
-use Rattle.row_field.specs.Marks.{bit-at, mark-at, Rising, anySeen-rising, rising-cond, rowsFrom-rising, rowsFrom-append}
+use Rattle.row_field.specs.Promises.{anySeen, byteRows}
+use Rattle.row_field.proofs.Marks.{bit-at, mark-at, Rising, anySeen-rising, rising-cond, rowsFrom-rising, rowsFrom-append}
 
 or-assoc-bits : (a b c : ℕ) → bitOr (bitOr a b) c ≡ bitOr a (bitOr b c)
 or-assoc-bits a = bin-ind (λ (a : ℕ). (b c : ℕ) → bitOr (bitOr a b) c ≡ bitOr a (bitOr b c)) base step a

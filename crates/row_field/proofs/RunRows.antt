@@ -10,8 +10,8 @@ use lib.ListN.{length}
 use lib.Pow.{pow-pos, high-ones}
 use lib.Bits.{shifted-half, shifted-even}
 use Rattle.row_field.specs.Meaning.{markAll, anySet, upTo}
-use Rattle.row_field.specs.Bytes.{anySeen, byteRows}
-use Rattle.row_field.specs.Marks.{Rising, upTo-rising, upTo-append, anySeen-rising, anySeen-append, markAll-append, anySet-out, markAll-out, seen-done}
+use Rattle.row_field.specs.Promises.{anySeen, byteRows}
+use Rattle.row_field.proofs.Marks.{Rising, upTo-rising, upTo-append, anySeen-rising, anySeen-append, markAll-append, anySet-out, markAll-out, seen-done}
 use Rattle.row_field.proofs.ByteRows.{byteRows-odd, byteRows-even, byteRows-rising}
 
 -- ---- the rows of bits in a row

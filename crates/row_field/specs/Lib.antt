@@ -1,8 +1,4 @@
 -- What the contracts of `row_field` cite, and laws about it.
 pub mod Meaning
 pub mod Reading
-pub mod Bytes
-pub mod Laws
-pub mod Counts
-pub mod Marks
-pub mod Subtracts
+pub mod Promises

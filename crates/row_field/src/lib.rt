@@ -7,7 +7,7 @@ ghost use lib.ListN.{length, getD, set};
 ghost use Rattle.row_field.specs.Meaning.{size, bit, markAll, anySet, cleared, upTo, rowsOf, subtracted};
 ghost use Rattle.row_field.specs.Meaning as meaning;
 ghost use Rattle.row_field.specs.Reading.{subtraction, fieldAfter, subtractOut};
-ghost use Rattle.row_field.specs.Bytes.{anySeen, byteRows};
+ghost use Rattle.row_field.specs.Promises.{anySeen, byteRows};
 use numbers::Position;
 use refusal::Refusal;
 

@@ -3,3 +3,4 @@ pub mod Widths
 pub mod TwosComplement
 pub mod Steps
 pub mod Passed
+pub mod Laws

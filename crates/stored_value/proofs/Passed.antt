@@ -7,13 +7,13 @@ use native.Mathlib.Omega.{arith}
 use lib.ListN.{length, take, drop, length-drop, drop-of-length-le}
 use lib.Seq.{drop-drop}
 use Rattle.numbers.specs.Meaning.{Bytes, same}
-use Rattle.numbers.specs.Laws.{bytes-drop}
+use Rattle.numbers.proofs.Laws.{bytes-drop}
 use Rattle.refusal.specs.declared.Refusal.{Refusal}
 use Rattle.refusal.specs.declared.Refusal.the-variants.{Literal}
 use Rattle.stored_value.specs.Meaning.{listed}
 use Rattle.refusal.specs.Reading.{refuse, ok}
 use Rattle.stored_value.specs.Reading.{valueSize, literals}
-use Rattle.stored_value.specs.Laws.{literals-end, literals-full, literals-refused, literals-next, literals-more}
+use Rattle.stored_value.proofs.Laws.{literals-end, literals-full, literals-refused, literals-next, literals-more}
 
 -- behind `passed`, which has not v's bytes, s is read to all of ls
 pub record Left (t : ℕ) (v s : List ℕ) (ls : List (List ℕ)) : Type 0 where

@@ -17,15 +17,15 @@ use lib.ListN.{length, getD, take, drop, length-drop, drop-of-length-le}
 use lib.Seq.{drop-cons, drop-drop, getD-drop}
 use borrow.Author.Tests.{eq-eqb, ne-eqb, le-leb, lt-leb, lt-ltb, le-ltb}
 use Rattle.numbers.specs.Meaning.{beAt, big, Bytes}
-use Rattle.numbers.specs.Laws.{bytes-drop, number-at, number-short}
+use Rattle.numbers.proofs.Laws.{bytes-drop, number-at, number-short}
 use Rattle.refusal.specs.declared.Refusal.{Refusal}
 use Rattle.refusal.specs.declared.Refusal.the-variants.{Literal, Limit}
 use Rattle.stored_value.specs.declared.Sized.{Sized}
 use Rattle.stored_value.specs.Meaning.{width, isString, booleanOk, signedNumber, bytesLess, less}
 use Rattle.refusal.specs.Reading.{Out, refuse, ok, check}
-use Rattle.stored_value.specs.Code.{sizedBy}
+use Rattle.stored_value.specs.Promises.{sizedBy}
 use Rattle.stored_value.specs.Reading.{valueSize, literals}
-use Rattle.stored_value.specs.Laws.{stringSize, size-number, size-string, value-read, literals-end, literals-full, literals-refused, literals-next}
+use Rattle.stored_value.proofs.Laws.{stringSize, size-number, size-string, value-read, literals-end, literals-full, literals-refused, literals-next}
 
 -- ---- `bytes_less`
 

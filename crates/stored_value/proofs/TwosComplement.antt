@@ -12,8 +12,8 @@ use mir.Syntax.{w64}
 use mir.Val.{SFits, toZ, ofZ}
 use mir.Facts.{sfits-toZ, fits-ofZ}
 use Rattle.numbers.specs.Meaning.{beAt}
-use Rattle.numbers.specs.Signed.{down-fits}
-use Rattle.numbers.specs.Signed as law
+use Rattle.numbers.proofs.Signed.{down-fits}
+use Rattle.numbers.proofs.Signed as law
 use Rattle.stored_value.specs.Meaning.{signedNumber}
 
 pow-up : (i j : ℕ) → 256 ^ i ≤ 256 ^ (i + j)

@@ -1,5 +1,4 @@
 -- Values in stored form.
 pub mod Meaning
 pub mod Reading
-pub mod Code
-pub mod Laws
+pub mod Promises

@@ -7,7 +7,7 @@ ghost use mir.Syntax.{w64};
 ghost use mir.Val.{SFits};
 ghost use Rattle.stored_value.specs.Meaning.{width, signedNumber, bytesLess};
 ghost use Rattle.stored_value.specs.Meaning as meaning;
-ghost use Rattle.stored_value.specs.Code.{sizedBy, countedBy, Lists};
+ghost use Rattle.stored_value.specs.Promises.{sizedBy, countedBy, Lists};
 ghost use Rattle.stored_value.specs.Reading.{valueSize};
 ghost use Rattle.stored_value.specs.Reading as reading;
 use numbers::Position;

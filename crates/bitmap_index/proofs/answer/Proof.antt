@@ -1,7 +1,7 @@
 -- `answer` meets its contract: the rows of the chosen entries are counted, and no row says skip.
 use mathlib.Core.List.{_++_}
 use lib.ListN.{drop}
-use Rattle.dictionary.specs.Code.{nullsOf}
+use Rattle.dictionary.specs.Promises.{nullsOf}
 use Rattle.bitmap_index.proofs.Asking.{answer-refused, answer-skip, answer-keep}
 use borrow.Author.Needs.{needs}
 use Rattle.bitmap_index.proofs.answer.Statement.{statement}

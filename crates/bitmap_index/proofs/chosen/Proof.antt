@@ -1,5 +1,5 @@
 -- `chosen` meets its contract by the cases on the question's number.
-use Rattle.stored_value.specs.Laws.{lists-read}
+use Rattle.stored_value.proofs.Laws.{lists-read}
 use Rattle.bitmap_index.proofs.Choosing.{is-listed, not-listed, neither}
 use borrow.Author.Needs.{needs}
 use Rattle.bitmap_index.proofs.chosen.Statement.{statement}

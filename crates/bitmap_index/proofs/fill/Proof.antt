@@ -1,7 +1,7 @@
 -- `fill` meets its contract: an audit picks every entry, and a count other than the row count is MISSING.
 use mathlib.Core.List.{[], _++_}
 use lib.ListN.{drop}
-use Rattle.dictionary.specs.Code.{nullsOf}
+use Rattle.dictionary.specs.Promises.{nullsOf}
 use Rattle.bitmap_index.proofs.Auditing.{no-literals, fill-refused, fill-missing, fill-full}
 use borrow.Author.Needs.{needs}
 use Rattle.bitmap_index.proofs.fill.Statement.{statement}

@@ -1,7 +1,7 @@
 -- `place_entry` meets its contract: an entry that is not picked leaves the field as it was, and the rows of any other are placed.
 use lib.ListN.{drop}
 use borrow.Author.Tests.{not-true, not-false}
-use Rattle.dictionary.specs.Code.{entryAt}
+use Rattle.dictionary.specs.Promises.{entryAt}
 use Rattle.bitmap_index.proofs.Placing.{to-end}
 use Rattle.bitmap_index.proofs.Entries.{passed-over, one-placed}
 use borrow.Author.Needs.{needs}

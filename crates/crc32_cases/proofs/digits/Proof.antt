@@ -3,7 +3,7 @@
 use mathlib.Core.Path.{_∙_}
 use borrow.Author.Needs.{needs}
 use borrow.Author.Tests.{eq-eqb}
-use Rattle.crc32.specs.Theorems.{of-digits}
+use Rattle.crc32.proofs.Theorems.{of-digits}
 use Rattle.crc32_cases.proofs.digits.Statement.{statement}
 use Rattle.crc32_cases.proofs.digits.Tie as tie
 

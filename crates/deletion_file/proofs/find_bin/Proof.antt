@@ -7,7 +7,7 @@ use native.Mathlib.Omega.{arith}
 use lib.ListN.{length, drop}
 use Rattle.refusal.specs.Reading.{andThen}
 use Rattle.deletion_file.specs.Reading.{bins, asked}
-use Rattle.deletion_file.specs.Code.{binAt}
+use Rattle.deletion_file.specs.Promises.{binAt}
 use Rattle.deletion_file.proofs.Walk.{Walked, walked-first, walked-cut, walked-small, walked-long, walked-this, walked-other, walked-found, walked-none}
 use Rattle.deletion_file.proofs.find_bin.Statement.{statement}
 use Rattle.deletion_file.proofs.find_bin.Tie as tie

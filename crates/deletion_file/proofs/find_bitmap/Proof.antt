@@ -2,7 +2,7 @@
 use borrow.Author.Needs.{needs}
 use mathlib.Core.Path.{sym, _∙_}
 use native.Mathlib.Omega.{arith}
-use Rattle.deletion_file.specs.Code.{bytesAt}
+use Rattle.deletion_file.specs.Promises.{bytesAt}
 use Rattle.deletion_file.proofs.Open.{bitmap-empty, bitmap-version, bitmap-refused, bitmap-opened}
 use Rattle.deletion_file.proofs.find_bitmap.Statement.{statement}
 use Rattle.deletion_file.proofs.find_bitmap.Tie as tie

@@ -2,7 +2,7 @@
 use borrow.Author.Needs.{needs}
 use mathlib.Core.Path.{sym}
 use native.Mathlib.Omega.{arith}
-use Rattle.deletion_file.specs.Code.{bytesAt}
+use Rattle.deletion_file.specs.Promises.{bytesAt}
 use Rattle.deletion_file.proofs.Open.{opened-magic, opened-checksum, opened-well}
 use Rattle.deletion_file.proofs.open_bin.Statement.{statement}
 use Rattle.deletion_file.proofs.open_bin.Tie as tie

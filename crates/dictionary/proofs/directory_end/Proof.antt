@@ -3,7 +3,7 @@ use Prim.Native.Nat.{_-_, _≤_}
 use native.Mathlib.Omega.{arith}
 use lib.ListN.{length, drop, length-drop}
 use borrow.Author.Needs.{needs}
-use Rattle.dictionary.specs.Steps.{drop-past}
+use Rattle.dictionary.proofs.Steps.{drop-past}
 use Rattle.dictionary.proofs.VersionTwo.{Listings, listings-first, listings-done, listings-stand, listings-refused, listings-short, listings-next}
 use Rattle.dictionary.proofs.directory_end.Statement.{statement}
 use Rattle.dictionary.proofs.directory_end.Tie as tie

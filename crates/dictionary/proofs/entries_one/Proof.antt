@@ -5,7 +5,7 @@ use mathlib.Core.Path.{_≡_}
 use native.Mathlib.Omega.{arith}
 use lib.ListN.{length, drop, length-drop}
 use borrow.Author.Needs.{needs}
-use Rattle.dictionary.specs.Steps.{drop-past, One, one-first, one-stand, one-done, one-refused, one-taken, one-short, one-next}
+use Rattle.dictionary.proofs.Steps.{drop-past, One, one-first, one-stand, one-done, one-refused, one-taken, one-short, one-next}
 use Rattle.dictionary.proofs.entries_one.Statement.{statement}
 use Rattle.dictionary.proofs.entries_one.Tie as tie
 

@@ -3,8 +3,8 @@ use mathlib.Core.Path.{_∙_}
 use native.Mathlib.Omega.{arith}
 use borrow.Author.Needs.{needs}
 use Rattle.numbers.specs.Meaning.{beAt}
-use Rattle.dictionary.specs.Offsets.{signed-passed}
-use Rattle.dictionary.specs.Cursor.{entry-none, entry-lost, made-none, made}
+use Rattle.dictionary.proofs.Offsets.{signed-passed}
+use Rattle.dictionary.proofs.Cursor.{entry-none, entry-lost, made-none, made}
 use Rattle.dictionary.proofs.entry_at.Statement.{statement}
 use Rattle.dictionary.proofs.entry_at.Tie as tie
 

@@ -2,7 +2,7 @@
 use mathlib.Core.Path.{_∙_}
 use native.Mathlib.Omega.{arith}
 use borrow.Author.Needs.{needs}
-use Rattle.dictionary.specs.Cursor.{tail-two, extent-two, extent-one}
+use Rattle.dictionary.proofs.Cursor.{tail-two, extent-two, extent-one}
 use Rattle.dictionary.proofs.extent_at.Statement.{statement}
 use Rattle.dictionary.proofs.extent_at.Tie as tie
 

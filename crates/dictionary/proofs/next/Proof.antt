@@ -3,7 +3,7 @@
 use mathlib.Core.Path.{_∙_}
 use native.Mathlib.Omega.{arith}
 use borrow.Author.Needs.{needs}
-use Rattle.dictionary.specs.Cursor.{next-cut, next-opened, next-open, next-stands}
+use Rattle.dictionary.proofs.Cursor.{next-cut, next-opened, next-open, next-stands}
 use Rattle.dictionary.proofs.next.Statement.{statement}
 use Rattle.dictionary.proofs.next.Tie as tie
 

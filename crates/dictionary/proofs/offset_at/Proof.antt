@@ -3,7 +3,7 @@ use Prim.Native.Nat.{_<_}
 use mathlib.Core.Path.{_∙_}
 use borrow.Author.Needs.{needs}
 use Rattle.numbers.specs.Meaning.{beAt}
-use Rattle.dictionary.specs.Offsets.{signed-passed}
+use Rattle.dictionary.proofs.Offsets.{signed-passed}
 use Rattle.dictionary.proofs.offset_at.Statement.{statement}
 use Rattle.dictionary.proofs.offset_at.Tie as tie
 

@@ -3,7 +3,7 @@ use Prim.Native.Nat.{_-_}
 use native.Mathlib.Omega.{arith}
 use lib.ListN.{drop}
 use borrow.Author.Needs.{needs}
-use Rattle.dictionary.specs.Steps.{Sought, sought-first, sought-done, sought-lost, sought-found, sought-next, drop-past}
+use Rattle.dictionary.proofs.Steps.{Sought, sought-first, sought-done, sought-lost, sought-found, sought-next, drop-past}
 use Rattle.dictionary.proofs.taken.Statement.{statement}
 use Rattle.dictionary.proofs.taken.Tie as tie
 

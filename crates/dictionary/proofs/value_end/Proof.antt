@@ -1,7 +1,7 @@
 -- `value_end` meets its contract: what `size` says, as a position. Assumes nothing.
 use native.Mathlib.Omega.{arith}
 use borrow.Author.Needs.{needs}
-use Rattle.dictionary.specs.Steps.{value-none, value-to}
+use Rattle.dictionary.proofs.Steps.{value-none, value-to}
 use Rattle.dictionary.proofs.value_end.Statement.{statement}
 use Rattle.dictionary.proofs.value_end.Tie as tie
 

@@ -1,6 +1,6 @@
 -- `ask_file` meets its contract: each return is a case of the three calls in turn (`Calls`), and what holds of any bytes says of a column's file what the
 -- scan says (`as-scan`).
-use Rattle.file_to_answers.specs.Calls.{absent, refused, audit-refused, answered, as-scan, tell-refused, tell-skip, tell-keep}
+use Rattle.file_to_answers.proofs.Calls.{absent, refused, audit-refused, answered, as-scan, tell-refused, tell-skip, tell-keep}
 use borrow.Author.Needs.{needs}
 use Rattle.file_to_answers.proofs.ask_file.Statement.{statement}
 use Rattle.file_to_answers.proofs.ask_file.Tie as tie

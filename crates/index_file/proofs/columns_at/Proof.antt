@@ -5,7 +5,7 @@ use borrow.Author.Needs.{needs}
 use lib.ListN.{length}
 use Rattle.index_file.specs.declared.Count.{Count}
 use Rattle.index_file.specs.declared.Name.{Name}
-use Rattle.index_file.specs.Steps.{named, counted}
+use Rattle.index_file.specs.Promises.{named, counted}
 use Rattle.index_file.proofs.Positions.{Columns, columns-first, columns-done, columns-name, columns-count, columns-entries, columns-next}
 use Rattle.index_file.proofs.columns_at.Statement.{statement}
 use Rattle.index_file.proofs.columns_at.Tie as tie

@@ -4,7 +4,7 @@ use native.Mathlib.Omega.{arith}
 use borrow.Author.Needs.{needs}
 use lib.ListN.{length}
 use Rattle.index_file.specs.declared.Name.{Name}
-use Rattle.index_file.specs.Steps.{named}
+use Rattle.index_file.specs.Promises.{named}
 use Rattle.index_file.proofs.Positions.{Entries, entries-first, entries-done, entries-name, entries-short, entries-next}
 use Rattle.index_file.proofs.entries_at.Statement.{statement}
 use Rattle.index_file.proofs.entries_at.Tie as tie

@@ -2,7 +2,7 @@
 use mathlib.Core.Path.{sym, _∙_}
 use native.Mathlib.Omega.{arith}
 use borrow.Author.Needs.{needs}
-use Rattle.index_file.specs.Laws.{find-long, find-column, find-kind, find-file}
+use Rattle.index_file.proofs.Laws.{find-long, find-column, find-kind, find-file}
 use Rattle.index_file.proofs.Positions.{numbered}
 use Rattle.index_file.proofs.find.Statement.{statement}
 use Rattle.index_file.proofs.find.Tie as tie

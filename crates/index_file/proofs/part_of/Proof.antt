@@ -4,7 +4,7 @@ use mathlib.Core.Path.{sym, _∙_}
 use native.Mathlib.Omega.{arith}
 use borrow.Author.Needs.{needs}
 use lib.ListN.{length}
-use Rattle.index_file.specs.Theorems.{found-within}
+use Rattle.index_file.proofs.Theorems.{found-within}
 use Rattle.index_file.proofs.Positions.{part-found, part-absent, part-refused}
 use Rattle.index_file.proofs.part_of.Statement.{statement}
 use Rattle.index_file.proofs.part_of.Tie as tie

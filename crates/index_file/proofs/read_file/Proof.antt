@@ -3,7 +3,7 @@ use mathlib.Core.Path.{sym}
 use native.Mathlib.Omega.{arith}
 use borrow.Author.Needs.{needs}
 use lib.Seq.{length-take-le}
-use Rattle.index_file.specs.Laws.{file-short, file-magic, file-version}
+use Rattle.index_file.proofs.Laws.{file-short, file-magic, file-version}
 use Rattle.index_file.proofs.Positions.{file-count, file-low, file-past, file-head}
 use Rattle.index_file.proofs.read_file.Statement.{statement}
 use Rattle.index_file.proofs.read_file.Tie as tie

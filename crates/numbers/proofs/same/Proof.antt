@@ -4,7 +4,7 @@ use mathlib.Core.Path.{_≡_, refl, sym, _∙_}
 use native.Mathlib.Omega.{arith}
 use lib.ListN.{length, drop}
 use Rattle.numbers.specs.Meaning as meaning
-use Rattle.numbers.specs.Same.{same-next, same-ends, same-done, same-other}
+use Rattle.numbers.proofs.SameBytes.{same-next, same-ends, same-done, same-other}
 use Rattle.numbers.proofs.same.Statement.{statement}
 use Rattle.numbers.proofs.same.Tie as tie
 

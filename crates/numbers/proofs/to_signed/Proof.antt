@@ -3,7 +3,7 @@ use Prim.Native.Nat.{_-_}
 use native.Mathlib.Omega.{arith}
 use mir.Syntax.{w32}
 use borrow.Author.Needs.{needs}
-use Rattle.numbers.specs.Signed.{down-fits, signed-low, signed-high}
+use Rattle.numbers.proofs.Signed.{down-fits, signed-low, signed-high}
 use Rattle.numbers.proofs.to_signed.Statement.{statement}
 use Rattle.numbers.proofs.to_signed.Tie as tie
 

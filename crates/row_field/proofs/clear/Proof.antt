@@ -7,7 +7,7 @@ use native.Mathlib.Omega.{arith}
 use lib.ListN.{length, drop, replicate, length-set}
 use borrow.Author.Fill.{fill-more}
 use Rattle.row_field.specs.Meaning.{size}
-use Rattle.row_field.specs.Counts.{zeroed-as-far}
+use Rattle.row_field.proofs.Counts.{zeroed-as-far}
 use Rattle.row_field.proofs.clear.Statement.{statement}
 use Rattle.row_field.proofs.clear.Tie as tie
 

@@ -3,7 +3,7 @@
 use mathlib.Core.Path.{sym, ap, _∙_}
 use native.Mathlib.Omega.{arith}
 use lib.Count.{ones}
-use Rattle.row_field.specs.Counts.{count-le, count-last, count-past}
+use Rattle.row_field.proofs.Counts.{count-le, count-last, count-past}
 use borrow.Author.Needs.{needs}
 use Rattle.row_field.proofs.count.Statement.{statement}
 use Rattle.row_field.proofs.count.Tie as tie

@@ -5,7 +5,7 @@ use mathlib.Core.Path.{_≡_, ap, _∙_}
 use native.Mathlib.Omega.{arith}
 use lib.Count.{ones-le}
 use Rattle.row_field.specs.Meaning.{count}
-use Rattle.row_field.specs.Counts.{count-byte, count-le}
+use Rattle.row_field.proofs.Counts.{count-byte, count-le}
 use Rattle.row_field.proofs.count_bytes.Statement.{statement}
 use Rattle.row_field.proofs.count_bytes.Tie as tie
 

@@ -5,7 +5,7 @@ use mathlib.Core.Path.{_≡_, sym, ap}
 use native.Mathlib.Omega.{arith}
 use lib.Count.{ones}
 use Rattle.row_field.specs.Meaning.{count}
-use Rattle.row_field.specs.Counts.{count-none, count-word, count-le}
+use Rattle.row_field.proofs.Counts.{count-none, count-word, count-le}
 use Rattle.row_field.proofs.count_words.Statement.{statement}
 use Rattle.row_field.proofs.count_words.Tie as tie
 

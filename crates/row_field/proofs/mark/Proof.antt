@@ -1,7 +1,7 @@
 -- `mark` meets its contract: what the code computes of a row is what the definitions say (`mark-answer`, `mark-store`); a row past the end changes nothing. Assumes nothing.
 use borrow.Author.Needs.{needs}
 use mathlib.Core.Path.{sym}
-use Rattle.row_field.specs.Laws.{mark-answer, mark-store, bit-out, mark-out}
+use Rattle.row_field.proofs.Laws.{mark-answer, mark-store, bit-out, mark-out}
 use Rattle.row_field.proofs.mark.Statement.{statement}
 use Rattle.row_field.proofs.mark.Tie as tie
 

@@ -6,8 +6,8 @@ use native.Mathlib.Omega.{arith}
 use borrow.Author.Needs.{needs}
 use lib.ListN.{length}
 use Rattle.row_field.specs.Meaning.{markAll, upTo}
-use Rattle.row_field.specs.Bytes.{anySeen, byteRows}
-use Rattle.row_field.specs.Marks.{seen-next, marked-next, seen-done, markAll-out}
+use Rattle.row_field.specs.Promises.{anySeen, byteRows}
+use Rattle.row_field.proofs.Marks.{seen-next, marked-next, seen-done, markAll-out}
 use Rattle.row_field.proofs.RunRows.{bytes-next, bytes-done}
 use Rattle.row_field.proofs.mark_bytes.Statement.{statement}
 use Rattle.row_field.proofs.mark_bytes.Tie as tie

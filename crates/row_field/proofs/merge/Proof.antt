@@ -7,8 +7,8 @@ use native.Mathlib.Omega.{arith}
 use borrow.Author.Needs.{needs}
 use lib.ListN.{length, getD}
 use Rattle.row_field.specs.Meaning.{markAll, anySet, rowsFrom, rowsOf}
-use Rattle.row_field.specs.Bytes.{anySeen, byteRows}
-use Rattle.row_field.specs.Marks.{anySeen-rising, rowsFrom-rising, seen-next, marked-next, seen-done, markAll-out}
+use Rattle.row_field.specs.Promises.{anySeen, byteRows}
+use Rattle.row_field.proofs.Marks.{anySeen-rising, rowsFrom-rising, seen-next, marked-next, seen-done, markAll-out}
 use Rattle.row_field.proofs.ByteRows.{rows-next, rows-done}
 use Rattle.row_field.proofs.merge.Statement.{statement}
 use Rattle.row_field.proofs.merge.Tie as tie

@@ -11,7 +11,7 @@ use borrow.Author.Tests.{le-leb, lt-leb, leb-true, not-true, not-false}
 use Rattle.refusal.specs.Meaning.{limit}
 use Rattle.row_field.specs.Meaning.{size, count, removed}
 use Rattle.row_field.specs.Reading.{need, subtraction, fieldAfter}
-use Rattle.row_field.specs.Subtracts.{left-removed}
+use Rattle.row_field.proofs.Subtracts.{left-removed}
 use borrow.Author.Needs.{needs}
 use Rattle.row_field.proofs.subtract.Statement.{statement}
 use Rattle.row_field.proofs.subtract.Tie as tie

@@ -5,7 +5,7 @@ use mathlib.Core.Path.{_≡_, sym, ap, _∙_}
 use native.Mathlib.Omega.{arith}
 use lib.ListN.{length}
 use Rattle.row_field.specs.Meaning.{subtracted}
-use Rattle.row_field.specs.Subtracts.{subtracted-none, subtracted-byte, length-subtracted}
+use Rattle.row_field.proofs.Subtracts.{subtracted-none, subtracted-byte, length-subtracted}
 use Rattle.row_field.proofs.subtract_bytes.Statement.{statement}
 use Rattle.row_field.proofs.subtract_bytes.Tie as tie
 

@@ -2,7 +2,7 @@
 use Prim.Native.Nat.{_*_, _/_}
 use mathlib.Core.Path.{_≡_, sym, _∙_}
 use native.Mathlib.Omega.{arith}
-use Rattle.row_field.specs.Subtracts.{subtracted-last}
+use Rattle.row_field.proofs.Subtracts.{subtracted-last}
 use borrow.Author.Needs.{needs}
 use Rattle.row_field.proofs.subtract_rows.Statement.{statement}
 use Rattle.row_field.proofs.subtract_rows.Tie as tie

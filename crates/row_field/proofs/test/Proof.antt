@@ -1,7 +1,7 @@
 -- `test` meets its contract: what the code computes of a row is what `bit` says (`mark-answer`); a row past the end is not set. Assumes nothing.
 use borrow.Author.Needs.{needs}
 use mathlib.Core.Path.{sym}
-use Rattle.row_field.specs.Laws.{mark-answer, bit-out}
+use Rattle.row_field.proofs.Laws.{mark-answer, bit-out}
 use Rattle.row_field.proofs.test.Statement.{statement}
 use Rattle.row_field.proofs.test.Tie as tie
 

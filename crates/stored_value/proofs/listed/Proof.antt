@@ -9,7 +9,7 @@ use borrow.Author.Needs.{needs}
 use Rattle.refusal.specs.declared.Refusal.the-variants.{Literal}
 use Rattle.refusal.specs.Reading.{ok}
 use Rattle.stored_value.specs.Reading as reading
-use Rattle.stored_value.specs.Laws.{lists-by}
+use Rattle.stored_value.proofs.Laws.{lists-by}
 use Rattle.stored_value.proofs.Steps.{size-refused, size-bytes, size-within}
 use Rattle.stored_value.proofs.Passed.{Left, left-start, left-done, left-refused, left-found, left-next}
 use Rattle.stored_value.proofs.listed.Statement.{statement}

@@ -8,7 +8,7 @@ use borrow.Author.Needs.{needs}
 use Rattle.refusal.specs.declared.Refusal.the-variants.{Literal}
 use Rattle.stored_value.specs.declared.Counted.the-variants.{Count}
 use Rattle.refusal.specs.Reading.{ok}
-use Rattle.stored_value.specs.Code.{countedBy}
+use Rattle.stored_value.specs.Promises.{countedBy}
 use Rattle.stored_value.specs.Reading as reading
 use Rattle.stored_value.proofs.Steps.{size-refused, size-bytes, size-within, literals-done, turn-full, turn-refused, turn-next}
 use Rattle.stored_value.proofs.literals.Statement.{statement}

@@ -6,7 +6,7 @@ use native.Mathlib.Omega.{arith}
 use borrow.Author.Needs.{needs}
 use mir.Syntax.{w64}
 use Rattle.numbers.specs.Meaning.{beAt}
-use Rattle.numbers.specs.Signed.{down-fits}
+use Rattle.numbers.proofs.Signed.{down-fits}
 use Rattle.stored_value.proofs.TwosComplement.{pow-fits, spelled-next, last-next, turn-fits, signed-low, signed-high}
 use Rattle.stored_value.proofs.signed.Statement.{statement}
 use Rattle.stored_value.proofs.signed.Tie as tie

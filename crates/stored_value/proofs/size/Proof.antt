@@ -4,7 +4,7 @@ use mathlib.Core.Path.{sym, ap, _∙_}
 use native.Mathlib.Omega.{arith}
 use borrow.Author.Needs.{needs}
 use Rattle.stored_value.specs.declared.Sized.the-variants.{Bytes}
-use Rattle.stored_value.specs.Code.{sizedBy}
+use Rattle.stored_value.specs.Promises.{sizedBy}
 use Rattle.stored_value.proofs.Steps.{past, string-short, string-negative, string-over, string-cut, string-whole, number-cut, boolean-over, boolean-whole, number-whole}
 use Rattle.stored_value.proofs.size.Statement.{statement}
 use Rattle.stored_value.proofs.size.Tie as tie

@@ -1,0 +1,248 @@
+-- What Audit and Ask accepted, taken apart: each test was passed, and at the place of each entry there are rows, in order, below the row count, none of them
+-- set before. Assumes nothing.
+use Prim.Native.Nat.{ℕ, _-_, _<_, _≤_}
+use mathlib.Core.Path.{_≡_, refl, sym, ap, _∙_}
+use mathlib.Core.Logic.{_⊎_, inl, inr}
+use mathlib.Core.Bool.{Bool, true, false, not, _&&_, _||_, cond}
+use mathlib.Core.List.{List, [], _∷_, _++_}
+use native.Mathlib.Omega.{arith}
+use borrow.Author.Tests.{ltb-true, ltb-false, eqb-true, leb-false, leb-true}
+use lib.Dec.{eqb, ltb, leb}
+use lib.IntN.{ℤ, pos, negsuc}
+use lib.ListN.{length, take, drop, length-append, length-drop, take-append-drop}
+use lib.Seq.{length-take-le}
+use Rattle.numbers.specs.Meaning.{signed32, Bytes}
+use Rattle.numbers.proofs.Laws.{bytes-drop}
+use Rattle.refusal.specs.Meaning.{limit}
+use Rattle.refusal.specs.declared.Refusal.{Refusal}
+use Rattle.refusal.specs.declared.Refusal.the-variants.{Bitmap, Range, Twice}
+use Rattle.row_field.specs.Meaning.{bit, mark, markAll, anySet, size, cleared, count}
+use Rattle.row_field.proofs.Marks.{Rising, Below}
+use Rattle.roaring.specs.declared.Extent.{Extent}
+use Rattle.roaring.specs.declared.Extent.the-variants.{AsLong, Exactly}
+use Rattle.roaring.specs.declared.Marked.the-variants.{Refused, Done}
+use Rattle.roaring.specs.Layout as roaring
+use Rattle.roaring.specs.Reading.{Read, refused, got, read, choose, anyFrom, fits, marking, fieldAfter}
+use Rattle.roaring.proofs.Theorems.{read-was-laid-out, rows-rising}
+use Rattle.refusal.proofs.Laws.{check-ok, then-ok}
+use Rattle.refusal.specs.Reading.{refuse, ok, andThen}
+use Rattle.stored_value.specs.Reading.{literals}
+use Rattle.dictionary.specs.Layout.{Entry, minusOne}
+use Rattle.dictionary.specs.Reading.{Dictionary, dictionary}
+use Rattle.bitmap_index.specs.Meaning.{takes}
+use Rattle.bitmap_index.specs.Layout.{Placed, single, bitmap}
+use Rattle.bitmap_index.specs.Reading.{extentOf, once, placeBitmap, placeAt, place, placeAll, roomFor, prepared, audited, audit, asked, Answer, ask}
+
+-- ---- what an accepted reading says of its parts
+
+never : {A X : Type 0} (r : Refusal) (a : A) → refuse r ≡ ok a → X
+never r a e = absurd (let z : _≡_ {A = ℕ} 0 1 = cc in omega arith)
+
+pub ok-same : {A : Type 0} (a b : A) → ok a ≡ ok b → a ≡ b
+ok-same a b e = cc
+
+not-true : (b : Bool) → not b ≡ true → b ≡ false
+not-true true e = sym e
+not-true false e = refl
+
+-- ---- an entry's rows, read at its place: the single row of a negative offset, or those of the bitmap there
+
+unfoldable pub rowsGot : Read → List ℕ
+rowsGot refused = []
+rowsGot (got rows long rest) = rows
+
+unfoldable pub rowsFor : ℤ → List ℕ → List ℕ
+rowsFor (negsuc r) region = r ∷ []
+rowsFor (pos o) region = rowsGot (read (drop o region))
+
+unfoldable pub rowsAt : List ℕ → Entry → List ℕ
+rowsAt region e = rowsFor (signed32 (e .offset)) region
+
+-- ---- a place that was accepted
+
+-- the rows of an entry that was placed in the field f
+pub record Taken (n : ℕ) (region f rows : List ℕ) (e : Entry) : Type 0 where
+  pub placed : Placed region rows e
+  pub rising : Rising 0 rows
+  pub below : Below n rows
+  pub free : anySet f rows ≡ false
+
+signed-negative : (x r : ℕ) → x < 4294967296 → signed32 x ≡ negsuc r → (r < 2147483648) × (x ≡ minusOne - r)
+signed-negative x r h e = go (ltb x 2147483648) refl e
+  where
+    go : (b : Bool) → ltb x 2147483648 ≡ b → cond b (pos x) (negsuc (4294967295 - x)) ≡ negsuc r → (r < 2147483648) × (x ≡ minusOne - r)
+    go true l q = absurd (let z : _≡_ {A = ℕ} 0 1 = cc in omega arith)
+    go false l q =
+        let i : 4294967295 - x ≡ r = cc in
+        omega (arith, ltb-false x 2147483648 l)
+
+signed-positive : (x o : ℕ) → signed32 x ≡ pos o → x ≡ o
+signed-positive x o e = go (ltb x 2147483648) e
+  where
+    go : (b : Bool) → cond b (pos x) (negsuc (4294967295 - x)) ≡ pos o → x ≡ o
+    go true q = cc
+    go false q = absurd (let z : _≡_ {A = ℕ} 0 1 = cc in omega arith)
+
+pub or-none : (a b : Bool) → a || b ≡ false → (a ≡ false) × (b ≡ false)
+or-none true b e = absurd (let z : _≡_ {A = ℕ} 0 1 = cc in omega arith)
+or-none false b e = (refl, e)
+
+-- a row that is none of those from n on is below n
+below-back : (n : ℕ) (rs : List ℕ) → anyFrom n rs ≡ false → Below n rs
+unfolding anyFrom
+below-back n [] e = tt
+below-back n (r ∷ rs) e =
+    let h = or-none (leb n r) (anyFrom n rs) e in
+    (leb-false n r (h .0), below-back n rs (h .1))
+
+extent-back : (extent long : ℕ) → fits (extentOf extent) long ≡ true → (extent ≡ minusOne) ⊎ (extent ≡ long)
+unfolding extentOf fits
+extent-back extent long e = go (eqb extent minusOne) refl e
+  where
+    go : (b : Bool) → eqb extent minusOne ≡ b → fits (cond b AsLong (Exactly extent)) long ≡ true → (extent ≡ minusOne) ⊎ (extent ≡ long)
+    go true q f = inl (eqb-true extent minusOne q)
+    go false q f = inr (sym (eqb-true long extent f))
+
+bitmap-some : {rows bytes : List ℕ} → roaring.Bitmap rows bytes → 1 ≤ length bytes
+bitmap-some (roaring.plain-bitmap cs h e f) = omega arith
+bitmap-some (roaring.flagged-bitmap cs h h′ f) = omega arith
+
+-- a bitmap that was placed: it was read, its length and rows passed, and they are marked
+bitmap-back : (extent : Extent) (n : ℕ) (found : Read) (f f′ : List ℕ) → placeBitmap extent n found f ≡ ok f′
+    → (rows : List ℕ) × (long : ℕ) × (rest : List ℕ) × (found ≡ got rows long rest) × (fits extent long ≡ true) × Below n rows × (anySet f rows ≡ false) × (f′ ≡ markAll f rows)
+unfolding placeBitmap marking fieldAfter choose once
+bitmap-back extent n refused f f′ e = never Bitmap f′ e
+bitmap-back extent n (got rows long rest) f f′ e = go (fits extent long) (anyFrom n rows) (anySet f rows) refl refl refl e
+  where
+    go : (b c s : Bool) → fits extent long ≡ b → anyFrom n rows ≡ c → anySet f rows ≡ s
+        → once (choose b (choose c (Refused Range) (Done long s)) (Refused Bitmap)) (choose b (choose c f (markAll f rows)) f) ≡ ok f′
+        → (rows′ : List ℕ) × (long′ : ℕ) × (rest′ : List ℕ) × (got rows long rest ≡ got rows′ long′ rest′) × (fits extent long′ ≡ true) × Below n rows′ × (anySet f rows′ ≡ false)
+        × (f′ ≡ markAll f rows′)
+    go true true s x y z e = never Range f′ e
+    go true false true x y z e = never Twice f′ e
+    go true false false x y z e = (rows, long, rest, refl, x, below-back n rows y, z, cc)
+    go false c s x y z e = never Bitmap f′ e
+
+module _ (n : ℕ) (region f f′ : List ℕ) (e : Entry) (b : Bytes region) (p : e .offset < 4294967296) (x : e .extent < 4294967296) where
+  single-taken : (r : ℕ) → signed32 (e .offset) ≡ negsuc r → placeAt (negsuc r) (e .extent) n region f ≡ ok f′ → Taken n region f (r ∷ []) e × (f′ ≡ markAll f (r ∷ []))
+  unfolding placeAt anySet markAll
+  single-taken r s q =
+      let h = check-ok _ _ _ f′ q in
+      let k = check-ok _ _ _ f′ (h .1) in
+      let m = signed-negative (e .offset) r p s in
+      let g : f′ ≡ mark f r = cc in (
+        record {
+          placed = single r refl (m .0) (m .1) x;
+          rising = (omega arith, tt);
+          below = (ltb-true r n (h .0), tt);
+          free = rw (not-true (bit f r) (k .0));
+        },
+        g,
+      )
+
+  bitmap-placed : (o : ℕ) (rows bytes rest : List ℕ) → e .offset ≡ o → drop o region ≡ bytes ++ rest → roaring.Bitmap rows bytes
+      → fits (extentOf (e .extent)) (length bytes) ≡ true → Placed region rows e
+  bitmap-placed o rows bytes rest s d m g =
+      let k = simp (length-drop, length-append) at (ap length d) in
+      let i : o ≤ length region = omega (arith, bitmap-some m) in
+      bitmap (take o region) bytes rest (sym (take-append-drop o region) ∙ ap (λ (y : List ℕ). take o region ++ y) d) m
+      (s ∙ sym (length-take-le o region i)) (extent-back (e .extent) (length bytes) g)
+
+  bitmap-taken : (o : ℕ) → signed32 (e .offset) ≡ pos o → placeAt (pos o) (e .extent) n region f ≡ ok f′ → Taken n region f (rowsFor (pos o) region) e × (f′ ≡ markAll f (rowsFor (pos o) region))
+  unfolding placeAt rowsFor rowsGot
+  bitmap-taken o s q =
+      let (rows, long, rest, found, fit, below, free, marked) = bitmap-back (extentOf (e .extent)) n (read (drop o region)) f f′ q in
+      let (bytes, m, l, d) = read-was-laid-out (drop o region) rows rest long (bytes-drop o region b) found in
+      rw found (
+        record {
+          placed = bitmap-placed o rows bytes rest (signed-positive (e .offset) o s) d m (rw l at fit);
+          rising = rows-rising m;
+          below = below;
+          free = free;
+        },
+        marked,
+      )
+
+  taken-at : (z : ℤ) → signed32 (e .offset) ≡ z → placeAt z (e .extent) n region f ≡ ok f′ → Taken n region f (rowsFor z region) e × (f′ ≡ markAll f (rowsFor z region))
+  unfolding rowsFor
+  taken-at (negsuc r) s q = single-taken r s q
+  taken-at (pos o) s q = bitmap-taken o s q
+
+  pub place-taken : place n region f e ≡ ok f′ → Taken n region f (rowsAt region e) e × (f′ ≡ markAll f (rowsAt region e))
+  unfolding place rowsAt
+  place-taken q = taken-at (signed32 (e .offset)) refl q
+
+-- ---- the audit, taken apart
+
+-- what is said of entries that were read and placed, with every row of n set in the end
+pub record Filled (field : List ℕ) (d : Dictionary) : Type 0 where
+  pub room : size (d .rows) ≤ length field
+  pub full : List ℕ
+  pub placed : placeAll (d .rows) (d .region) (d .entries) (cleared (d .rows) field) ≡ ok full
+  pub counted : count full (d .rows) ≡ d .rows
+
+pub record Passed (t : ℕ) (body field : List ℕ) (n : ℕ) : Type 0 where
+  pub known : t < 12
+  pub short : length body ≤ 2147483647
+  pub read : Dictionary
+  pub is : dictionary t body ≡ ok read
+  pub filled : Filled field read
+  pub rows : read .rows ≡ n
+
+audited-back : (field : List ℕ) (d : Dictionary) (n : ℕ) → audited field d ≡ ok n → size (d .rows) ≤ length field → Filled field d × (d .rows ≡ n)
+unfolding audited
+audited-back field d n e h =
+    let (full, placed, rest) = then-ok _ _ n e in
+    let (counted, last) = check-ok _ _ _ n rest in
+    (record { room = h; full = full; placed = placed; counted = eqb-true _ _ counted }, cc)
+
+prepared-back : (t : ℕ) (body field : List ℕ) (d : Dictionary) → prepared t body field ≡ ok d
+    → (t < 12) × (length body ≤ 2147483647) × (dictionary t body ≡ ok d) × (size (d .rows) ≤ length field)
+unfolding prepared roomFor
+prepared-back t body field d e =
+    let (short, typed) = check-ok _ _ _ d e in
+    let (known, both) = check-ok _ _ _ d typed in
+    let (x, is, room) = then-ok (dictionary t body) (roomFor field) d both in
+    let (fits, same) = check-ok _ _ _ d room in
+    let q : x ≡ d = cc in
+    (ltb-true t 12 known, leb-true (length body) limit short, is ∙ ap ok q, rw q at (leb-true (size (x .rows)) (length field) fits))
+
+pub audit-passed : (t : ℕ) (body field : List ℕ) (n : ℕ) → audit t body field ≡ ok n → Passed t body field n
+unfolding audit
+audit-passed t body field n e =
+    let (d, first, last) = then-ok (prepared t body field) (audited field) n e in
+    let (known, short, is, room) = prepared-back t body field d first in
+    let (filled, rows) = audited-back field d n last room in
+    record { known = known; short = short; read = d; is = is; filled = filled; rows = rows }
+
+-- ---- a question that was answered, taken apart
+
+and-both : (a b : Bool) → a && b ≡ true → (a ≡ true) × (b ≡ true)
+and-both true b e = (refl, e)
+and-both false b e = absurd (let z : _≡_ {A = ℕ} 0 1 = cc in omega arith)
+
+pub asked-back : (t q : ℕ) (literal body : List ℕ) (ls : List (List ℕ)) → asked t q literal body ≡ ok ls
+    → (length body ≤ 2147483647) × (t < 12) × (q < 6) × (literals t 1024 [] literal ≡ ok ls) × (takes q (length ls) ≡ true)
+unfolding asked
+asked-back t q literal body ls e =
+    let (short, names) = check-ok _ _ _ ls e in
+    let (known, both) = check-ok _ _ _ ls names in
+    let (ls′, read, number) = then-ok _ _ ls both in
+    let (takes, same) = check-ok _ _ _ ls number in
+    let i : ls′ ≡ ls = cc in
+    let s = and-both _ _ short in
+    let k = and-both _ _ known in
+    (leb-true (length body) limit (s .0), ltb-true t 12 (k .0), ltb-true q 6 (k .1), read ∙ ap ok i, rw i at takes)
+
+audit-joined : (t : ℕ) (body field : List ℕ) (d : Dictionary) (n : ℕ) → prepared t body field ≡ ok d → audited field d ≡ ok n → audit t body field ≡ ok n
+unfolding audit andThen
+audit-joined t body field d n x y = rw x y
+
+pub ask-parts : (t q : ℕ) (literal body field : List ℕ) (a : Answer) → ask t q literal body field ≡ ok a
+    → (ls : List (List ℕ)) × (n : ℕ) × (asked t q literal body ≡ ok ls) × (audit t body field ≡ ok n)
+unfolding ask
+ask-parts t q literal body field a e =
+    let (ls, first, rest) = then-ok (asked t q literal body) _ a e in
+    let (d, second, more) = then-ok (prepared t body field) _ a rest in
+    let (n, third, last) = then-ok (audited field d) _ a more in
+    (ls, n, first, audit-joined t body field d n second third)

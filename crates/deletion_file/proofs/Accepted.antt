@@ -1,0 +1,187 @@
+-- What is accepted was laid out: the steps to it, from the answer back to the bytes. Assumes nothing.
+use Prim.Native.Nat.{ℕ, zero, suc, _+_, _≤_}
+use mathlib.Core.Path.{_≡_, refl, sym, ap, _∙_}
+use mathlib.Core.Bool.{Bool, true, false}
+use mathlib.Core.List.{List, [], _∷_, _++_, append-nil}
+use native.Mathlib.Omega.{arith}
+use lib.Dec.{eqb, leb}
+use lib.ListN.{length, drop, getD, length-append}
+use borrow.Author.Tests.{leb-true, eqb-true}
+use Rattle.numbers.specs.Meaning.{be, beAt, big, All, Bytes}
+use Rattle.numbers.proofs.Laws.{bytes-drop, numberAt-back}
+use Rattle.refusal.specs.declared.Refusal.{Refusal}
+use Rattle.refusal.specs.declared.Refusal.the-variants.{Short, Magic, Version, Bitmap, Range, Checksum}
+use Rattle.crc32.specs.Meaning.{checksum}
+use Rattle.row_field.specs.Meaning.{markAll, anySet, count}
+use Rattle.row_field.proofs.Marks.{Below}
+use Rattle.roaring.specs.declared.Extent.the-variants.{Exactly}
+use Rattle.roaring.specs.declared.Marked.the-variants.{Refused, Done}
+use Rattle.roaring.specs.Layout as roaring
+use Rattle.roaring.specs.Reading.{Read, refused, got, read, choose, anyFrom, fits, marking, fieldAfter}
+use Rattle.roaring.proofs.Theorems.{read-was-laid-out}
+use Rattle.deletion_file.specs.declared.Deletions.the-variants.{Deleted}
+use Rattle.deletion_file.specs.Layout.{Bin, magic, binOf, frames, Framed}
+use Rattle.refusal.specs.Reading.{Out, refuse, ok, andThen}
+use Rattle.deletion_file.specs.Reading.{bins, asked, opened, bitmapOf, Outcome, untouched, zeroed, marked, before, markedBy, bitmapIn, answerOf}
+use Rattle.refusal.proofs.Laws.{not-ok, check-ok, then-ok}
+use Rattle.deletion_file.proofs.Frames.{nothing, walk-passed}
+use Rattle.deletion_file.proofs.Fields.{any-below}
+
+-- ---- bytes of a part
+
+bytes-left : (x y : List ℕ) → Bytes (x ++ y) → Bytes x
+bytes-left [] y b i = omega arith
+bytes-left (a ∷ x) y b zero = b 0
+bytes-left (a ∷ x) y b (suc i) = bytes-left x y (λ j. b (suc j)) i
+
+bytes-right : (x y : List ℕ) → Bytes (x ++ y) → Bytes y
+bytes-right [] y b = b
+bytes-right (a ∷ x) y b = bytes-right x y (λ j. b (suc j))
+
+-- ---- the asked bin among the bins
+
+pub record Placed (xs : List Bin) (b : ℕ) (x : Bin) : Type 0 where
+  pub earlier : List Bin
+  pub later : List Bin
+  pub place : length earlier ≡ b
+  pub cut : xs ≡ earlier ++ (x ∷ later)
+
+asked-placed : (b : ℕ) (xs : List Bin) {x : Bin} → asked b xs ≡ ok x → Placed xs b x
+unfolding asked
+asked-placed b [] e = absurd (not-ok e)
+asked-placed zero (y ∷ ys) {x} e =
+    let f : y ≡ x = cc in
+    record { earlier = []; later = ys; place = refl; cut = rw f }
+asked-placed (suc b) (y ∷ ys) e =
+    let i = asked-placed b ys e in
+    record { earlier = y ∷ i .earlier; later = i .later; place = ap suc (i .place); cut = ap (λ (zs : List Bin). y ∷ zs) (i .cut) }
+
+framed-at : (ys : List Bin) (x : Bin) (zs : List Bin) → All Framed (ys ++ (x ∷ zs)) → 4 ≤ length (x .bytes)
+framed-at [] x zs f = f .0 .0
+framed-at (y ∷ ys) x zs f = framed-at ys x zs (f .1)
+
+bytes-first : (x : Bin) (t : List ℕ) → Bytes (be 4 (length (x .bytes)) ++ (x .bytes ++ (be 4 (x .sum) ++ t))) → Bytes (x .bytes) × Bytes t
+bytes-first x t b =
+    let c = bytes-right (be 4 (length (x .bytes))) (x .bytes ++ (be 4 (x .sum) ++ t)) b in
+    (bytes-left (x .bytes) (be 4 (x .sum) ++ t) c, bytes-right (be 4 (x .sum)) t (bytes-right (x .bytes) (be 4 (x .sum) ++ t) c))
+
+bytes-at : (ys : List Bin) (x : Bin) (zs : List Bin) → Bytes (frames (ys ++ (x ∷ zs))) → Bytes (x .bytes)
+bytes-at [] x zs b = bytes-first x (frames zs) b .0
+bytes-at (y ∷ ys) x zs b = bytes-at ys x zs (bytes-first y (frames (ys ++ (x ∷ zs))) b .1)
+
+-- ---- a bin that was opened
+
+bin-same : (x : Bin) (bytes : List ℕ) (sum : ℕ) → x .bytes ≡ bytes → x .sum ≡ sum → x ≡ record { bytes = bytes; sum = sum }
+bin-same x bytes sum e f = rw (← e, ← f)
+
+opened-back : (x : Bin) (bitmap : List ℕ) → Bytes (x .bytes) → 4 ≤ length (x .bytes) → opened x ≡ ok bitmap → (x ≡ binOf bitmap) × (bitmap ≡ drop 4 (x .bytes))
+unfolding opened
+opened-back x bitmap b h e =
+    let m = check-ok (eqb (beAt 4 (x .bytes) 0) magic) Magic _ _ e in
+    let c = check-ok (eqb (checksum (x .bytes)) (x .sum)) Checksum _ _ (m .1) in
+    let d : drop 4 (x .bytes) ≡ bitmap = cc in
+    let v : beAt 4 (x .bytes) 0 ≡ magic = eqb-true _ _ (m .0) in
+    let s : checksum (x .bytes) ≡ x .sum = eqb-true _ _ (c .0) in
+    let w : x .bytes ≡ be 4 magic ++ bitmap = numberAt-back big 4 (x .bytes) b h ∙ rw (v, d) in
+    (bin-same x (be 4 magic ++ bitmap) (checksum (be 4 magic ++ bitmap)) w (sym s ∙ ap checksum w), sym d)
+
+-- ---- the file
+
+pub record Found (file : List ℕ) (b : ℕ) (bitmap : List ℕ) : Type 0 where
+  pub earlier : List Bin
+  pub later : List Bin
+  pub place : length earlier ≡ b
+  pub framed : All Framed (earlier ++ (binOf bitmap ∷ later))
+  pub cut : file ≡ 1 ∷ frames (earlier ++ (binOf bitmap ∷ later))
+  pub are-bytes : Bytes bitmap
+
+first-byte : (file : List ℕ) → 1 ≤ length file → getD file 0 0 ≡ 1 → file ≡ 1 ∷ drop 1 file
+first-byte [] h e = absurd (omega arith)
+first-byte (v ∷ s) h e = rw e
+
+found-at : (file : List ℕ) (b : ℕ) (bitmap : List ℕ) (xs : List Bin) (x : Bin) → Placed xs b x → Bytes file → file ≡ 1 ∷ drop 1 file
+    → All Framed xs → drop 1 file ≡ frames xs → opened x ≡ ok bitmap → Found file b bitmap
+found-at file b bitmap xs x p t w g h e =
+    let f : All Framed (p .earlier ++ (x ∷ p .later)) = rw (p .cut) at g in
+    let s : drop 1 file ≡ frames (p .earlier ++ (x ∷ p .later)) = rw (p .cut) at h in
+    let y = bytes-at (p .earlier) x (p .later) (rw s at (bytes-drop 1 file t)) in
+    let o = opened-back x bitmap y (framed-at (p .earlier) x (p .later) f) e in
+    record {
+      earlier = p .earlier;
+      later = p .later;
+      place = p .place;
+      framed = rw (o .0) at f;
+      cut = w ∙ ap (λ (r : List ℕ). 1 ∷ r) (rw (o .0) at s);
+      are-bytes = rw (o .1) (bytes-drop 4 (x .bytes) y);
+    }
+
+pub bitmap-found : (file : List ℕ) (b : ℕ) (bitmap : List ℕ) → Bytes file → bitmapOf b file ≡ ok bitmap → Found file b bitmap
+unfolding bitmapOf
+bitmap-found file b bitmap t e =
+    let c = check-ok (leb 1 (length file)) Short _ _ e in
+    let d = check-ok (eqb (getD file 0 0) 1) Version _ _ (c .1) in
+    let w = then-ok (andThen (bins (length file) (drop 1 file)) (asked b)) opened _ (d .1) in
+    let v = then-ok (bins (length file) (drop 1 file)) (asked b) _ (w .1) in
+    let p = walk-passed (length file) (drop 1 file) (v .0) (bytes-drop 1 file t) (v .1) in
+    found-at file b bitmap (v .0) (w .0) (asked-placed b (v .0) (v .2)) t (first-byte file (leb-true _ _ (c .0)) (eqb-true _ _ (d .0))) (p .0) (p .1) (w .2)
+
+-- ---- the bitmap
+
+pub record Rows (n : ℕ) (field bytes after : List ℕ) : Type 0 where
+  pub rows : List ℕ
+  pub is-bitmap : roaring.Bitmap rows bytes
+  pub below : Below n rows
+  pub field-is : after ≡ markAll field rows
+
+not-marked : {r : Refusal} {after : List ℕ} → zeroed r ≡ marked after → ⊥
+not-marked e = let z : _≡_ {A = ℕ} 0 1 = cc in omega arith
+
+-- what is as long as the whole is the whole
+all-of : (s x t : List ℕ) → s ≡ x ++ t → length s ≡ length x → s ≡ x
+all-of s x t e l =
+    let z : t ≡ [] = nothing t (omega (arith, simp length-append at (ap length e))) in
+    e ∙ rw (z, append-nil)
+
+filled : (n : ℕ) (field bytes after rows t : List ℕ) (long : ℕ) → Bytes bytes → read bytes ≡ got rows long t → long ≡ length bytes → anyFrom n rows ≡ false
+    → after ≡ markAll field rows → Rows n field bytes after
+filled n field bytes after rows t long b e l a f =
+    let r = read-was-laid-out bytes rows t long b e in
+    record { rows = rows; is-bitmap = rw (all-of bytes (r .0) t (r .3) (sym l ∙ r .2)) (r .1); below = any-below n rows a; field-is = f }
+
+bitmap-rows-go : (n : ℕ) (field bytes after : List ℕ) → Bytes bytes → (x : Read) → read bytes ≡ x
+    → markedBy (marking (Exactly (length bytes)) n field x) (fieldAfter (Exactly (length bytes)) n field x) ≡ marked after → Rows n field bytes after
+unfolding markedBy marking fieldAfter choose fits
+bitmap-rows-go n field bytes after b refused e m = absurd (not-marked m)
+bitmap-rows-go n field bytes after b (got rows long t) e m = go (fits (Exactly (length bytes)) long) refl (anyFrom n rows) refl m
+  where
+    go : (fit : Bool) → fits (Exactly (length bytes)) long ≡ fit → (any : Bool) → anyFrom n rows ≡ any
+        → markedBy (choose fit (choose any (Refused Range) (Done long (anySet field rows))) (Refused Bitmap)) (choose fit (choose any field (markAll field rows)) field) ≡ marked after
+        → Rows n field bytes after
+    go true f true a g = absurd (not-marked g)
+    go true f false a g =
+        let h : markAll field rows ≡ after = cc in
+        filled n field bytes after rows t long b e (eqb-true long (length bytes) f) a (sym h)
+    go false f any a g = absurd (not-marked g)
+
+pub bitmap-rows : (n : ℕ) (field bytes after : List ℕ) → Bytes bytes → bitmapIn n field (ok bytes) ≡ marked after → Rows n field bytes after
+unfolding bitmapIn
+bitmap-rows n field bytes after b m = bitmap-rows-go n field bytes after b (read bytes) refl m
+
+-- ---- the call
+
+pub bitmap-there : (n : ℕ) (field : List ℕ) (o : Out (List ℕ)) {after : List ℕ} → bitmapIn n field o ≡ marked after
+    → (bytes : List ℕ) × (o ≡ ok bytes) × (bitmapIn n field (ok bytes) ≡ marked after)
+unfolding bitmapIn
+bitmap-there n field (refuse r) e = absurd (not-marked e)
+bitmap-there n field (ok bytes) e = (bytes, refl, e)
+
+pub before-passed : (t : Bool) (r : Refusal) (o : Outcome) {after : List ℕ} → before t r o ≡ marked after → (t ≡ true) × (o ≡ marked after)
+unfolding before
+before-passed true r o e = (refl, e)
+before-passed false r o e = let z : _≡_ {A = ℕ} 0 1 = cc in absurd (omega arith)
+
+pub answer-marked : (n : ℕ) (o : Outcome) {k : ℕ} → answerOf n o ≡ Deleted k → (after : List ℕ) × (o ≡ marked after) × (k ≡ count after n)
+unfolding answerOf
+answer-marked n (untouched r) e = let z : _≡_ {A = ℕ} 0 1 = cc in absurd (omega arith)
+answer-marked n (zeroed r) e = let z : _≡_ {A = ℕ} 0 1 = cc in absurd (omega arith)
+answer-marked n (marked after) e = (after, refl, cc)

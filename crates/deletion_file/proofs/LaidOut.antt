@@ -1,0 +1,88 @@
+-- What is laid out is read: the steps to it. Assumes nothing.
+use Prim.Native.Nat.{ℕ, zero, suc, _+_, _<_}
+use mathlib.Core.Path.{_≡_, refl, ap}
+use mathlib.Core.List.{List, [], _∷_, _++_, append-nil}
+use native.Mathlib.Omega.{arith}
+use lib.ListN.{length, getD}
+use borrow.Author.Tests.{le-leb, eq-eqb}
+use Rattle.numbers.specs.Meaning.{be, All}
+use Rattle.crc32.specs.Meaning.{checksum}
+use Rattle.crc32.proofs.Laws.{checksum-lt}
+use Rattle.row_field.specs.Meaning.{markAll}
+use Rattle.row_field.proofs.Marks.{Below}
+use Rattle.roaring.specs.Layout.{Bitmap}
+use Rattle.roaring.specs.Reading.{got, read, choose, fits, marking, fieldAfter}
+use Rattle.roaring.proofs.Theorems.{laid-out-is-read}
+use Rattle.deletion_file.specs.Layout.{Bin, magic, binOf, frames, Bins, none, more, DeletionFile, version-1, Framed, HasBin, has-bin}
+use Rattle.refusal.specs.Reading.{ok, check, andThen}
+use Rattle.deletion_file.specs.Reading.{asked, opened, bitmapOf, marked, markedBy, bitmapIn}
+use Rattle.deletion_file.proofs.Frames.{holds, walk-passes}
+use Rattle.deletion_file.proofs.Fields.{below-any}
+use Rattle.deletion_file.proofs.Bytes.{bytes-bitmap, bytes-bin}
+
+bins-framed : {sets : List (List ℕ)} {xs : List Bin} → Bins sets xs → All Framed xs
+bins-framed none = tt
+bins-framed (more {bitmap = bitmap} m l bs) =
+    ((omega arith, l, checksum-lt (be 4 magic ++ bitmap) (bytes-bin magic bitmap (bytes-bitmap m))), bins-framed bs)
+
+-- the bin of set b, among the others
+record At (sets : List (List ℕ)) (xs : List Bin) (b : ℕ) : Type 0 where
+  bitmap : List ℕ
+  earlier : List Bin
+  later : List Bin
+  is-bitmap : Bitmap (getD sets b []) bitmap
+  place : length earlier ≡ b
+  cut : xs ≡ earlier ++ (binOf bitmap ∷ later)
+
+bin-at : {sets : List (List ℕ)} {xs : List Bin} → Bins sets xs → (b : ℕ) → b < length sets → At sets xs b
+bin-at none b h = absurd (omega arith)
+bin-at (more {bitmap = bitmap} {xs = xs} m l bs) zero h =
+    record { bitmap = bitmap; earlier = []; later = xs; is-bitmap = m; place = refl; cut = refl }
+bin-at (more {bitmap = bitmap} m l bs) (suc b) h =
+    let i = bin-at bs b (omega arith) in
+    record {
+      bitmap = i .bitmap;
+      earlier = binOf bitmap ∷ i .earlier;
+      later = i .later;
+      is-bitmap = i .is-bitmap;
+      place = ap suc (i .place);
+      cut = ap (λ (ys : List Bin). binOf bitmap ∷ ys) (i .cut);
+    }
+
+pub file-has-bin : {sets : List (List ℕ)} {file : List ℕ} → DeletionFile sets file → (b : ℕ) → b < length sets → HasBin b (getD sets b []) file
+file-has-bin (version-1 bs) b h =
+    let i = bin-at bs b h in
+    holds (i .earlier) (i .later) (i .is-bitmap) (i .place) (rw (i .cut) at (bins-framed bs)) (ap (λ (ys : List Bin). 1 ∷ frames ys) (i .cut))
+
+-- ---- the bin is found, and opened
+
+asked-there : (earlier : List Bin) (x : Bin) (later : List Bin) → asked (length earlier) (earlier ++ (x ∷ later)) ≡ ok x
+unfolding asked
+asked-there [] x later = refl
+asked-there (y ∷ earlier) x later = asked-there earlier x later
+
+opened-laid : (bitmap : List ℕ) → opened (binOf bitmap) ≡ ok bitmap
+unfolding opened check
+opened-laid bitmap = rw (eq-eqb (checksum (be 4 magic ++ bitmap)) (checksum (be 4 magic ++ bitmap)) refl)
+
+pub record Laid (b : ℕ) (rows file : List ℕ) : Type 0 where
+  pub bitmap : List ℕ
+  pub is-bitmap : Bitmap rows bitmap
+  pub is-read : bitmapOf b file ≡ ok bitmap
+
+pub bitmap-laid : {b : ℕ} {rows file : List ℕ} → HasBin b rows file → Laid b rows file
+unfolding bitmapOf check andThen
+bitmap-laid (has-bin earlier later {bitmap = bitmap} m f) =
+    let xs : List Bin = earlier ++ (binOf bitmap ∷ later) in
+    let w = walk-passes xs (length (1 ∷ frames xs)) f (omega arith) in
+    record {
+      bitmap = bitmap;
+      is-bitmap = m;
+      is-read = rw (le-leb 1 (length (1 ∷ frames xs)) (omega arith), w, asked-there earlier (binOf bitmap) later) (opened-laid bitmap);
+    }
+
+pub marked-laid : (n : ℕ) (field : List ℕ) {rows bitmap : List ℕ} → Bitmap rows bitmap → Below n rows → bitmapIn n field (ok bitmap) ≡ marked (markAll field rows)
+unfolding bitmapIn markedBy marking fieldAfter fits choose
+marked-laid n field {rows} {bitmap} m b =
+    let r : read bitmap ≡ got rows (length bitmap) [] = rw (append-nil bitmap) at (laid-out-is-read m []) in
+    rw (r, eq-eqb (length bitmap) (length bitmap) refl, below-any n rows b)
