@@ -11,7 +11,8 @@ use Rattle.row_field.specs.Meaning.{size, bit}
 use Rattle.row_field.proofs.Marks.{length-markAll, bit-markAll, bit-zeros}
 use Rattle.numbers.specs.Meaning.{same}
 use Rattle.stored_value.specs.Meaning.{Cell, null, value, Value, listed}
-use Rattle.refusal.specs.Reading.{ok}
+use Rattle.refusal.specs.declared.Refusal.{Refusal}
+use Rattle.refusal.specs.Reading.{Out, ok}
 use Rattle.numbers.proofs.SameBytes.{same-refl, same→eq}
 use Rattle.bitmap_index.specs.Meaning.{Cells, Column, chosen, takes, Question, scan}
 use Rattle.bitmap_index.proofs.Rows.{rowsWhere, passes, member-rows}
@@ -87,7 +88,7 @@ same-front xs ys zs l e = sym (take-at xs zs (length xs) refl) ∙ ap (take (len
 module _ (t : ℕ) (cells cells′ : List Cell) (body field : List ℕ) (a : AnswersAsScan t cells body field) (a′ : AnswersAsScan t cells′ body field) where
   same-length : length cells ≡ length cells′
   same-length =
-      let e : ok (length cells) ≡ ok (length cells′) = sym (a .audited) ∙ a′ .audited in
+      let e : _≡_ {A = Out Refusal ℕ} (ok (length cells)) (ok (length cells′)) = sym (a .audited) ∙ a′ .audited in
       cc
 
   same-scan : (q : ℕ) (ls : List (List ℕ)) → Question t q ls → scan q ls cells .field ≡ scan q ls cells′ .field

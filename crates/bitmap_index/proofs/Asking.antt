@@ -34,7 +34,7 @@ use Rattle.bitmap_index.proofs.Auditing.{zeroed-again}
 
 -- ---- the answer's number and count
 
-pub ask-numbers : (o : Out Answer) {a : Answered} → a ≡ answeredBy o → askOut a ≡ numbersOf (andThen o (λ b. ok (b .matched)))
+pub ask-numbers : (o : Out Refusal Answer) {a : Answered} → a ≡ answeredBy o → askOut a ≡ numbersOf (andThen o (λ b. ok (b .matched)))
 unfolding askOut numbersOf answeredBy andThen keeps
 ask-numbers (refuse r) e = rw e
 ask-numbers (ok b) e = rw e (counts (b .matched))
@@ -58,12 +58,12 @@ module _ (q n : ℕ) where
   unfolding takes
   takes-none h k = rw (le-ltb q 2 h, le-ltb q 4 k)
 
-not-counted : {r : Refusal} (o : Out (List (List ℕ))) → countedBy o ≡ Counted.Refused r → o ≡ refuse r
+not-counted : {r : Refusal} (o : Out Refusal (List (List ℕ))) → countedBy o ≡ Counted.Refused r → o ≡ refuse r
 unfolding countedBy
 not-counted (refuse r) e = cc
 not-counted (ok ls) e = absurd (let w : _≡_ {A = ℕ} 0 1 = cc in omega arith)
 
-are-counted : {n : ℕ} (o : Out (List (List ℕ))) → countedBy o ≡ Count n → (ls : List (List ℕ)) × (o ≡ ok ls) × (n ≡ length ls)
+are-counted : {n : ℕ} (o : Out Refusal (List (List ℕ))) → countedBy o ≡ Count n → (ls : List (List ℕ)) × (o ≡ ok ls) × (n ≡ length ls)
 unfolding countedBy
 are-counted (refuse r) e = absurd (let w : _≡_ {A = ℕ} 0 1 = cc in omega arith)
 are-counted (ok ls) e = (ls, refl, cc)
@@ -144,12 +144,12 @@ module _ (n : ℕ) (region : List ℕ) (q : ℕ) (ls : List (List ℕ)) (es : Li
 
 -- ---- after the audit
 
-not-audited : {r : Refusal} (o : Out ℕ) → auditedBy o ≡ Audited.Refused r → o ≡ refuse r
+not-audited : {r : Refusal} (o : Out Refusal ℕ) → auditedBy o ≡ Audited.Refused r → o ≡ refuse r
 unfolding auditedBy
 not-audited (refuse r) e = cc
 not-audited (ok n) e = absurd (let w : _≡_ {A = ℕ} 0 1 = cc in omega arith)
 
-is-audited : {n : ℕ} (o : Out ℕ) → auditedBy o ≡ Rows n → o ≡ ok n
+is-audited : {n : ℕ} (o : Out Refusal ℕ) → auditedBy o ≡ Rows n → o ≡ ok n
 unfolding auditedBy
 is-audited (refuse r) e = absurd (let w : _≡_ {A = ℕ} 0 1 = cc in omega arith)
 is-audited (ok n) e = cc

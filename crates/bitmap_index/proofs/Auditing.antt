@@ -114,7 +114,7 @@ module _ (t : ℕ) (s f : List ℕ) where
 
 -- ---- the whole
 
-pub audit-numbers : (o : Out ℕ) {a : Audited} → a ≡ auditedBy o → auditOut a ≡ numbersOf o
+pub audit-numbers : (o : Out Refusal ℕ) {a : Audited} → a ≡ auditedBy o → auditOut a ≡ numbersOf o
 unfolding auditOut numbersOf auditedBy
 audit-numbers (refuse r) e = rw e
 audit-numbers (ok n) e = rw e

@@ -24,8 +24,8 @@ use Rattle.bitmap_index.specs.Layout.{Body, version1, version2}
 use Rattle.bitmap_index.specs.Reading.{roomFor, prepared, audit, auditBuffer, asked, Answer, ask, askBuffer}
 use Rattle.bitmap_index.proofs.Theorems.{column-is-answered}
 use Rattle.bitmap_index.proofs.Alike.{same-column}
-use Rattle.refusal.proofs.Laws.{then-ok, check-ok}
-use Rattle.bitmap_index.proofs.Taken.{ok-same, audit-passed, asked-back, ask-parts}
+use Rattle.refusal.proofs.Laws.{ok-same, then-ok, check-ok}
+use Rattle.bitmap_index.proofs.Taken.{audit-passed, asked-back, ask-parts}
 use Rattle.bitmap_index.proofs.Accepted.{holder, columnOf, length-table, passed-body, OnePlaceEach, passed-once}
 use Rattle.bitmap_index.proofs.Versions.{version-audited, version-audited-buffer, version-asked, version-asked-buffer}
 

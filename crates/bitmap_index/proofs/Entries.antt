@@ -21,7 +21,7 @@ use Rattle.bitmap_index.specs.Promises.{Placing, picks, picked}
 -- ---- one entry
 
 module _ (n : ℕ) (region : List ℕ) where
-  ends : (o : Out (List ℕ)) → andThen o (placeAll n region []) ≡ o
+  ends : (o : Out Refusal (List ℕ)) → andThen o (placeAll n region []) ≡ o
   unfolding andThen placeAll
   ends (refuse r) = refl
   ends (ok f) = refl
@@ -57,8 +57,8 @@ module _ (h : Head) where
 
 -- ---- one entry, then the rest
 
-after-none : (n : ℕ) (region : List ℕ) (o : Out (List ℕ)) (k : List ℕ → Out (List ℕ)) → andThen o k ≡ andThen (andThen o (placeAll n region [])) k
-after-none n region o k = ap (λ (x : Out (List ℕ)). andThen x k) (sym (ends n region o))
+after-none : (n : ℕ) (region : List ℕ) (o : Out Refusal (List ℕ)) (k : List ℕ → Out Refusal (List ℕ)) → andThen o k ≡ andThen (andThen o (placeAll n region [])) k
+after-none n region o k = ap (λ (x : Out Refusal (List ℕ)). andThen x k) (sym (ends n region o))
 
 module _ (n : ℕ) (region : List ℕ) (all : Bool) (q : ℕ) (ls : List (List ℕ)) where
   cons-go : (e : Entry) (es : List Entry) (f : List ℕ) (b : Bool)

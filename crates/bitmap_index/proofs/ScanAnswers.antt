@@ -18,6 +18,7 @@ use Rattle.roaring.specs.declared.Extent.{Extent}
 use Rattle.roaring.specs.Reading.{Read, got, read, choose, anyFrom, fits, marking, fieldAfter}
 use Rattle.roaring.proofs.Theorems.{laid-out-is-read}
 use Rattle.stored_value.specs.Meaning.{Cell, sameCell}
+use Rattle.refusal.specs.declared.Refusal.{Refusal}
 use Rattle.refusal.specs.Reading.{Out, ok, check, andThen}
 use Rattle.stored_value.proofs.Laws.{sameCell→eq, sameCell-sym}
 use Rattle.dictionary.specs.Layout.{Entry, minusOne, someHas}
@@ -115,7 +116,7 @@ module _ (region : List ℕ) (cells : List Cell) (z : List ℕ) (short : length 
       ap (λ (rs : List ℕ). ok (markAll z rs)) (rows-ext p (λ c. p c || false) 0 cells (each-cell (λ c. p c ≡ p c || false) cells (λ c. sym (or-false (p c)))))
   placed-besides p (e ∷ es) a o h =
       let q : Cell → Bool = λ c. p c || sameCell (e .cell) c in
-      ap (λ (x : Out (List ℕ)). andThen x (placeAll (length cells) region es)) (placed-one p e (a .0) (λ c x. h c (rw (sameCell-sym c (e .cell), x))))
+      ap (λ (x : Out Refusal (List ℕ)). andThen x (placeAll (length cells) region es)) (placed-one p e (a .0) (λ c x. h c (rw (sameCell-sym c (e .cell), x))))
       ∙ placed-besides q es (a .1) (o .1) (λ c x. rw (h c (rw x (or-true (sameCell c (e .cell)))), other-cell c (e .cell) es (o .0) x))
       ∙ ap (λ (rs : List ℕ). ok (markAll z rs)) (rows-ext (λ c. q c || someHas c es) (λ c. p c || someHas c (e ∷ es)) 0 cells
       (each-cell (λ c. q c || someHas c es ≡ p c || someHas c (e ∷ es)) cells (λ c. or-assoc (p c) (sameCell (e .cell) c) (someHas c es) ∙ rw (sameCell-sym c (e .cell)))))

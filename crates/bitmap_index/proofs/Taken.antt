@@ -38,9 +38,6 @@ use Rattle.bitmap_index.specs.Reading.{extentOf, once, placeBitmap, plac
 never : {A X : Type 0} (r : Refusal) (a : A) → refuse r ≡ ok a → X
 never r a e = absurd (let z : _≡_ {A = ℕ} 0 1 = cc in omega arith)
 
-pub ok-same : {A : Type 0} (a b : A) → ok a ≡ ok b → a ≡ b
-ok-same a b e = cc
-
 not-true : (b : Bool) → not b ≡ true → b ≡ false
 not-true true e = sym e
 not-true false e = refl

@@ -16,7 +16,7 @@ use Rattle.bitmap_index.specs.Reading.{prepared, audited, audit, auditBu
 use Rattle.bitmap_index.proofs.Taken.{asked-back}
 
 -- a refusal is handed on
-handed-on : {A B : Type 0} (b c : Bool) (r r′ r″ : Refusal) (k : A → Out B) → andThen (check b r (check c r′ (refuse r″))) k ≡ check b r (check c r′ (refuse r″))
+handed-on : {A B : Type 0} (b c : Bool) (r r′ r″ : Refusal) (k : A → Out Refusal B) → andThen (check b r (check c r′ (refuse r″))) k ≡ check b r (check c r′ (refuse r″))
 unfolding andThen check
 handed-on true true r r′ r″ k = refl
 handed-on true false r r′ r″ k = refl
@@ -35,11 +35,11 @@ module _ (t v : ℕ) (s field : List ℕ) (n : v ≡ 1 → ⊥) (n′ : v ≡ 2 
 
   pub version-audited : audit t (v ∷ s) field ≡ check (leb (length (v ∷ s)) limit) Limit (check (ltb t 12) Literal (refuse Version))
   unfolding audit
-  version-audited = ap (λ (x : Out Dictionary). andThen x (audited field)) version-prepared ∙ handed-on _ _ Limit Literal Version (audited field)
+  version-audited = ap (λ (x : Out Refusal Dictionary). andThen x (audited field)) version-prepared ∙ handed-on _ _ Limit Literal Version (audited field)
 
   pub version-audited-buffer : auditBuffer t (v ∷ s) field ≡ field
   unfolding auditBuffer
-  version-audited-buffer = ap (λ (x : Out Dictionary). zeroedFrom x field) version-prepared ∙ untouched _ _ Limit Literal Version field
+  version-audited-buffer = ap (λ (x : Out Refusal Dictionary). zeroedFrom x field) version-prepared ∙ untouched _ _ Limit Literal Version field
 
   module _ (q : ℕ) (literal : List ℕ) where
     -- literals that were read were asked of a body within the limit, and of a known type
@@ -53,7 +53,7 @@ module _ (t v : ℕ) (s field : List ℕ) (n : v ≡ 1 → ⊥) (n′ : v ≡ 2 
     unfolding ask andThen
     version-asked = go (asked t q literal (v ∷ s)) refl
       where
-        go : (o : Out (List (List ℕ))) → asked t q literal (v ∷ s) ≡ o
+        go : (o : Out Refusal (List (List ℕ))) → asked t q literal (v ∷ s) ≡ o
             → andThen o (λ ls. andThen (prepared t (v ∷ s) field) (λ d. andThen (audited field d) (λ rows. answered q ls field d))) ≡ andThen o (λ ls. refuse Version)
         go (refuse r) e = refl
         go (ok ls) e = rw (version-after ls e)
@@ -62,7 +62,7 @@ module _ (t v : ℕ) (s field : List ℕ) (n : v ≡ 1 → ⊥) (n′ : v ≡ 2 
     unfolding askBuffer ask bufferOf zeroedFrom andThen
     version-asked-buffer = go (asked t q literal (v ∷ s)) refl
       where
-        go : (o : Out (List (List ℕ))) → asked t q literal (v ∷ s) ≡ o
+        go : (o : Out Refusal (List (List ℕ))) → asked t q literal (v ∷ s) ≡ o
             → bufferOf (andThen o (λ ls. andThen (prepared t (v ∷ s) field) (λ d. andThen (audited field d) (λ rows. answered q ls field d))))
             (zeroedFrom (andThen o (λ ls. prepared t (v ∷ s) field)) field) ≡ field
         go (refuse r) e = refl

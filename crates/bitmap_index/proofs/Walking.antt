@@ -19,7 +19,7 @@ use Rattle.bitmap_index.specs.Promises.{Placing, placeOf, picked, ReadAs
 use Rattle.bitmap_index.proofs.Entries.{place-cons}
 
 -- the picked ones of the entries es, placed in a field
-abbrev pub whole : Head → List ℕ → Bool → ℕ → List (List ℕ) → List Entry → List ℕ → Out (List ℕ)
+abbrev pub whole : Head → List ℕ → Bool → ℕ → List (List ℕ) → List Entry → List ℕ → Out Refusal (List ℕ)
 whole h s all q ls es f = placeOf h s (picked all q ls es) f
 
 -- what is left of the entries es after i of them, at a cursor

@@ -6,6 +6,7 @@ use lib.Dec.{eqb, ltb, leb}
 use lib.IntN.{ℤ, pos, negsuc}
 use lib.ListN.{length, drop}
 use Rattle.numbers.specs.Meaning.{signed32}
+use Rattle.refusal.specs.declared.Refusal.{Refusal}
 use Rattle.refusal.specs.Meaning.{limit, numberOf}
 use Rattle.refusal.specs.declared.Refusal.the-variants.{Range, Twice, Missing, Room, Literal, Limit}
 use Rattle.row_field.specs.Meaning.{size, bit, mark, count, cleared}
@@ -30,48 +31,48 @@ unfoldable pub extentOf : ℕ → Extent
 extentOf extent = cond (eqb extent minusOne) AsLong (Exactly extent)
 
 -- what marking answers, as the audit takes it: a row that was set already is TWICE
-unfoldable pub once : Marked → List ℕ → Out (List ℕ)
+unfoldable pub once : Marked → List ℕ → Out Refusal (List ℕ)
 once (Refused r) field = refuse r
 once (Done long true) field = refuse Twice
 once (Done long false) field = ok field
 
 -- a bitmap's rows placed in a field of n rows
-unfoldable pub placeBitmap : Extent → ℕ → Read → List ℕ → Out (List ℕ)
+unfoldable pub placeBitmap : Extent → ℕ → Read → List ℕ → Out Refusal (List ℕ)
 placeBitmap extent n bitmap field = once (marking extent n field bitmap) (fieldAfter extent n field bitmap)
 
 -- an entry's rows: the single row of a negative offset, or the bitmap at that place of the region
-unfoldable pub placeAt : ℤ → ℕ → ℕ → List ℕ → List ℕ → Out (List ℕ)
+unfoldable pub placeAt : ℤ → ℕ → ℕ → List ℕ → List ℕ → Out Refusal (List ℕ)
 placeAt (negsuc r) extent n region field = check (ltb r n) Range (check (not (bit field r)) Twice (ok (mark field r)))
 placeAt (pos o) extent n region field = placeBitmap (extentOf extent) n (read (drop o region)) field
 
-unfoldable pub place : ℕ → List ℕ → List ℕ → Entry → Out (List ℕ)
+unfoldable pub place : ℕ → List ℕ → List ℕ → Entry → Out Refusal (List ℕ)
 place n region field e = placeAt (signed32 (e .offset)) (e .extent) n region field
 
 -- the rows of all entries, in their order
-unfoldable pub placeAll : ℕ → List ℕ → List Entry → List ℕ → Out (List ℕ)
+unfoldable pub placeAll : ℕ → List ℕ → List Entry → List ℕ → Out Refusal (List ℕ)
 placeAll n region [] field = ok field
 placeAll n region (e ∷ es) field = andThen (place n region field e) (placeAll n region es)
 
 -- ---- Audit: the limit, the type, the dictionary, ROOM; then every bitmap in a zero field, then MISSING
 
-unfoldable pub roomFor : List ℕ → Dictionary → Out Dictionary
+unfoldable pub roomFor : List ℕ → Dictionary → Out Refusal Dictionary
 roomFor field d = check (leb (size (d .rows)) (length field)) Room (ok d)
 
 -- all that comes before a byte of the field is written
-unfoldable pub prepared : ℕ → List ℕ → List ℕ → Out Dictionary
+unfoldable pub prepared : ℕ → List ℕ → List ℕ → Out Refusal Dictionary
 prepared t body field =
     check (leb (length body) limit) Limit (check (ltb t 12) Literal (andThen (dictionary t body) (roomFor field)))
 
-unfoldable pub audited : List ℕ → Dictionary → Out ℕ
+unfoldable pub audited : List ℕ → Dictionary → Out Refusal ℕ
 audited field d =
     andThen (placeAll (d .rows) (d .region) (d .entries) (cleared (d .rows) field)) (λ full.
     check (eqb (count full (d .rows)) (d .rows)) Missing (ok (d .rows)))
 
-unfoldable pub audit : ℕ → List ℕ → List ℕ → Out ℕ
+unfoldable pub audit : ℕ → List ℕ → List ℕ → Out Refusal ℕ
 audit t body field = andThen (prepared t body field) (audited field)
 
 -- the buffer then: as it was up to and at ROOM, and with the field's bytes zero from there on
-unfoldable pub zeroedFrom : Out Dictionary → List ℕ → List ℕ
+unfoldable pub zeroedFrom : Out Refusal Dictionary → List ℕ → List ℕ
 zeroedFrom (refuse r) field = field
 zeroedFrom (ok d) field = cleared (d .rows) field
 
@@ -89,22 +90,22 @@ pub record Answer : Type 0 where
   pub buffer : List ℕ
   pub matched : ℕ
 
-unfoldable pub answered : ℕ → List (List ℕ) → List ℕ → Dictionary → Out Answer
+unfoldable pub answered : ℕ → List (List ℕ) → List ℕ → Dictionary → Out Refusal Answer
 answered q ls field d =
     andThen (placeAll (d .rows) (d .region) (chosenOf q ls (d .entries)) (cleared (d .rows) field)) (λ marked.
     ok (record { buffer = marked; matched = count marked (d .rows) }))
 
 -- the limits, the type and the question, then the literals and their number
-unfoldable pub asked : ℕ → ℕ → List ℕ → List ℕ → Out (List (List ℕ))
+unfoldable pub asked : ℕ → ℕ → List ℕ → List ℕ → Out Refusal (List (List ℕ))
 asked t q literal body =
     check (leb (length body) limit && leb (length literal) limit) Limit (check (ltb t 12 && ltb q 6) Literal
     (andThen (literals t 1024 [] literal) (λ ls. check (takes q (length ls)) Literal (ok ls))))
 
-unfoldable pub ask : ℕ → ℕ → List ℕ → List ℕ → List ℕ → Out Answer
+unfoldable pub ask : ℕ → ℕ → List ℕ → List ℕ → List ℕ → Out Refusal Answer
 ask t q literal body field =
     andThen (asked t q literal body) (λ ls. andThen (prepared t body field) (λ d. andThen (audited field d) (λ rows. answered q ls field d)))
 
-unfoldable pub bufferOf : Out Answer → List ℕ → List ℕ
+unfoldable pub bufferOf : Out Refusal Answer → List ℕ → List ℕ
 bufferOf (refuse r) otherwise = otherwise
 bufferOf (ok a) otherwise = a .buffer
 
@@ -114,7 +115,7 @@ askBuffer t q literal body field = bufferOf (ask t q literal body field) (zeroed
 -- ---- the calls' answers, and their numbers: the answer's, 0 for accepted and else the refusal's in 01's table; then the count, 0 with a refusal
 
 -- Audit: a refusal, or the row count
-unfoldable pub auditedBy : Out ℕ → Audited
+unfoldable pub auditedBy : Out Refusal ℕ → Audited
 auditedBy (refuse r) = Audited.Refused r
 auditedBy (ok n) = Rows n
 
@@ -123,7 +124,7 @@ auditOut (Audited.Refused r) = (numberOf r, 0)
 auditOut (Rows n) = (0, n)
 
 -- Ask: a refusal, or skip where no row is chosen, else keep and how many are
-unfoldable pub answeredBy : Out Answer → Answered
+unfoldable pub answeredBy : Out Refusal Answer → Answered
 answeredBy (refuse r) = Answered.Refused r
 answeredBy (ok a) = cond (keeps (a .matched)) (Keep (a .matched)) Skip
 
@@ -134,6 +135,6 @@ askOut Skip = (0, 0)
 askOut (Keep n) = (0, n)
 
 -- the number and the count that a reading stands for: what the two calls' numbers are said to be
-unfoldable pub numbersOf : Out ℕ → ℕ × ℕ
+unfoldable pub numbersOf : Out Refusal ℕ → ℕ × ℕ
 numbersOf (refuse r) = (numberOf r, 0)
 numbersOf (ok n) = (0, n)

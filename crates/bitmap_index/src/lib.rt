@@ -18,10 +18,10 @@ use dictionary::Checked;
 use dictionary::EntryAt;
 use dictionary::Head;
 use numbers::Position;
+use numbers::Row;
 use refusal::Refusal;
 use roaring::Extent;
 use roaring::Marked;
-use row_field::Row;
 use stored_value::Counted;
 
 // The longest input buffer, and how many types and questions there are (document 01, "Limits", "The table of widths", "Questions").

@@ -169,7 +169,7 @@ bitmap-rows n field bytes after b m = bitmap-rows-go n field bytes after b (read
 
 -- ---- the call
 
-pub bitmap-there : (n : ℕ) (field : List ℕ) (o : Out (List ℕ)) {after : List ℕ} → bitmapIn n field o ≡ marked after
+pub bitmap-there : (n : ℕ) (field : List ℕ) (o : Out Refusal (List ℕ)) {after : List ℕ} → bitmapIn n field o ≡ marked after
     → (bytes : List ℕ) × (o ≡ ok bytes) × (bitmapIn n field (ok bytes) ≡ marked after)
 unfolding bitmapIn
 bitmap-there n field (refuse r) e = absurd (not-marked e)

@@ -10,6 +10,7 @@ use lib.Seq.{take-append-seam, drop-append-seam, drop-append-add, drop-drop, len
 use borrow.Author.Tests.{le-leb, leb-true, eqb-true, ne-eqb}
 use Rattle.numbers.specs.Meaning.{be, beAt, big, All, Bytes}
 use Rattle.numbers.proofs.Laws.{bytes-drop, beAt-lt, numberAt-drop, numberAt-laid, numberAt-back, number-laid, on-number}
+use Rattle.refusal.specs.declared.Refusal.{Refusal}
 use Rattle.refusal.specs.declared.Refusal.the-variants.{Short}
 use Rattle.deletion_file.specs.Layout.{Bin, frames, binOf, Framed, HasBin, has-bin}
 use Rattle.refusal.proofs.Laws.{not-ok, check-ok, then-ok}
@@ -79,7 +80,7 @@ nothing [] h = refl
 nothing (x ∷ s) h = absurd (omega arith)
 
 -- at the end, or past one bin more
-end-or : (s : List ℕ) (xs : List Bin) (o : Out (List Bin)) → cond (eqb (length s) 0) (ok []) o ≡ ok xs → (o ≡ ok xs → All Framed xs × (s ≡ frames xs))
+end-or : (s : List ℕ) (xs : List Bin) (o : Out Refusal (List Bin)) → cond (eqb (length s) 0) (ok []) o ≡ ok xs → (o ≡ ok xs → All Framed xs × (s ≡ frames xs))
     → All Framed xs × (s ≡ frames xs)
 end-or s xs o e f = go (eqb (length s) 0) refl e
   where

@@ -57,7 +57,7 @@ length-part s start end h = simp (length-take, length-drop) (omega arith)
 
 -- ---- the stages
 
-module _ (place : Place) (file : List ℕ) {o : Out (List ℕ)} (w : bytesAt place file ≡ o) where
+module _ (place : Place) (file : List ℕ) {o : Out Refusal (List ℕ)} (w : bytesAt place file ≡ o) where
   pub place-refused : (n : ℕ) (field : List ℕ) {r : Refusal} → place ≡ Place.Refused r
       → (Deletions.Refused r ≡ answerOf n (bitmapIn n field o)) × (field ≡ fieldFrom field (bitmapIn n field o))
   unfolding bytesAt bitmapIn answerOf fieldFrom
@@ -73,7 +73,7 @@ marked-then n field after (Refused r) = refl
 marked-then n field after (Done length twice) = refl
 
 -- the field was cleared before
-cleared-then : (n : ℕ) (field : List ℕ) (o : Out (List ℕ)) → fieldThen n field (bitmapIn n (cleared n field) o) ≡ fieldFrom (cleared n field) (bitmapIn n (cleared n field) o)
+cleared-then : (n : ℕ) (field : List ℕ) (o : Out Refusal (List ℕ)) → fieldThen n field (bitmapIn n (cleared n field) o) ≡ fieldFrom (cleared n field) (bitmapIn n (cleared n field) o)
 unfolding fieldThen fieldFrom bitmapIn
 cleared-then n field (refuse r) = refl
 cleared-then n field (ok bytes) = marked-then n field _ (marking (Exactly (length bytes)) n (cleared n field) (read bytes))

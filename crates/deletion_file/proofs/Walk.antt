@@ -12,6 +12,7 @@ use lib.Seq.{drop-drop}
 use borrow.Author.Tests.{lt-ltb, le-ltb, le-leb, lt-leb, eq-eqb, ne-eqb}
 use Rattle.numbers.specs.Meaning.{beAt, big}
 use Rattle.numbers.proofs.Laws.{numberAt-drop, number-at, number-short}
+use Rattle.refusal.specs.declared.Refusal.{Refusal}
 use Rattle.refusal.specs.declared.Refusal.the-variants.{Short, NoBin}
 use Rattle.deletion_file.specs.Layout.{Bin}
 use Rattle.refusal.specs.Reading.{Out, refuse, ok, check, andThen}
@@ -20,12 +21,12 @@ use Rattle.deletion_file.specs.Promises.{binFrom}
 
 -- ---- one after the other
 
-then-then : {A B C : Type 0} (o : Out A) (f : A → Out B) (g : B → Out C) → andThen (andThen o f) g ≡ andThen o (λ a. andThen (f a) g)
+then-then : {A B C : Type 0} (o : Out Refusal A) (f : A → Out Refusal B) (g : B → Out Refusal C) → andThen (andThen o f) g ≡ andThen o (λ a. andThen (f a) g)
 unfolding andThen
 then-then (refuse r) f g = refl
 then-then (ok a) f g = refl
 
-then-same : {A B : Type 0} (o : Out A) (f g : A → Out B) → ((a : A) → f a ≡ g a) → andThen o f ≡ andThen o g
+then-same : {A B : Type 0} (o : Out Refusal A) (f g : A → Out Refusal B) → ((a : A) → f a ≡ g a) → andThen o f ≡ andThen o g
 unfolding andThen
 then-same (refuse r) f g h = refl
 then-same (ok a) f g h = h a
@@ -76,7 +77,7 @@ module _ (m : ℕ) (s : List ℕ) (p : ℕ) (in-it : p < length s) where
 -- ---- the asked bin, after some were passed
 
 -- x, if the asked one was passed; else it is among those to come
-abbrev sought : ℕ → ℕ → Bin → List Bin → Out Bin
+abbrev sought : ℕ → ℕ → Bin → List Bin → Out Refusal Bin
 sought b passed x more = cond (ltb b passed) (ok x) (asked (b - passed) more)
 
 asked-later : (b k : ℕ) (y : Bin) (more : List Bin) → k < b → asked (b - k) (y ∷ more) ≡ asked (b - (k + 1)) more
@@ -101,7 +102,7 @@ sought-other : (b k : ℕ) (x y : Bin) (more : List Bin) → k ≢ b → sought 
 sought-other b k x y more n = sought-other-go b k x y more n (decLt b k)
 
 -- ---- the loop's state: X is what the whole comes to, and what is left of it at `next`. Steps enough are left.
-pub record Walked (X : Out Bin) (s : List ℕ) (b next passed start end : ℕ) : Type 0 where
+pub record Walked (X : Out Refusal Bin) (s : List ℕ) (b next passed start end : ℕ) : Type 0 where
   pub steps : ℕ
   pub enough : length s - next ≤ steps
   pub so : X ≡ andThen (bins steps (drop next s)) (sought b passed (binFrom start end s))
@@ -117,7 +118,7 @@ walked-first s b start end =
       inside = λ i. absurd (omega arith);
     }
 
-module _ {X : Out Bin} {s : List ℕ} {b next passed start end : ℕ} (w : Walked X s b next passed start end) where
+module _ {X : Out Refusal Bin} {s : List ℕ} {b next passed start end : ℕ} (w : Walked X s b next passed start end) where
   pub walked-over : length s ≤ next → X ≡ sought b passed (binFrom start end s) []
   unfolding andThen
   walked-over h = w .so ∙ rw (bins-end (w .steps) (drop next s) (simp length-drop (omega arith)))
@@ -130,7 +131,7 @@ module _ {X : Out Bin} {s : List ℕ} {b next passed start end : ℕ} (w : Walke
   walked-none h l = walked-over h ∙ rw (le-ltb b passed l)
 
   -- a turn: where bytes are left, so are steps
-  turn : (Y : Out (List Bin)) → next < length s → ((m : ℕ) → length s - next ≤ suc m → bins (suc m) (drop next s) ≡ Y)
+  turn : (Y : Out Refusal (List Bin)) → next < length s → ((m : ℕ) → length s - next ≤ suc m → bins (suc m) (drop next s) ≡ Y)
       → X ≡ andThen Y (sought b passed (binFrom start end s))
   turn Y h f = go (w .steps) (w .enough) (w .so)
     where

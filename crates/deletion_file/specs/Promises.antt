@@ -6,6 +6,7 @@ use Rattle.numbers.specs.Meaning.{beAt}
 use Rattle.deletion_file.specs.declared.Place.{Place}
 use Rattle.deletion_file.specs.declared.Place.the-variants.{Refused, At}
 use Rattle.deletion_file.specs.Layout.{Bin}
+use Rattle.refusal.specs.declared.Refusal.{Refusal}
 use Rattle.refusal.specs.Reading.{Out, refuse, ok}
 use Rattle.deletion_file.specs.Reading.{Outcome, untouched, zeroed, marked}
 
@@ -18,12 +19,12 @@ abbrev pub binFrom : ℕ → ℕ → List ℕ → Bin
 binFrom start end s = record { bytes = part start end s; sum = beAt 4 s end }
 
 -- a place as a bin
-unfoldable pub binAt : Place → List ℕ → Out Bin
+unfoldable pub binAt : Place → List ℕ → Out Refusal Bin
 binAt (Refused r) s = refuse r
 binAt (At start end) s = ok (binFrom start end s)
 
 -- a place as a bitmap
-unfoldable pub bytesAt : Place → List ℕ → Out (List ℕ)
+unfoldable pub bytesAt : Place → List ℕ → Out Refusal (List ℕ)
 bytesAt (Refused r) s = refuse r
 bytesAt (At start end) s = ok (part start end s)
 

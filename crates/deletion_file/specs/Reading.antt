@@ -28,7 +28,7 @@ front long s = record { bytes = take long s; sum = beAt 4 s long }
 
 -- the walk over all sizes to the end of the bytes: SHORT, also for a size below 4. A bin takes 12 bytes at least, with its size and checksum, so a
 -- number of steps that is no smaller than the number of bytes is enough
-unfoldable pub bins : ℕ → List ℕ → Out (List Bin)
+unfoldable pub bins : ℕ → List ℕ → Out Refusal (List Bin)
 bins zero s = cond (eqb (length s) 0) (ok []) (refuse Short)
 bins (suc steps) s =
     cond (eqb (length s) 0) (ok [])
@@ -36,17 +36,17 @@ bins (suc steps) s =
     (andThen (bins steps (drop (long + 4) s)) (λ more. ok (front long s ∷ more))))))
 
 -- the asked bin, by its number from 0: NOBIN
-unfoldable pub asked : ℕ → List Bin → Out Bin
+unfoldable pub asked : ℕ → List Bin → Out Refusal Bin
 asked b [] = refuse NoBin
 asked zero (x ∷ xs) = ok x
 asked (suc b) (x ∷ xs) = asked b xs
 
 -- the bytes behind a bin's magic: MAGIC, CHECKSUM
-unfoldable pub opened : Bin → Out (List ℕ)
+unfoldable pub opened : Bin → Out Refusal (List ℕ)
 opened x = check (eqb (beAt 4 (x .bytes) 0) magic) Magic (check (eqb (checksum (x .bytes)) (x .sum)) Checksum (ok (drop 4 (x .bytes))))
 
 -- the bytes that are to be the bitmap of bin b
-unfoldable pub bitmapOf : ℕ → List ℕ → Out (List ℕ)
+unfoldable pub bitmapOf : ℕ → List ℕ → Out Refusal (List ℕ)
 bitmapOf b file =
     check (leb 1 (length file)) Short (check (eqb (getD file 0 0) 1) Version
     (andThen (andThen (bins (length file) (drop 1 file)) (asked b)) opened))
@@ -68,7 +68,7 @@ markedBy (Refused r) field = zeroed r
 markedBy (Done length twice) field = marked field
 
 -- the bitmap fills the rest of its bin: BITMAP, RANGE
-unfoldable pub bitmapIn : ℕ → List ℕ → Out (List ℕ) → Outcome
+unfoldable pub bitmapIn : ℕ → List ℕ → Out Refusal (List ℕ) → Outcome
 bitmapIn n field (refuse r) = zeroed r
 bitmapIn n field (ok bytes) =
     markedBy (marking (Exactly (length bytes)) n field (read bytes)) (fieldAfter (Exactly (length bytes)) n field (read bytes))

@@ -23,24 +23,24 @@ use Rattle.stored_value.proofs.Laws.{sameCell-sym, value-back}
 use Rattle.dictionary.proofs.LaidOut.{Apart, or-false, listingsOf, lastOf, Begins, behind-is}
 
 -- accepted
-abbrev pub Good : {A : Type 0} → Out A → Type 0
+abbrev pub Good : {A : Type 0} → Out Refusal A → Type 0
 Good (refuse r) = ⊥
 Good (ok a) = Unit {0}
 
-on-check : {A X : Type 0} (b : Bool) (r : Refusal) (x : Out A) → Good (check b r x) → (b ≡ true → Good x → X) → X
+on-check : {A X : Type 0} (b : Bool) (r : Refusal) (x : Out Refusal A) → Good (check b r x) → (b ≡ true → Good x → X) → X
 unfolding check
 on-check true r x g f = f refl g
 on-check false r x g f = absurd g
 
-on-word : {A : Type 0} (w : ℕ) (P : List ℕ → Type 0) (s : List ℕ) (k : ℕ → List ℕ → Out A) → Bytes s → Good (number big w (refuse Short) s k)
+on-word : {A : Type 0} (w : ℕ) (P : List ℕ → Type 0) (s : List ℕ) (k : ℕ → List ℕ → Out Refusal A) → Bytes s → Good (number big w (refuse Short) s k)
     → ((v : ℕ) (s : List ℕ) → v < 256 ^ w → Bytes s → Good (k v s) → P (be w v ++ s)) → P s
 on-word w P s k h g f = on-number big w (refuse Short) Good P s k (λ x. x) h g f
 
-on-byte : {A : Type 0} (P : List ℕ → Type 0) (s : List ℕ) (k : ℕ → List ℕ → Out A) → Bytes s → Good (number big 1 (refuse Short) s k)
+on-byte : {A : Type 0} (P : List ℕ → Type 0) (s : List ℕ) (k : ℕ → List ℕ → Out Refusal A) → Bytes s → Good (number big 1 (refuse Short) s k)
     → ((v : ℕ) (s : List ℕ) → v < 256 → Bytes s → Good (k v s) → P (v ∷ s)) → P s
 on-byte P s k h g f = on-word 1 P s k h g (λ v s l h g. let e : v % 256 ≡ v = omega arith in rw e (f v s l h g))
 
-on-counted : {A : Type 0} (most : ℕ) (P : List ℕ → Type 0) (s : List ℕ) (k : ℕ → List ℕ → Out A) → Bytes s → Good (counted most s k)
+on-counted : {A : Type 0} (most : ℕ) (P : List ℕ → Type 0) (s : List ℕ) (k : ℕ → List ℕ → Out Refusal A) → Bytes s → Good (counted most s k)
     → ((n : ℕ) (s : List ℕ) → n ≤ most → n ≤ 2147483647 → Bytes s → Good (k n s) → P (be 4 n ++ s)) → P s
 unfolding counted
 on-counted most P s k h g f =
@@ -48,12 +48,12 @@ on-counted most P s k h g f =
     let p′ : n < 2147483648 = ltb-true n 2147483648 p in
     f n s (leb-true n most q) (omega arith) h g)))
 
-on-value : {A : Type 0} (P : List ℕ → Type 0) (t : ℕ) (s : List ℕ) (k : List ℕ → List ℕ → Out A) → t < 12 → Bytes s → Good (valueOf Short Dict t s k)
+on-value : {A : Type 0} (P : List ℕ → Type 0) (t : ℕ) (s : List ℕ) (k : List ℕ → List ℕ → Out Refusal A) → t < 12 → Bytes s → Good (valueOf Short Dict t s k)
     → ((v s : List ℕ) → Value t v → Bytes s → Good (k v s) → P (v ++ s)) → P s
 unfolding valueOf andThen
 on-value P t s k l h g f = go (valueSize Short Dict t s) refl g
   where
-    go : (o : Out ℕ) → valueSize Short Dict t s ≡ o → Good (andThen o (λ n. k (take n s) (drop n s))) → P s
+    go : (o : Out Refusal ℕ) → valueSize Short Dict t s ≡ o → Good (andThen o (λ n. k (take n s) (drop n s))) → P s
     go (refuse r) e g = absurd g
     go (ok n) e g =
         let b = value-back Short Dict t s n h l e in
@@ -102,7 +102,7 @@ length-listings : (at : ℕ) (bs : List (List Entry)) → length (listingsOf at 
 length-listings at [] = refl
 length-listings at (b ∷ bs) = ap suc (length-listings (at + length (block b)) bs)
 
-on-listings : {A : Type 0} (P : List ℕ → Type 0) (t n : ℕ) (before : List Listing) (s : List ℕ) (k : List Listing → List ℕ → Out A)
+on-listings : {A : Type 0} (P : List ℕ → Type 0) (t n : ℕ) (before : List Listing) (s : List ℕ) (k : List Listing → List ℕ → Out Refusal A)
     → t < 12 → Bytes s → Good (listings t n before s k)
     → ((ds : List Listing) (s : List ℕ) → length ds ≡ n → Bytes s → Good (k (before ++ ds) s) → P (listingBytes ds ++ s)) → P s
 unfolding listings
@@ -126,7 +126,7 @@ both : (a b : Bool) → (a && b) ≡ true → (a ≡ true) × (b ≡ true)
 both true b e = (refl, e)
 both false b e = let z : _≡_ {A = ℕ} 0 1 = cc in absurd (omega arith)
 
-on-entriesTwo : {A : Type 0} (P : List ℕ → Type 0) (t n : ℕ) (before head : Cell) (sofar : List Entry) (s : List ℕ) (k : Cell → List Entry → List ℕ → Out A)
+on-entriesTwo : {A : Type 0} (P : List ℕ → Type 0) (t n : ℕ) (before head : Cell) (sofar : List Entry) (s : List ℕ) (k : Cell → List Entry → List ℕ → Out Refusal A)
     → t < 12 → Bytes s → Good (entriesTwo t n before head sofar s k)
     → ((es : List Entry) (s : List ℕ) → length es ≡ n → Rises t before es → Begins head es → Patterns es → Bytes s
     → Good (k (lastOf before es) (sofar ++ es) s) → P (entries2 es ++ s)) → P s
@@ -165,7 +165,7 @@ listing-is : (d : Listing) (ds : List Listing) (at : ℕ) (es : List Entry) (bs 
 listing-is d ds at es bs p q e = λ i. record { first = p i; at = q i } ∷ e i
 
 on-blocks : (P : List ℕ → Type 0) (t at : ℕ) (base : List ℕ) (before : Cell) (ds : List Listing) (sofar : List Entry) (s : List ℕ)
-    (k : List Entry → List ℕ → Out Dictionary) → t < 12 → Bytes s → length base ≡ at + length s → Good (blocksOf t ds base before sofar s k)
+    (k : List Entry → List ℕ → Out Refusal Dictionary) → t < 12 → Bytes s → length base ≡ at + length s → Good (blocksOf t ds base before sofar s k)
     → ((bs : List (List Entry)) (s : List ℕ) → ds ≡ listingsOf at bs → NoneEmpty bs → Rises t before (joined bs) → Patterns (joined bs)
     → Good (k (sofar ++ joined bs) s) → P (blocks bs ++ s)) → P s
 unfolding blocksOf
@@ -204,7 +204,7 @@ on-blocked P t rows n nulls s l h g f =
 
 -- ---- null's entry
 
-on-null1 : (P : ℕ → List ℕ → Type 0) (b : ℕ) (s : List ℕ) (k : List Entry → List ℕ → Out Dictionary) → b ≤ 1 → Bytes s → Good (nullOf false (eqb b 1) s k)
+on-null1 : (P : ℕ → List ℕ → Type 0) (b : ℕ) (s : List ℕ) (k : List Entry → List ℕ → Out Refusal Dictionary) → b ≤ 1 → Bytes s → Good (nullOf false (eqb b 1) s k)
     → ((nulls : List Entry) (s : List ℕ) → NullOnly nulls → NoExtents nulls → Patterns nulls → Bytes s → Good (k nulls s)
     → P (hasNull nulls) (null1 nulls ++ s)) → P b s
 unfolding nullOf
@@ -214,7 +214,7 @@ on-null1 P (suc zero) s k l h g f =
     f (record { cell = null; offset = offset; extent = minusOne } ∷ []) s (refl, refl) (refl, tt) (ho, omega arith, tt) h g)
 on-null1 P (suc (suc b)) s k l h g f = absurd (omega arith)
 
-on-null2 : (P : ℕ → List ℕ → Type 0) (b : ℕ) (s : List ℕ) (k : List Entry → List ℕ → Out Dictionary) → b ≤ 1 → Bytes s → Good (nullOf true (eqb b 1) s k)
+on-null2 : (P : ℕ → List ℕ → Type 0) (b : ℕ) (s : List ℕ) (k : List Entry → List ℕ → Out Refusal Dictionary) → b ≤ 1 → Bytes s → Good (nullOf true (eqb b 1) s k)
     → ((nulls : List Entry) (s : List ℕ) → NullOnly nulls → Patterns nulls → Bytes s → Good (k nulls s) → P (hasNull nulls) (null2 nulls ++ s)) → P b s
 unfolding nullOf
 on-null2 P zero s k l h g f = f [] s tt tt h g

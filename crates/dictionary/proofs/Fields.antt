@@ -29,24 +29,24 @@ use Rattle.dictionary.proofs.Steps.{word-at, word-short}
 -- ---- a count
 
 module _ (most : ℕ) (s : List ℕ) (p : ℕ) where
-  pub count-short : length s - p < 4 → (f : ℕ → List ℕ → Out Dictionary) → counted most (drop p s) f ≡ refuse Short
+  pub count-short : length s - p < 4 → (f : ℕ → List ℕ → Out Refusal Dictionary) → counted most (drop p s) f ≡ refuse Short
   unfolding counted
   count-short h f = word-short 4 s p _ h
 
   module _ (h : p + 4 ≤ length s) {n : ℕ} (e : n ≡ beAt 4 s p) where
-    tested : (f : ℕ → List ℕ → Out Dictionary) → counted most (drop p s) f ≡ check (ltb n 2147483648) Dict (check (leb n most) Limit (f n (drop (p + 4) s)))
+    tested : (f : ℕ → List ℕ → Out Refusal Dictionary) → counted most (drop p s) f ≡ check (ltb n 2147483648) Dict (check (leb n most) Limit (f n (drop (p + 4) s)))
     unfolding counted
     tested f = rw e (word-at 4 s p _ h)
 
-    pub count-negative : 2147483648 ≤ n → (f : ℕ → List ℕ → Out Dictionary) → counted most (drop p s) f ≡ refuse Dict
+    pub count-negative : 2147483648 ≤ n → (f : ℕ → List ℕ → Out Refusal Dictionary) → counted most (drop p s) f ≡ refuse Dict
     unfolding check
     count-negative l f = tested f ∙ rw le-ltb
 
-    pub count-over : n < 2147483648 → most < n → (f : ℕ → List ℕ → Out Dictionary) → counted most (drop p s) f ≡ refuse Limit
+    pub count-over : n < 2147483648 → most < n → (f : ℕ → List ℕ → Out Refusal Dictionary) → counted most (drop p s) f ≡ refuse Limit
     unfolding check
     count-over l m f = tested f ∙ rw (lt-ltb, lt-leb)
 
-    pub count-is : n < 2147483648 → n ≤ most → (f : ℕ → List ℕ → Out Dictionary) → counted most (drop p s) f ≡ f n (drop (p + 4) s)
+    pub count-is : n < 2147483648 → n ≤ most → (f : ℕ → List ℕ → Out Refusal Dictionary) → counted most (drop p s) f ≡ f n (drop (p + 4) s)
     unfolding check
     count-is l m f = tested f ∙ rw (lt-ltb, le-leb)
 
@@ -57,12 +57,12 @@ pub has-one : {has : Bool} {P : Type 0} → has ≡ true → has ≡ false → P
 has-one y n = absurd (let z : _≡_ {A = ℕ} 0 1 = cc in omega arith)
 
 module _ (s : List ℕ) (p : ℕ) (two : Bool) {has : Bool} where
-  pub null-none : has ≡ false → (o : ℤ) (x : ℕ) (f : List Entry → List ℕ → Out Dictionary) → nullOf two has (drop p s) f ≡ f (nulls has o x) (drop p s)
+  pub null-none : has ≡ false → (o : ℤ) (x : ℕ) (f : List Entry → List ℕ → Out Refusal Dictionary) → nullOf two has (drop p s) f ≡ f (nulls has o x) (drop p s)
   unfolding nullOf
   null-none n o x f = rw n
 
   module _ (y : has ≡ true) where
-    pub null-short : length s - p < 4 → (f : List Entry → List ℕ → Out Dictionary) → nullOf two has (drop p s) f ≡ refuse Short
+    pub null-short : length s - p < 4 → (f : List Entry → List ℕ → Out Refusal Dictionary) → nullOf two has (drop p s) f ≡ refuse Short
     unfolding nullOf
     null-short h f = rw y (go two)
       where
@@ -74,16 +74,16 @@ module _ (s : List ℕ) (p : ℕ) (two : Bool) {has : Bool} where
       e : pattern (toZ w32 (ofZ w32 z)) ≡ beAt 4 s p
       e = pattern-passed (beAt 4 s p) o i
 
-      pub null-one : two ≡ false → (f : List Entry → List ℕ → Out Dictionary) → nullOf two has (drop p s) f ≡ f (nulls has (toZ w32 (ofZ w32 z)) minusOne) (drop (p + 4) s)
+      pub null-one : two ≡ false → (f : List Entry → List ℕ → Out Refusal Dictionary) → nullOf two has (drop p s) f ≡ f (nulls has (toZ w32 (ofZ w32 z)) minusOne) (drop (p + 4) s)
       unfolding nullOf
       null-one w f = rw (y, w, e) (word-at 4 s p _ h)
 
       module _ (w : two ≡ true) where
-        pub null-cut : length s - (p + 4) < 4 → (f : List Entry → List ℕ → Out Dictionary) → nullOf two has (drop p s) f ≡ refuse Short
+        pub null-cut : length s - (p + 4) < 4 → (f : List Entry → List ℕ → Out Refusal Dictionary) → nullOf two has (drop p s) f ≡ refuse Short
         unfolding nullOf
         null-cut l f = rw (y, w) (word-at 4 s p _ h ∙ word-short 4 s (p + 4) _ l)
 
-        pub null-two : p + 4 + 4 ≤ length s → {m : ℕ} → m ≡ beAt 4 s (p + 4) → (f : List Entry → List ℕ → Out Dictionary)
+        pub null-two : p + 4 + 4 ≤ length s → {m : ℕ} → m ≡ beAt 4 s (p + 4) → (f : List Entry → List ℕ → Out Refusal Dictionary)
             → nullOf two has (drop p s) f ≡ f (nulls has (toZ w32 (ofZ w32 z)) m) (drop (p + 4 + 4) s)
         unfolding nullOf
         null-two l d f = rw (y, w, e, d) (word-at 4 s p _ h ∙ word-at 4 s (p + 4) _ l)
@@ -94,7 +94,7 @@ byte-at : (s : List ℕ) (p : ℕ) → beAt 1 s p ≡ getD s p 0
 byte-at s p = simp (zero-add, add-zero)
 
 -- what follows a version v
-abbrev opened : ℕ → ℕ → List ℕ → Out Dictionary
+abbrev opened : ℕ → ℕ → List ℕ → Out Refusal Dictionary
 opened t v s =
     counted 2147483647 s (λ rows s. counted (cond (eqb v 2) 65536 4096) s (λ n s.
     number big 1 (refuse Short) s (λ h s. check (leb h 1) Dict (nullOf (eqb v 2) (eqb h 1) s (λ ns s. entriesOf (eqb v 2) t rows n ns s)))))

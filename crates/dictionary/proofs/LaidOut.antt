@@ -11,6 +11,7 @@ use lib.Dec.{eqb, leb}
 use borrow.Author.Tests.{le-leb, lt-ltb, eq-eqb, ne-eqb}
 use Rattle.numbers.specs.Meaning.{be, big, number, joined}
 use Rattle.numbers.proofs.Laws.{number-laid}
+use Rattle.refusal.specs.declared.Refusal.{Refusal}
 use Rattle.refusal.specs.declared.Refusal.the-variants.{Short, Dict}
 use Rattle.stored_value.specs.Meaning.{Cell, null, value, sameCell}
 use Rattle.refusal.specs.Reading.{Out, refuse, ok, check, andThen}
@@ -27,7 +28,7 @@ cell-back : (t : ℕ) (c : Cell) → Valued t c → value (valueBytes c) ≡ c
 cell-back t null h = absurd h
 cell-back t (value v) h = refl
 
-valueOf-laid : {A : Type 0} (t : ℕ) (c : Cell) (tail : List ℕ) (k : List ℕ → List ℕ → Out A) → t < 12 → Valued t c
+valueOf-laid : {A : Type 0} (t : ℕ) (c : Cell) (tail : List ℕ) (k : List ℕ → List ℕ → Out Refusal A) → t < 12 → Valued t c
     → valueOf Short Dict t (valueBytes c ++ tail) k ≡ k (valueBytes c) tail
 unfolding valueOf andThen
 valueOf-laid t null tail k h v = absurd v
@@ -83,12 +84,12 @@ extents-cut : (xs ys : List Entry) → NoExtents (xs ++ ys) → NoExtents xs × 
 extents-cut [] ys p = (tt, p)
 extents-cut (x ∷ xs) ys p = let q = extents-cut xs ys (p .1) in ((p .0, q .0), q .1)
 
-counted-laid : {A : Type 0} (most n : ℕ) (s : List ℕ) (k : ℕ → List ℕ → Out A) → n ≤ most → n ≤ 2147483647 → counted most (be 4 n ++ s) k ≡ k n s
+counted-laid : {A : Type 0} (most n : ℕ) (s : List ℕ) (k : ℕ → List ℕ → Out Refusal A) → n ≤ most → n ≤ 2147483647 → counted most (be 4 n ++ s) k ≡ k n s
 unfolding counted check
 counted-laid most n s k h l =
     number-laid big 4 (refuse Short) n s _ (omega arith) ∙ rw (lt-ltb n 2147483648 (omega arith), le-leb n most h)
 
-pub byte-laid : {A : Type 0} (b : ℕ) (s : List ℕ) (k : ℕ → List ℕ → Out A) → number big 1 (refuse Short) (b ∷ s) k ≡ k b s
+pub byte-laid : {A : Type 0} (b : ℕ) (s : List ℕ) (k : ℕ → List ℕ → Out Refusal A) → number big 1 (refuse Short) (b ∷ s) k ≡ k b s
 unfolding number
 byte-laid b s k = rw (le-leb 1 (suc (length s)) (omega arith), zero-add b)
 
@@ -112,14 +113,14 @@ head-laid t v rows n nulls s e hr hm hn =
     ∙ byte-laid (hasNull nulls) s _
     ∙ rw (le-leb (hasNull nulls) 1 f))
 
-null1-laid : (nulls : List Entry) (s : List ℕ) (k : List Entry → List ℕ → Out Dictionary) → NullOnly nulls → NoExtents nulls → Patterns nulls
+null1-laid : (nulls : List Entry) (s : List ℕ) (k : List Entry → List ℕ → Out Refusal Dictionary) → NullOnly nulls → NoExtents nulls → Patterns nulls
     → nullOf false (eqb (hasNull nulls) 1) (null1 nulls ++ s) k ≡ k nulls s
 unfolding nullOf
 null1-laid [] s k h x p = refl
 null1-laid (e ∷ es) s k h x p =
     number-laid big 4 (refuse Short) (e .offset) s _ (p .0) ∙ rw (← h .0, ← x .0, h .1)
 
-null2-laid : (nulls : List Entry) (s : List ℕ) (k : List Entry → List ℕ → Out Dictionary) → NullOnly nulls → Patterns nulls
+null2-laid : (nulls : List Entry) (s : List ℕ) (k : List Entry → List ℕ → Out Refusal Dictionary) → NullOnly nulls → Patterns nulls
     → nullOf true (eqb (hasNull nulls) 1) (null2 nulls ++ s) k ≡ k nulls s
 unfolding nullOf
 null2-laid [] s k h p = refl
@@ -169,7 +170,7 @@ headed t before (b ∷ bs) h r =
     let q = rises-cut t before b (joined bs) r in
     (first-valued t before b (h .0) (q .0), headed t (lastOf before b) bs (h .1) (q .1))
 
-listings-laid : {A : Type 0} (t at : ℕ) (bs : List (List Entry)) (ds : List Listing) (s : List ℕ) (k : List Listing → List ℕ → Out A)
+listings-laid : {A : Type 0} (t at : ℕ) (bs : List (List Entry)) (ds : List Listing) (s : List ℕ) (k : List Listing → List ℕ → Out Refusal A)
     → t < 12 → Headed t bs → at + length (blocks bs) ≤ 2147483647 → listings t (length bs) ds (directory at bs ++ s) k ≡ k (ds ++ listingsOf at bs) s
 unfolding listings
 listings-laid t at [] ds s k h v l = simp append-nil
@@ -206,7 +207,7 @@ unfolding heads
 begins-own [] = tt
 begins-own (e ∷ es) = same-refl (valueBytes (e .cell))
 
-entriesTwo-laid : {A : Type 0} (t : ℕ) (before head : Cell) (es sofar : List Entry) (s : List ℕ) (k : Cell → List Entry → List ℕ → Out A)
+entriesTwo-laid : {A : Type 0} (t : ℕ) (before head : Cell) (es sofar : List Entry) (s : List ℕ) (k : Cell → List Entry → List ℕ → Out Refusal A)
     → t < 12 → Rises t before es → Begins head es → Patterns es
     → entriesTwo t (length es) before head sofar (entries2 es ++ s) k ≡ k (lastOf before es) (sofar ++ es) s
 unfolding entriesTwo check
@@ -225,7 +226,7 @@ pub behind-is : (at : ℕ) (base s : List ℕ) → length base ≡ at + length s
 unfolding behind
 behind-is at base s h = omega arith
 
-blocksOf-laid : (t at : ℕ) (base : List ℕ) (before : Cell) (bs : List (List Entry)) (sofar : List Entry) (s : List ℕ) (k : List Entry → List ℕ → Out Dictionary)
+blocksOf-laid : (t at : ℕ) (base : List ℕ) (before : Cell) (bs : List (List Entry)) (sofar : List Entry) (s : List ℕ) (k : List Entry → List ℕ → Out Refusal Dictionary)
     → t < 12 → length base ≡ at + length (blocks bs ++ s) → NoneEmpty bs → Rises t before (joined bs) → Patterns (joined bs) → length (joined bs) ≤ 65536
     → blocksOf t (listingsOf at bs) base before sofar (blocks bs ++ s) k ≡ k (sofar ++ joined bs) s
 unfolding blocksOf check

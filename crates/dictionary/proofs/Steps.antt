@@ -27,7 +27,7 @@ use Rattle.dictionary.specs.Answers.{ValueAt}
 
 -- ---- what is accepted passed its tests
 
-number-ok : {A : Type 0} (w : ℕ) (r : Refusal) (s : List ℕ) (k : ℕ → List ℕ → Out A) (a : A) → number big w (refuse r) s k ≡ ok a
+number-ok : {A : Type 0} (w : ℕ) (r : Refusal) (s : List ℕ) (k : ℕ → List ℕ → Out Refusal A) (a : A) → number big w (refuse r) s k ≡ ok a
     → (w ≤ length s) × (k (beAt w s 0) (drop w s) ≡ ok a)
 unfolding number
 number-ok {A} w r s k a e = go (leb w (length s)) refl e
@@ -63,12 +63,12 @@ size-within t s n e = go (eqb (width t) 0) refl e
         let nz : width t ≡ 0 → ⊥ = eqb-false (width t) 0 b in
         (omega arith, omega arith)
 
-sized-ok : (o : Out ℕ) (x : Sized) (n : ℕ) → x ≡ sizedBy o → x ≡ Bytes n → o ≡ ok n
+sized-ok : (o : Out Refusal ℕ) (x : Sized) (n : ℕ) → x ≡ sizedBy o → x ≡ Bytes n → o ≡ ok n
 unfolding sizedBy
 sized-ok (refuse r) x n e b = absurd (let z : _≡_ {A = ℕ} 0 1 = cc in omega arith)
 sized-ok (ok m) x n e b = cc
 
-sized-refused : (o : Out ℕ) (x : Sized) (r : Refusal) → x ≡ sizedBy o → x ≡ Sized.Refused r → o ≡ refuse r
+sized-refused : (o : Out Refusal ℕ) (x : Sized) (r : Refusal) → x ≡ sizedBy o → x ≡ Sized.Refused r → o ≡ refuse r
 unfolding sizedBy
 sized-refused (refuse q) x r e b = cc
 sized-refused (ok m) x r e b = absurd (let z : _≡_ {A = ℕ} 0 1 = cc in omega arith)
@@ -85,7 +85,7 @@ module _ (t : ℕ) (s : List ℕ) (at : ℕ) {x : Sized} (e : x ≡ sizedBy (val
       let z : at + n - at ≡ n = omega arith in
       (rw z o, omega arith, omega arith)
 
-module _ {A : Type 0} (t : ℕ) (s : List ℕ) (f : List ℕ → List ℕ → Out A) where
+module _ {A : Type 0} (t : ℕ) (s : List ℕ) (f : List ℕ → List ℕ → Out Refusal A) where
   pub value-ok : (n : ℕ) → valueSize Short Dict t s ≡ ok n → valueOf Short Dict t s f ≡ f (take n s) (drop n s)
   unfolding valueOf andThen
   value-ok n e = rw e
@@ -96,7 +96,7 @@ module _ {A : Type 0} (t : ℕ) (s : List ℕ) (f : List ℕ → List ℕ → Ou
 
 -- ---- a number of w bytes behind k others
 
-module _ (w : ℕ) (s : List ℕ) (k : ℕ) (f : ℕ → List ℕ → Out Dictionary) where
+module _ (w : ℕ) (s : List ℕ) (k : ℕ) (f : ℕ → List ℕ → Out Refusal Dictionary) where
   pub word-at : k + w ≤ length s → number big w (refuse Short) (drop k s) f ≡ f (beAt w s k) (drop (k + w) s)
   word-at h = number-at big w (refuse Short) s k f h
 

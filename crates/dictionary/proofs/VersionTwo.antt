@@ -37,27 +37,27 @@ listing k s = record { first = take k s; at = beAt 4 s k }
 
 pub record Listings (t n : ℕ) (start : List ℕ) (i : ℕ) (rest : List ℕ) : Type 0 where
   pub ds : List Listing
-  pub so : (f : List Listing → List ℕ → Out Dictionary) → listings t n [] start f ≡ listings t (n - i) ds rest f
+  pub so : (f : List Listing → List ℕ → Out Refusal Dictionary) → listings t n [] start f ≡ listings t (n - i) ds rest f
   pub count : length ds ≡ i
   pub stand : (more : List Listing) → Listed t rest more → Listed t start (ds ++ more)
 
 pub listings-first : (t n : ℕ) (s : List ℕ) → Listings t n s 0 s
 listings-first t n s = let z : n - 0 ≡ n = omega arith in record { ds = []; so = λ f. rw z; count = refl; stand = λ more h. h }
 
-listings-turn : (t m : ℕ) (ds : List Listing) (s : List ℕ) (f : List Listing → List ℕ → Out Dictionary) (k : ℕ) → 0 < m → valueSize Short Dict t s ≡ ok k
+listings-turn : (t m : ℕ) (ds : List Listing) (s : List ℕ) (f : List Listing → List ℕ → Out Refusal Dictionary) (k : ℕ) → 0 < m → valueSize Short Dict t s ≡ ok k
     → listings t m ds s f ≡ number big 4 (refuse Short) (drop k s) (λ at s'. listings t (m - 1) (ds ++ (record { first = take k s; at = at } ∷ [])) s' f)
 unfolding listings
 listings-turn t zero ds s f k z e = absurd (omega arith)
 listings-turn t (suc m) ds s f k z e = let c : suc m - 1 ≡ m = omega arith in simp c (value-ok t s _ k e)
 
-listings-broken : (t m : ℕ) (ds : List Listing) (s : List ℕ) (f : List Listing → List ℕ → Out Dictionary) (r : Refusal) → 0 < m → valueSize Short Dict t s ≡ refuse r
+listings-broken : (t m : ℕ) (ds : List Listing) (s : List ℕ) (f : List Listing → List ℕ → Out Refusal Dictionary) (r : Refusal) → 0 < m → valueSize Short Dict t s ≡ refuse r
     → listings t m ds s f ≡ refuse r
 unfolding listings
 listings-broken t zero ds s f r z e = absurd (omega arith)
 listings-broken t (suc m) ds s f r z e = value-refused t s _ r e
 
 module _ {t n : ℕ} {start : List ℕ} {i : ℕ} {rest : List ℕ} (st : Listings t n start i rest) where
-  pub listings-done : n ≤ i → (f : List Listing → List ℕ → Out Dictionary) → listings t n [] start f ≡ f (st .ds) rest
+  pub listings-done : n ≤ i → (f : List Listing → List ℕ → Out Refusal Dictionary) → listings t n [] start f ≡ f (st .ds) rest
   unfolding listings
   listings-done e f = let z : n - i ≡ 0 = omega arith in st .so f ∙ simp z
 
@@ -66,15 +66,15 @@ module _ {t n : ℕ} {start : List ℕ} {i : ℕ} {rest : List ℕ} (st : Listin
   listings-stand = rw append-nil at (st .stand [] tt)
 
   module _ (lt : i < n) where
-    pub listings-refused : {r : Refusal} → valueSize Short Dict t rest ≡ refuse r → (f : List Listing → List ℕ → Out Dictionary) → listings t n [] start f ≡ refuse r
+    pub listings-refused : {r : Refusal} → valueSize Short Dict t rest ≡ refuse r → (f : List Listing → List ℕ → Out Refusal Dictionary) → listings t n [] start f ≡ refuse r
     listings-refused {r} e f = st .so f ∙ listings-broken t (n - i) (st .ds) rest f r (omega arith) e
 
     module _ {k : ℕ} (e : valueSize Short Dict t rest ≡ ok k) where
-      listings-unrolled : (f : List Listing → List ℕ → Out Dictionary) → listings t n [] start f
+      listings-unrolled : (f : List Listing → List ℕ → Out Refusal Dictionary) → listings t n [] start f
           ≡ number big 4 (refuse Short) (drop k rest) (λ at s'. listings t (n - i - 1) (st .ds ++ (record { first = take k rest; at = at } ∷ [])) s' f)
       listings-unrolled f = st .so f ∙ listings-turn t (n - i) (st .ds) rest f k (omega arith) e
 
-      pub listings-short : length rest - k < 4 → (f : List Listing → List ℕ → Out Dictionary) → listings t n [] start f ≡ refuse Short
+      pub listings-short : length rest - k < 4 → (f : List Listing → List ℕ → Out Refusal Dictionary) → listings t n [] start f ≡ refuse Short
       listings-short h f = listings-unrolled f ∙ word-short 4 rest k _ h
 
       pub listings-next : k + 4 ≤ length rest → Listings t n start (i + 1) (drop (k + 4) rest)
@@ -117,7 +117,7 @@ module _ (s : List ℕ) (c : Span) (w : List ℕ) where
 
 pub record Passing (t n : ℕ) (before head : Cell) (start : List ℕ) (i : ℕ) (b h : Cell) (rest : List ℕ) : Type 0 where
   pub new : List Entry
-  pub so : (es : List Entry) (f : Cell → List Entry → List ℕ → Out Dictionary) → entriesTwo t n before head es start f ≡ entriesTwo t (n - i) b h (es ++ new) rest f
+  pub so : (es : List Entry) (f : Cell → List Entry → List ℕ → Out Refusal Dictionary) → entriesTwo t n before head es start f ≡ entriesTwo t (n - i) b h (es ++ new) rest f
   pub count : length new ≡ i
   pub stand : (more : List Entry) → Stand t true (n - i) rest more → Stand t true n start (new ++ more)
 
@@ -126,25 +126,25 @@ passing-first t n before head s =
     let z : n - 0 ≡ n = omega arith in
     record { new = []; so = λ es f. rw (z, append-nil); count = refl; stand = λ more g. rw z at g }
 
-abbrev numbers : (t m k : ℕ) (es : List Entry) (s : List ℕ) (f : Cell → List Entry → List ℕ → Out Dictionary) → Out Dictionary
+abbrev numbers : (t m k : ℕ) (es : List Entry) (s : List ℕ) (f : Cell → List Entry → List ℕ → Out Refusal Dictionary) → Out Refusal Dictionary
 numbers t m k es s f =
     number big 4 (refuse Short) (drop k s) (λ offset s'. number big 4 (refuse Short) s' (λ extent s'.
     entriesTwo t m (value (take k s)) null (es ++ (record { cell = value (take k s); offset = offset; extent = extent } ∷ [])) s' f))
 
-passing-turn : (t m : ℕ) (b h : Cell) (es : List Entry) (s : List ℕ) (f : Cell → List Entry → List ℕ → Out Dictionary) (k : ℕ) → 0 < m → valueSize Short Dict t s ≡ ok k
+passing-turn : (t m : ℕ) (b h : Cell) (es : List Entry) (s : List ℕ) (f : Cell → List Entry → List ℕ → Out Refusal Dictionary) (k : ℕ) → 0 < m → valueSize Short Dict t s ≡ ok k
     → entriesTwo t m b h es s f ≡ check (past t b (take k s) && heads h (take k s)) Dict (numbers t (m - 1) k es s f)
 unfolding entriesTwo
 passing-turn t zero b h es s f k z e = absurd (omega arith)
 passing-turn t (suc m) b h es s f k z e = let c : suc m - 1 ≡ m = omega arith in simp c (value-ok t s _ k e)
 
-passing-broken : (t m : ℕ) (b h : Cell) (es : List Entry) (s : List ℕ) (f : Cell → List Entry → List ℕ → Out Dictionary) (r : Refusal) → 0 < m → valueSize Short Dict t s ≡ refuse r
+passing-broken : (t m : ℕ) (b h : Cell) (es : List Entry) (s : List ℕ) (f : Cell → List Entry → List ℕ → Out Refusal Dictionary) (r : Refusal) → 0 < m → valueSize Short Dict t s ≡ refuse r
     → entriesTwo t m b h es s f ≡ refuse r
 unfolding entriesTwo
 passing-broken t zero b h es s f r z e = absurd (omega arith)
 passing-broken t (suc m) b h es s f r z e = value-refused t s _ r e
 
 module _ {t n : ℕ} {before head : Cell} {start : List ℕ} {i : ℕ} {b h : Cell} {rest : List ℕ} (st : Passing t n before head start i b h rest) where
-  pub passing-done : n ≤ i → (es : List Entry) (f : Cell → List Entry → List ℕ → Out Dictionary) → entriesTwo t n before head es start f ≡ f b (es ++ st .new) rest
+  pub passing-done : n ≤ i → (es : List Entry) (f : Cell → List Entry → List ℕ → Out Refusal Dictionary) → entriesTwo t n before head es start f ≡ f b (es ++ st .new) rest
   unfolding entriesTwo
   passing-done l es f = let z : n - i ≡ 0 = omega arith in st .so es f ∙ simp z
 
@@ -153,30 +153,30 @@ module _ {t n : ℕ} {before head : Cell} {start : List ℕ} {i : ℕ} {b h : Ce
 
   module _ (lt : i < n) where
     pub passing-refused : {r : Refusal} → valueSize Short Dict t rest ≡ refuse r
-        → (es : List Entry) (f : Cell → List Entry → List ℕ → Out Dictionary) → entriesTwo t n before head es start f ≡ refuse r
+        → (es : List Entry) (f : Cell → List Entry → List ℕ → Out Refusal Dictionary) → entriesTwo t n before head es start f ≡ refuse r
     passing-refused {r} e es f = st .so es f ∙ passing-broken t (n - i) b h (es ++ st .new) rest f r (omega arith) e
 
     module _ {k : ℕ} (e : valueSize Short Dict t rest ≡ ok k) where
-      passing-unrolled : (es : List Entry) (f : Cell → List Entry → List ℕ → Out Dictionary) → entriesTwo t n before head es start f
+      passing-unrolled : (es : List Entry) (f : Cell → List Entry → List ℕ → Out Refusal Dictionary) → entriesTwo t n before head es start f
           ≡ check (past t b (take k rest) && heads h (take k rest)) Dict (numbers t (n - i - 1) k (es ++ st .new) rest f)
       passing-unrolled es f = st .so es f ∙ passing-turn t (n - i) b h (es ++ st .new) rest f k (omega arith) e
 
       pub passing-low : {x : Bool} → x ≡ past t b (take k rest) → x ≡ false
-          → (es : List Entry) (f : Cell → List Entry → List ℕ → Out Dictionary) → entriesTwo t n before head es start f ≡ refuse Dict
+          → (es : List Entry) (f : Cell → List Entry → List ℕ → Out Refusal Dictionary) → entriesTwo t n before head es start f ≡ refuse Dict
       unfolding check
       passing-low g c es f = passing-unrolled es f ∙ simp (← g, c)
 
       pub passing-other : {x y : Bool} → x ≡ past t b (take k rest) → x ≡ true → y ≡ heads h (take k rest) → y ≡ false
-          → (es : List Entry) (f : Cell → List Entry → List ℕ → Out Dictionary) → entriesTwo t n before head es start f ≡ refuse Dict
+          → (es : List Entry) (f : Cell → List Entry → List ℕ → Out Refusal Dictionary) → entriesTwo t n before head es start f ≡ refuse Dict
       unfolding check
       passing-other g c d m es f = passing-unrolled es f ∙ simp (← g, c, ← d, m)
 
       module _ {x y : Bool} (g : x ≡ past t b (take k rest)) (higher : x ≡ true) (d : y ≡ heads h (take k rest)) (listed : y ≡ true) where
-        passing-admitted : (es : List Entry) (f : Cell → List Entry → List ℕ → Out Dictionary) → entriesTwo t n before head es start f ≡ numbers t (n - i - 1) k (es ++ st .new) rest f
+        passing-admitted : (es : List Entry) (f : Cell → List Entry → List ℕ → Out Refusal Dictionary) → entriesTwo t n before head es start f ≡ numbers t (n - i - 1) k (es ++ st .new) rest f
         unfolding check
         passing-admitted es f = passing-unrolled es f ∙ simp (← g, higher, ← d, listed)
 
-        pub passing-short : length rest - k < 8 → (es : List Entry) (f : Cell → List Entry → List ℕ → Out Dictionary) → entriesTwo t n before head es start f ≡ refuse Short
+        pub passing-short : length rest - k < 8 → (es : List Entry) (f : Cell → List Entry → List ℕ → Out Refusal Dictionary) → entriesTwo t n before head es start f ≡ refuse Short
         passing-short l es f = passing-admitted es f ∙ numbers-short (leb (k + 4) (length rest)) refl
           where
             numbers-short : (w : Bool) → leb (k + 4) (length rest) ≡ w → numbers t (n - i - 1) k (es ++ st .new) rest f ≡ refuse Short
@@ -225,7 +225,7 @@ module _ (t : ℕ) (s : List ℕ) (base q p e : ℕ) (from : base ≤ p) (to : p
       let r = rw length-drop at (h .1) in
       (omega arith, rw (drop-past s q e 4 (omega arith)) at (h .2))
 
-  module _ (es : List Entry) (f : List Entry → List ℕ → Out Dictionary) where
+  module _ (es : List Entry) (f : List Entry → List ℕ → Out Refusal Dictionary) where
     block-turn : blocksOf t (d ∷ ds) (drop base s) before es (drop p s) f ≡ check (eqb (beAt 4 s e) (p - base)) Dict
         (number big 4 (refuse Short) (drop p s) (λ n s'. check (leb 1 n && ltb n 2147483648) Dict
         (entriesTwo t n before (cellAt s (record { start = position q; end = position e })) es s' (λ before es s'. blocksOf t ds (drop base s) before es s' f))))
@@ -290,7 +290,7 @@ pub record Blocking (t : ℕ) (ds : List Listing) (base : List ℕ) (i : ℕ) (d
   pub listed : Listed t dir left
   pub count : length left ≡ length ds - i
   pub es : List Entry
-  pub so : (f : List Entry → List ℕ → Out Dictionary) → blocksOf t ds base null [] base f ≡ blocksOf t left base before es rest f
+  pub so : (f : List Entry → List ℕ → Out Refusal Dictionary) → blocksOf t ds base null [] base f ≡ blocksOf t left base before es rest f
   pub total : length es ≡ sum
   pub stand : (more : List Entry) → Stand t true 0 rest more → Stand t true 0 base (es ++ more)
 
@@ -299,7 +299,7 @@ blocking-first t ds base dir l = record { left = ds; listed = l; count = omega a
 
 module _ {t : ℕ} {ds : List Listing} {base : List ℕ} {i : ℕ} {dir : List ℕ} {before : Cell} {sum : ℕ} {rest : List ℕ}
     (st : Blocking t ds base i dir before sum rest) where
-  pub blocking-done : length ds ≤ i → (f : List Entry → List ℕ → Out Dictionary) → blocksOf t ds base null [] base f ≡ f (st .es) rest
+  pub blocking-done : length ds ≤ i → (f : List Entry → List ℕ → Out Refusal Dictionary) → blocksOf t ds base null [] base f ≡ f (st .es) rest
   unfolding blocksOf
   blocking-done h f = st .so f ∙ by (st .left) (omega (arith, st .count))
     where
@@ -313,7 +313,7 @@ module _ {t : ℕ} {ds : List Listing} {base : List ℕ} {i : ℕ} {dir : List �
 
 module _ {t : ℕ} {ds : List Listing} {before : Cell} {i sum : ℕ} (s : List ℕ) (base q p : ℕ) (st : Blocking t ds (drop base s) i (drop q s) before sum (drop p s)) (lt : i < length ds) where
   pub blocking-refused : {r : Refusal} → BlockAt t before s base q p (Block.Refused r)
-      → (f : List Entry → List ℕ → Out Dictionary) → blocksOf t ds (drop base s) null [] (drop base s) f ≡ refuse r
+      → (f : List Entry → List ℕ → Out Refusal Dictionary) → blocksOf t ds (drop base s) null [] (drop base s) f ≡ refuse r
   blocking-refused {r} x f = st .so f ∙ by (st .left) (st .listed) (omega (arith, st .count))
     where
       by : (left : List Listing) → Listed t (drop q s) left → 0 < length left → blocksOf t left (drop base s) before (st .es) (drop p s) f ≡ refuse r
@@ -325,7 +325,7 @@ module _ {t : ℕ} {ds : List Listing} {before : Cell} {i sum : ℕ} (s : List �
   blocking-next listing next number last x = by (st .left) (st .listed) (st .count) (st .so)
     where
       by : (left : List Listing) → Listed t (drop q s) left → length left ≡ length ds - i
-          → ((f : List Entry → List ℕ → Out Dictionary) → blocksOf t ds (drop base s) null [] (drop base s) f ≡ blocksOf t left (drop base s) before (st .es) (drop p s) f)
+          → ((f : List Entry → List ℕ → Out Refusal Dictionary) → blocksOf t ds (drop base s) null [] (drop base s) f ≡ blocksOf t left (drop base s) before (st .es) (drop p s) f)
           → Blocking t ds (drop base s) (i + 1) (drop listing s) (cellAt s last) (sum + number) (drop next s)
       by [] l c so = absurd (omega arith)
       by (d ∷ left) l c so =
@@ -349,7 +349,7 @@ fit-none n b h = rw (eq-eqb n 0 h)
 pub fit-some : (n b : ℕ) → (n ≡ 0 → ⊥) → leb 1 b ≡ cond (eqb n 0) (eqb b 0) (leb 1 b)
 fit-some n b h = rw (ne-eqb n 0 h)
 
-abbrev behindBlocks : (t rows n : ℕ) (ns : List Entry) (offset : ℕ) (base : List ℕ) (es : List Entry) (region : List ℕ) → Out Dictionary
+abbrev behindBlocks : (t rows n : ℕ) (ns : List Entry) (offset : ℕ) (base : List ℕ) (es : List Entry) (region : List ℕ) → Out Refusal Dictionary
 behindBlocks t rows n ns offset base es region =
     check (eqb offset (behind base region)) Dict (check (eqb (length es) n) Dict (ok (record { rows = rows; entries = ns ++ es; region = region })))
 

@@ -7,6 +7,7 @@ use lib.Dec.{eqb, ltb}
 use lib.IntN.{pos}
 use lib.ListN.{length, take, drop, getD}
 use Rattle.numbers.specs.Meaning.{beAt}
+use Rattle.refusal.specs.declared.Refusal.{Refusal}
 use Rattle.refusal.specs.declared.Refusal.the-variants.{Short, Dict}
 use Rattle.stored_value.specs.Meaning.{Cell, null, value}
 use Rattle.refusal.specs.Reading.{Out, refuse, ok}
@@ -39,18 +40,18 @@ TakenAt t i s at v r = (n : ℕ) (es : List Entry) → Stand t false n (drop at 
 
 -- a count at a position
 abbrev pub CountAt : ℕ → List ℕ → ℕ → Count → Type 0
-CountAt most s at (Count.Refused r) = (f : ℕ → List ℕ → Out Dictionary) → counted most (drop at s) f ≡ refuse r
-CountAt most s at (Is n) = ((f : ℕ → List ℕ → Out Dictionary) → counted most (drop at s) f ≡ f n (drop (at + 4) s)) × (at + 4 ≤ length s) × (n ≤ most)
+CountAt most s at (Count.Refused r) = (f : ℕ → List ℕ → Out Refusal Dictionary) → counted most (drop at s) f ≡ refuse r
+CountAt most s at (Is n) = ((f : ℕ → List ℕ → Out Refusal Dictionary) → counted most (drop at s) f ≡ f n (drop (at + 4) s)) × (at + 4 ≤ length s) × (n ≤ most)
 
 -- null's entry, if there is one, at a position
 abbrev pub NullAt : Bool → Bool → List ℕ → ℕ → Null → Type 0
-NullAt two has s at (Null.Refused r) = (f : List Entry → List ℕ → Out Dictionary) → nullOf two has (drop at s) f ≡ refuse r
+NullAt two has s at (Null.Refused r) = (f : List Entry → List ℕ → Out Refusal Dictionary) → nullOf two has (drop at s) f ≡ refuse r
 NullAt two has s at (Numbers offset extent next) =
-    ((f : List Entry → List ℕ → Out Dictionary) → nullOf two has (drop at s) f ≡ f (nulls has offset extent) (drop (next .0) s)) × (next .0 ≤ length s)
+    ((f : List Entry → List ℕ → Out Refusal Dictionary) → nullOf two has (drop at s) f ≡ f (nulls has offset extent) (drop (next .0) s)) × (next .0 ≤ length s)
     × (has ≡ false → (offset ≡ pos 0) × (extent ≡ 0))
 
 -- the entries of either version
-abbrev pub entriesOf : Bool → ℕ → ℕ → ℕ → List Entry → List ℕ → Out Dictionary
+abbrev pub entriesOf : Bool → ℕ → ℕ → ℕ → List Entry → List ℕ → Out Refusal Dictionary
 entriesOf two t rows n ns s = cond two (blocked t rows n ns s) (entriesOne t rows n ns [] s)
 
 -- the ten bytes that every dictionary begins with
@@ -70,9 +71,9 @@ Listed t s (d ∷ ds) =
 
 -- n listings at a position, and where they end
 abbrev pub DirectoryAt : ℕ → ℕ → List ℕ → ℕ → Directory → Type 0
-DirectoryAt t n s at (Directory.Refused r) = (f : List Listing → List ℕ → Out Dictionary) → listings t n [] (drop at s) f ≡ refuse r
+DirectoryAt t n s at (Directory.Refused r) = (f : List Listing → List ℕ → Out Refusal Dictionary) → listings t n [] (drop at s) f ≡ refuse r
 DirectoryAt t n s at (Directory.Ends next) =
-    (ds : List Listing) × ((f : List Listing → List ℕ → Out Dictionary) → listings t n [] (drop at s) f ≡ f ds (drop (next .0) s))
+    (ds : List Listing) × ((f : List Listing → List ℕ → Out Refusal Dictionary) → listings t n [] (drop at s) f ≡ f ds (drop (next .0) s))
     × Listed t (drop at s) ds × (length ds ≡ n) × (next .0 ≤ length s)
 
 -- the value that a span has, none where it has no bytes
@@ -82,9 +83,9 @@ cellAt s c = cond (ltb (c .start .0) (c .end .0)) (value (take (c .end .0 - c .s
 -- n entries of a block at a position, behind `before` and headed by `head`: where they end, and the last value
 abbrev pub PassedAt : ℕ → ℕ → Cell → Cell → List ℕ → ℕ → Passed → Type 0
 PassedAt t n before head s at (Passed.Refused r) =
-    (es : List Entry) (f : Cell → List Entry → List ℕ → Out Dictionary) → entriesTwo t n before head es (drop at s) f ≡ refuse r
+    (es : List Entry) (f : Cell → List Entry → List ℕ → Out Refusal Dictionary) → entriesTwo t n before head es (drop at s) f ≡ refuse r
 PassedAt t n before head s at (Passed.To next last) =
-    ((new : List Entry) × ((es : List Entry) (f : Cell → List Entry → List ℕ → Out Dictionary)
+    ((new : List Entry) × ((es : List Entry) (f : Cell → List Entry → List ℕ → Out Refusal Dictionary)
     → entriesTwo t n before head es (drop at s) f ≡ f (cellAt s last) (es ++ new) (drop (next .0) s))
     × (length new ≡ n) × ((more : List Entry) → Stand t true 0 (drop (next .0) s) more → Stand t true n (drop at s) (new ++ more)))
     × (at ≤ next .0) × (next .0 ≤ length s) × (last .end .0 ≤ length s)
@@ -93,10 +94,10 @@ PassedAt t n before head s at (Passed.To next last) =
 abbrev pub BlockAt : ℕ → Cell → List ℕ → ℕ → ℕ → ℕ → Block → Type 0
 BlockAt t before s base q p (Block.Refused r) =
     (d : Listing) (ds : List Listing) → Listed t (drop q s) (d ∷ ds)
-    → (es : List Entry) (f : List Entry → List ℕ → Out Dictionary) → blocksOf t (d ∷ ds) (drop base s) before es (drop p s) f ≡ refuse r
+    → (es : List Entry) (f : List Entry → List ℕ → Out Refusal Dictionary) → blocksOf t (d ∷ ds) (drop base s) before es (drop p s) f ≡ refuse r
 BlockAt t before s base q p (Block.Ends listing next last number) =
     ((d : Listing) (ds : List Listing) → Listed t (drop q s) (d ∷ ds) → Listed t (drop (listing .0) s) ds
-    × ((new : List Entry) × ((es : List Entry) (f : List Entry → List ℕ → Out Dictionary)
+    × ((new : List Entry) × ((es : List Entry) (f : List Entry → List ℕ → Out Refusal Dictionary)
     → blocksOf t (d ∷ ds) (drop base s) before es (drop p s) f ≡ blocksOf t ds (drop base s) (cellAt s last) (es ++ new) (drop (next .0) s) f)
     × (length new ≡ number) × ((more : List Entry) → Stand t true 0 (drop (next .0) s) more → Stand t true 0 (drop p s) (new ++ more))))
     × (p ≤ next .0) × (next .0 ≤ length s) × (last .end .0 ≤ length s) × (number < 2147483648)
@@ -105,10 +106,10 @@ BlockAt t before s base q p (Block.Ends listing next last number) =
 abbrev pub BlocksAt : ℕ → ℕ → List ℕ → ℕ → ℕ → Blocks → Type 0
 BlocksAt t b s dir base (Blocks.Refused r) =
     (ds : List Listing) → Listed t (drop dir s) ds → length ds ≡ b
-    → (f : List Entry → List ℕ → Out Dictionary) → blocksOf t ds (drop base s) null [] (drop base s) f ≡ refuse r
+    → (f : List Entry → List ℕ → Out Refusal Dictionary) → blocksOf t ds (drop base s) null [] (drop base s) f ≡ refuse r
 BlocksAt t b s dir base (Blocks.End next sum) =
     ((ds : List Listing) → Listed t (drop dir s) ds → length ds ≡ b
-    → (es : List Entry) × ((f : List Entry → List ℕ → Out Dictionary) → blocksOf t ds (drop base s) null [] (drop base s) f ≡ f es (drop (next .0) s))
+    → (es : List Entry) × ((f : List Entry → List ℕ → Out Refusal Dictionary) → blocksOf t ds (drop base s) null [] (drop base s) f ≡ f es (drop (next .0) s))
     × (length es ≡ sum) × Stand t true 0 (drop base s) es)
     × (base ≤ next .0) × (next .0 ≤ length s)
 

@@ -11,6 +11,7 @@ use mir.Syntax.{w32}
 use mir.Val.{ofZ}
 use Rattle.numbers.specs.declared.Position.{Position}
 use Rattle.numbers.specs.Meaning.{beAt, signed32}
+use Rattle.refusal.specs.declared.Refusal.{Refusal}
 use Rattle.refusal.specs.declared.Refusal.the-variants.{Short, Dict}
 use Rattle.stored_value.specs.Meaning.{null, value}
 use Rattle.refusal.specs.Reading.{Out, refuse, ok}
@@ -91,7 +92,7 @@ abbrev pub entryTo : Bool → List ℕ → ℕ → ℕ → ℕ → EntryAt
 entryTo two s at n e =
     record { start = position at; end = position e; offset = signed32 (beAt 4 s e); extent = extentAt two e s; «next_at» = position (e + tail two); left = n - 1 }
 
-unfoldable pub entrySized : Bool → List ℕ → ℕ → ℕ → Out ℕ → EntryAt
+unfoldable pub entrySized : Bool → List ℕ → ℕ → ℕ → Out Refusal ℕ → EntryAt
 entrySized two s at n (refuse r) = noEntry
 entrySized two s at n (ok k) = cond (leb (at + k + tail two) (length s)) (entryTo two s at n (at + k)) noEntry
 

@@ -5,6 +5,7 @@ use mathlib.Core.List.{List, [], _∷_, _++_}
 use lib.Dec.{eqb, ltb, leb}
 use lib.ListN.{length}
 use Rattle.numbers.specs.Meaning.{big, number, same}
+use Rattle.refusal.specs.declared.Refusal.{Refusal}
 use Rattle.refusal.specs.declared.Refusal.the-variants.{Short, Version, Dict, Limit}
 use Rattle.stored_value.specs.Meaning.{Cell, null, value, less}
 use Rattle.refusal.specs.Reading.{Out, refuse, ok, check}
@@ -12,7 +13,7 @@ use Rattle.stored_value.specs.Reading.{valueOf}
 use Rattle.dictionary.specs.Layout.{Entry, someHas, minusOne}
 
 -- a count of four bytes, big-endian and signed: SHORT; a negative one is DICT, one above `most` LIMIT
-unfoldable pub counted : {A : Type 0} → ℕ → List ℕ → (ℕ → List ℕ → Out A) → Out A
+unfoldable pub counted : {A : Type 0} → ℕ → List ℕ → (ℕ → List ℕ → Out Refusal A) → Out Refusal A
 counted most s k = number big 4 (refuse Short) s (λ n s. check (ltb n 2147483648) Dict (check (leb n most) Limit (k n s)))
 
 -- what a dictionary says: the row count, the entries in stored order, null's first, and the bytes of the region, 01's body of bitmaps
@@ -22,7 +23,7 @@ pub record Dictionary : Type 0 where
   pub region : List ℕ
 
 -- version 1: n entries to come, `nulls` and `es` those before
-unfoldable pub entriesOne : ℕ → ℕ → ℕ → List Entry → List Entry → List ℕ → Out Dictionary
+unfoldable pub entriesOne : ℕ → ℕ → ℕ → List Entry → List Entry → List ℕ → Out Refusal Dictionary
 entriesOne t rows zero nulls es s = ok (record { rows = rows; entries = nulls ++ es; region = s })
 entriesOne t rows (suc n) nulls es s =
     valueOf Short Dict t s (λ v s. check (not (someHas (value v) es)) Dict
@@ -33,7 +34,7 @@ pub record Listing : Type 0 where
   pub first : List ℕ
   pub at : ℕ
 
-unfoldable pub listings : {A : Type 0} → ℕ → ℕ → List Listing → List ℕ → (List Listing → List ℕ → Out A) → Out A
+unfoldable pub listings : {A : Type 0} → ℕ → ℕ → List Listing → List ℕ → (List Listing → List ℕ → Out Refusal A) → Out Refusal A
 listings t zero ds s k = k ds s
 listings t (suc n) ds s k =
     valueOf Short Dict t s (λ v s. number big 4 (refuse Short) s (λ at s. listings t n (ds ++ (record { first = v; at = at } ∷ [])) s k))
@@ -49,7 +50,7 @@ heads null v = true
 heads (value w) v = same w v
 
 -- n entries of a block, in which `es` came before: `before` is the value before, if there is one, and `head` what the next value must be, if anything
-unfoldable pub entriesTwo : {A : Type 0} → ℕ → ℕ → Cell → Cell → List Entry → List ℕ → (Cell → List Entry → List ℕ → Out A) → Out A
+unfoldable pub entriesTwo : {A : Type 0} → ℕ → ℕ → Cell → Cell → List Entry → List ℕ → (Cell → List Entry → List ℕ → Out Refusal A) → Out Refusal A
 entriesTwo t zero before head es s k = k before es s
 entriesTwo t (suc n) before head es s k =
     valueOf Short Dict t s (λ v s. check (past t before v && heads head v) Dict
@@ -61,7 +62,7 @@ unfoldable pub behind : List ℕ → List ℕ → ℕ
 behind base s = length base - length s
 
 -- the blocks of the directory. base begins behind the body offset, the byte that block offsets count from: each block begins where the one before ended
-unfoldable pub blocksOf : ℕ → List Listing → List ℕ → Cell → List Entry → List ℕ → (List Entry → List ℕ → Out Dictionary) → Out Dictionary
+unfoldable pub blocksOf : ℕ → List Listing → List ℕ → Cell → List Entry → List ℕ → (List Entry → List ℕ → Out Refusal Dictionary) → Out Refusal Dictionary
 blocksOf t [] base before es s k = k es s
 blocksOf t (d ∷ ds) base before es s k =
     check (eqb (d .at) (behind base s)) Dict
@@ -69,7 +70,7 @@ blocksOf t (d ∷ ds) base before es s k =
     (entriesTwo t n before (value (d .first)) es s (λ before es s. blocksOf t ds base before es s k))))
 
 -- no blocks exactly when there is no value; the body offset, then the sum of entry numbers, are tested behind the last block
-unfoldable pub blocked : ℕ → ℕ → ℕ → List Entry → List ℕ → Out Dictionary
+unfoldable pub blocked : ℕ → ℕ → ℕ → List Entry → List ℕ → Out Refusal Dictionary
 blocked t rows n nulls s =
     counted 65536 s (λ b s. check (cond (eqb n 0) (eqb b 0) (leb 1 b)) Dict
     (listings t b [] s (λ ds s. number big 4 (refuse Short) s (λ offset base.
@@ -78,13 +79,13 @@ blocked t rows n nulls s =
     (ok (record { rows = rows; entries = nulls ++ es; region = region }))))))))
 
 -- null's entry, if there is one; in version 2 with a length
-unfoldable pub nullOf : Bool → Bool → List ℕ → (List Entry → List ℕ → Out Dictionary) → Out Dictionary
+unfoldable pub nullOf : Bool → Bool → List ℕ → (List Entry → List ℕ → Out Refusal Dictionary) → Out Refusal Dictionary
 nullOf two false s k = k [] s
 nullOf false true s k = number big 4 (refuse Short) s (λ offset s. k (record { cell = null; offset = offset; extent = minusOne } ∷ []) s)
 nullOf true true s k =
     number big 4 (refuse Short) s (λ offset s. number big 4 (refuse Short) s (λ extent s. k (record { cell = null; offset = offset; extent = extent } ∷ []) s))
 
-unfoldable pub dictionary : ℕ → List ℕ → Out Dictionary
+unfoldable pub dictionary : ℕ → List ℕ → Out Refusal Dictionary
 dictionary t s =
     number big 1 (refuse Short) s (λ version s. check (eqb version 1 || eqb version 2) Version
     (counted 2147483647 s (λ rows s. counted (cond (eqb version 1) 4096 65536) s (λ n s.

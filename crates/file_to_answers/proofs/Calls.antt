@@ -42,17 +42,17 @@ said-told : (b : Bool) (m : ℕ) → cond b (Told.Keep m) Told.Skip ≡ toldOf (
 said-told true m = refl
 said-told false m = refl
 
-asked-told : (o : Out Answer) → askedOf o ≡ toldOf (answeredBy o)
+asked-told : (o : Out Refusal Answer) → askedOf o ≡ toldOf (answeredBy o)
 unfolding askedOf answeredBy said
 asked-told (refuse r) = refl
 asked-told (ok a) = said-told (keeps (a .matched)) (a .matched)
 
-audit-refuses : (o : Out ℕ) (r : Refusal) → auditedBy o ≡ Audited.Refused r → o ≡ refuse r
+audit-refuses : (o : Out Refusal ℕ) (r : Refusal) → auditedBy o ≡ Audited.Refused r → o ≡ refuse r
 unfolding auditedBy
 audit-refuses (refuse q) r e = cc
 audit-refuses (ok n) r e = absurd (let z : _≡_ {A = ℕ} 0 1 = cc in omega arith)
 
-audit-counts : (o : Out ℕ) (n : ℕ) → auditedBy o ≡ Rows n → o ≡ ok n
+audit-counts : (o : Out Refusal ℕ) (n : ℕ) → auditedBy o ≡ Rows n → o ≡ ok n
 unfolding auditedBy
 audit-counts (refuse q) n e = absurd (let z : _≡_ {A = ℕ} 0 1 = cc in omega arith)
 audit-counts (ok m) n e = cc

@@ -3,6 +3,7 @@ use Prim.Native.Nat.{ℕ}
 use mathlib.Core.Bool.{cond}
 use mathlib.Core.List.{List}
 use lib.Dec.{eqb}
+use Rattle.refusal.specs.declared.Refusal.{Refusal}
 use Rattle.refusal.specs.Meaning.{numberOf}
 use Rattle.refusal.specs.Reading.{Out, refuse, ok, andThen}
 use Rattle.index_file.specs.Reading.{lookedAt, located, answerOf, partOf}
@@ -15,7 +16,7 @@ use Rattle.file_to_answers.specs.declared.Told.the-variants.{Absent, Ref
 unfoldable pub said : ℕ → Told
 said matched = cond (keeps matched) (Keep matched) Skip
 
-unfoldable pub askedOf : Out Answer → Told
+unfoldable pub askedOf : Out Refusal Answer → Told
 askedOf (refuse r) = Refused (numberOf r)
 askedOf (ok a) = said (a .matched)
 
@@ -23,7 +24,7 @@ askedOf (ok a) = said (a .matched)
 unfoldable pub bodyTold : ℕ → ℕ → List ℕ → List ℕ → List ℕ → Told
 bodyTold t q literal field body = askedOf (andThen (audit t body field) (λ rows. ask t q literal body (auditBuffer t body field)))
 
-unfoldable pub auditedBuffer : Out ℕ → List ℕ → List ℕ → List ℕ
+unfoldable pub auditedBuffer : Out Refusal ℕ → List ℕ → List ℕ → List ℕ
 auditedBuffer (refuse r) after next = after
 auditedBuffer (ok n) after next = next
 

@@ -8,6 +8,9 @@ ghost use Rattle.numbers.specs.Meaning as meaning;
 // A byte position in a buffer: a kind of its own (document 01), which no row number can stand in for.
 pub struct Position(pub usize);
 
+// A row number: a kind of its own (document 01), which no byte position can stand in for.
+pub struct Row(pub u64);
+
 fn wide(x: u8) -> u64
     ensures { λ r. ⌜ (r ≡ x) × (r < 256) ⌝ }
 {

@@ -3,18 +3,20 @@ use Prim.Native.Nat.{ℕ}
 use mathlib.Core.Path.{_≡_, refl}
 use mathlib.Core.Bool.{Bool, true, false}
 use native.Mathlib.Omega.{arith}
-use Rattle.refusal.specs.declared.Refusal.{Refusal}
 use Rattle.refusal.specs.Reading.{Out, refuse, ok, check, andThen}
 
-pub not-ok : {A : Type 0} {r : Refusal} {a : A} → refuse r ≡ ok a → ⊥
+pub not-ok : {R A : Type 0} {r : R} {a : A} → refuse r ≡ ok a → ⊥
 not-ok e = let z : _≡_ {A = ℕ} 0 1 = cc in omega arith
 
-pub check-ok : {A : Type 0} (b : Bool) (r : Refusal) (x : Out A) (a : A) → check b r x ≡ ok a → (b ≡ true) × (x ≡ ok a)
+pub ok-same : {R A : Type 0} (a b : A) → _≡_ {A = Out R A} (ok a) (ok b) → a ≡ b
+ok-same a b e = cc
+
+pub check-ok : {R A : Type 0} (b : Bool) (r : R) (x : Out R A) (a : A) → check b r x ≡ ok a → (b ≡ true) × (x ≡ ok a)
 unfolding check
 check-ok true r x a e = (refl, e)
 check-ok false r x a e = absurd (not-ok e)
 
-pub then-ok : {A B : Type 0} (x : Out A) (k : A → Out B) (b : B) → andThen x k ≡ ok b → (a : A) × (x ≡ ok a) × (k a ≡ ok b)
+pub then-ok : {R A B : Type 0} (x : Out R A) (k : A → Out R B) (b : B) → andThen x k ≡ ok b → (a : A) × (x ≡ ok a) × (k a ≡ ok b)
 unfolding andThen
 then-ok (refuse r) k b e = absurd (not-ok e)
 then-ok (ok a) k b e = (a, refl, e)

@@ -1,17 +1,26 @@
--- What a stage of a call comes to, and stages in turn: the first refusal ends the call, so that the order of refusals is that of the stages.
+-- What a stage of a call comes to, stages in turn, and what a call then says in numbers. The first refusal ends the call, so that the order of refusals is
+-- that of the stages.
+use Prim.Native.Nat.{ℕ}
 use mathlib.Core.Bool.{Bool, true, false}
 use Rattle.refusal.specs.declared.Refusal.{Refusal}
+use Rattle.refusal.specs.Meaning.{numberOf}
 
--- a refusal, or what was read
-pub data Out (A : Type 0) : Type 0 where
-  refuse : Refusal → Out A
-  ok : A → Out A
+-- a refusal, or what was read. A crate that knows no refusal of 01 has a type of its own for the reason, R
+pub data Out (R A : Type 0) : Type 0 where
+  refuse : R → Out R A
+  ok : A → Out R A
 
 -- what follows where the test holds, else the refusal
-unfoldable pub check : {A : Type 0} → Bool → Refusal → Out A → Out A
+unfoldable pub check : {R A : Type 0} → Bool → R → Out R A → Out R A
 check true r o = o
 check false r o = refuse r
 
-unfoldable pub andThen : {A B : Type 0} → Out A → (A → Out B) → Out B
+unfoldable pub andThen : {R A B : Type 0} → Out R A → (A → Out R B) → Out R B
 andThen (refuse r) k = refuse r
 andThen (ok a) k = k a
+
+-- what a reading stands for in numbers, for every call: the answer's number, in 01's table for a refusal, and its values, `none` with a refusal. `accepted`
+-- has both for an accepted answer
+unfoldable pub numbersOf : {A B : Type 0} → B → (A → ℕ × B) → Out Refusal A → ℕ × B
+numbersOf none accepted (refuse r) = (numberOf r, none)
+numbersOf none accepted (ok a) = accepted a

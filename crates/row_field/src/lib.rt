@@ -9,10 +9,8 @@ ghost use Rattle.row_field.specs.Meaning as meaning;
 ghost use Rattle.row_field.specs.Reading.{subtraction, fieldAfter, subtractOut};
 ghost use Rattle.row_field.specs.Promises.{anySeen, byteRows};
 use numbers::Position;
+use numbers::Row;
 use refusal::Refusal;
-
-// A row number: a kind of its own (document 01), which no byte position can stand in for.
-pub struct Row(pub u64);
 
 // How many bytes the field for `rows` rows takes.
 pub fn bytes_for(rows: u64) -> u64

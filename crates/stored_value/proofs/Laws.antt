@@ -45,7 +45,7 @@ sameCell-sym (value v) (value w) = same-sym v w
 -- ---- the size of a value: a number's, and a string's
 
 -- what is asked of a string's length, and of the bytes behind it
-abbrev pub stringSize : Refusal → Refusal → ℕ → List ℕ → Out ℕ
+abbrev pub stringSize : Refusal → Refusal → ℕ → List ℕ → Out Refusal ℕ
 stringSize short broken n rest = check (ltb n 2147483648) broken (check (leb n 65535) Limit (check (leb n (length rest)) short (ok (4 + n))))
 
 module _ (short broken : Refusal) (t : ℕ) (s : List ℕ) where
@@ -81,7 +81,7 @@ value-laid short broken t v tail (string c n l b) h =
     ∙ number-laid big 4 (refuse short) (length c) (c ++ tail) (stringSize short broken) (omega arith)
     ∙ rw (lt-ltb (length c) 2147483648 p, le-leb (length c) 65535 l, le-leb (length c) (length (c ++ tail)) q) (ap ok (omega arith))
 
-never : {A X : Type 0} (o : Out A) (r : Refusal) (a : A) → o ≡ refuse r → o ≡ ok a → X
+never : {A X : Type 0} (o : Out Refusal A) (r : Refusal) (a : A) → o ≡ refuse r → o ≡ ok a → X
 never o r a e f = absurd (let z : _≡_ {A = ℕ} 0 1 = cc in omega arith)
 
 -- what is said of a value that was read
@@ -116,7 +116,7 @@ module _ (short broken : Refusal) (t : ℕ) (s : List ℕ) (k : ℕ) (h : Bytes 
 
   read-string : isString t ≡ true → Read t s k
   read-string n =
-      on-number big 4 (refuse short) (λ (x : Out ℕ). x ≡ ok k) (λ (l : List ℕ). Read t l k) s (stringSize short broken)
+      on-number big 4 (refuse short) (λ (x : Out Refusal ℕ). x ≡ ok k) (λ (l : List ℕ). Read t l k) s (stringSize short broken)
       (never (refuse short) short k refl) h (sym (size-string short broken t s n) ∙ e)
       (λ v c _ hc x. string-whole v c hc x)
     where
@@ -158,12 +158,12 @@ value-length t v (string c n l b) = omega arith
 -- ---- whether a value is listed, of literals that are read
 
 module _ (v : List ℕ) (b : Bool) where
-  pub lists-by : (o : Out (List (List ℕ))) → ((ls : List (List ℕ)) → o ≡ ok ls → b ≡ listed v ls) → Lists v o b
+  pub lists-by : (o : Out Refusal (List (List ℕ))) → ((ls : List (List ℕ)) → o ≡ ok ls → b ≡ listed v ls) → Lists v o b
   lists-by (refuse r) f = tt
   lists-by (ok ls) f = f ls refl
 
-  pub lists-read : {o : Out (List (List ℕ))} (ls : List (List ℕ)) → o ≡ ok ls → Lists v o b → b ≡ listed v ls
-  lists-read ls e = subst (λ (x : Out (List (List ℕ))). Lists v x b → b ≡ listed v ls) (sym e) (λ x. x)
+  pub lists-read : {o : Out Refusal (List (List ℕ))} (ls : List (List ℕ)) → o ≡ ok ls → Lists v o b → b ≡ listed v ls
+  lists-read ls e = subst (λ (x : Out Refusal (List (List ℕ))). Lists v x b → b ≡ listed v ls) (sym e) (λ x. x)
 
 -- ---- literals: laid out, so read; read, so laid out
 
@@ -213,7 +213,7 @@ back-from t zero acc (b ∷ s) ls h e = never _ Limit ls (literals-full t acc (b
 back-from t (suc n) acc [] ls h e = none t (suc n) acc ls e
 back-from t (suc n) acc (b ∷ s) ls h e = by (valueSize Literal Literal t (b ∷ s)) refl (λ k. back-from t n _ (drop k (b ∷ s)) ls (bytes-drop k (b ∷ s) h))
   where
-    by : (o : Out ℕ) → valueSize Literal Literal t (b ∷ s) ≡ o
+    by : (o : Out Refusal ℕ) → valueSize Literal Literal t (b ∷ s) ≡ o
         → ((k : ℕ) → literals t n (acc ++ (take k (b ∷ s) ∷ [])) (drop k (b ∷ s)) ≡ ok ls → From t n (acc ++ (take k (b ∷ s) ∷ [])) (drop k (b ∷ s)) ls)
         → From t (suc n) acc (b ∷ s) ls
     by (refuse r) v next = never _ r ls (literals-refused t acc (b ∷ s) (omega arith) n r v) e

@@ -148,12 +148,12 @@ module _ (short broken : Refusal) (t : ℕ) (s : List ℕ) (p : ℕ) where
       by (no w) = number-cut (omega arith) (omega arith)
 
 -- what `size` answered is what was read
-pub size-refused : (o : Out ℕ) (x : Sized) (r : Refusal) → x ≡ sizedBy o → x ≡ Sized.Refused r → o ≡ refuse r
+pub size-refused : (o : Out Refusal ℕ) (x : Sized) (r : Refusal) → x ≡ sizedBy o → x ≡ Sized.Refused r → o ≡ refuse r
 unfolding sizedBy
 size-refused (refuse q) x r e f = cc
 size-refused (ok n) x r e f = cc
 
-pub size-bytes : (o : Out ℕ) (x : Sized) (n : ℕ) → x ≡ sizedBy o → x ≡ Sized.Bytes n → o ≡ ok n
+pub size-bytes : (o : Out Refusal ℕ) (x : Sized) (n : ℕ) → x ≡ sizedBy o → x ≡ Sized.Bytes n → o ≡ ok n
 unfolding sizedBy
 size-bytes (refuse q) x n e f = cc
 size-bytes (ok m) x n e f = cc
