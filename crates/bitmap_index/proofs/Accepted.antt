@@ -1,5 +1,5 @@
 -- A body that the audit accepts: no row stands under two entries, and none is left over. So row r holds the cell of the one entry that has it, and the
--- body is that column's. Assumes nothing.
+-- body is that column's.
 use Prim.Native.Nat.{ℕ, zero, suc, _+_, _*_, _/_, _<_, _≤_}
 use mathlib.Core.Path.{_≡_, refl, sym, ap, _∙_, subst}
 use mathlib.Core.Bool.{Bool, true, false, cond, or-true}

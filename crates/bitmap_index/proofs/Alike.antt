@@ -1,5 +1,5 @@
 -- Questions tell columns apart: IS NULL chooses null rows alone, and EQUAL the rows of one value alone. So two columns of which the scan answers every
--- well-formed question alike are the same. Assumes nothing.
+-- well-formed question alike are the same.
 use Prim.Native.Nat.{ℕ, zero, suc, _<_}
 use mathlib.Core.Path.{_≡_, refl, sym, ap, _∙_}
 use mathlib.Core.Bool.{Bool, true, false, _||_}

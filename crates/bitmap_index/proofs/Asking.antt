@@ -1,4 +1,4 @@
--- Ask, stage by stage: the question, the audit, then the rows of the chosen entries and their count. Assumes nothing.
+-- Ask, stage by stage: the question, the audit, then the rows of the chosen entries and their count.
 use Prim.Native.Nat.{ℕ, zero, suc, _<_, _≤_}
 use mathlib.Core.Path.{_≡_, refl, sym, _∙_}
 use mathlib.Core.Bool.{Bool, true, false, cond}

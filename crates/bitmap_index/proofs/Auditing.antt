@@ -1,4 +1,4 @@
--- Audit, stage by stage: what was placed and counted is what the reading says, and the field is zero again. Assumes nothing.
+-- Audit, stage by stage: what was placed and counted is what the reading says, and the field is zero again.
 use Prim.Native.Nat.{ℕ, zero, suc, _<_, _≤_}
 use mathlib.Core.Path.{_≡_, refl, ap, _∙_}
 use mathlib.Core.Bool.{Bool, true, false}

@@ -1,4 +1,4 @@
--- Which entries a question chooses, by the code's cases on its number. Assumes nothing.
+-- Which entries a question chooses, by the code's cases on its number.
 use Prim.Native.Nat.{ℕ}
 use mathlib.Core.Path.{_≡_, ap}
 use mathlib.Core.Logic.{inl, inr, ⊎-elim}

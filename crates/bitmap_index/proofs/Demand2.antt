@@ -1,5 +1,5 @@
 -- Demand 2: a body that Audit accepts is the body of exactly one column, every row of which has exactly one place, and Ask answers as the scan of that
--- column. What Audit refuses, lent room for any row count, is no column's body. Assumes nothing.
+-- column. What Audit refuses, lent room for any row count, is no column's body.
 use Prim.Native.Nat.{ℕ, _+_, _<_, _≤_}
 use mathlib.Core.Path.{_≡_, sym, ap, _∙_}
 use mathlib.Core.Logic.{_↔_}

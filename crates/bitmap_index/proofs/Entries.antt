@@ -1,4 +1,4 @@
--- The rows of several entries, one after the other: what is placed first, then the rest. Assumes nothing.
+-- The rows of several entries, one after the other: what is placed first, then the rest.
 use Prim.Native.Nat.{ℕ}
 use mathlib.Core.Path.{_≡_, refl, sym, ap, _∙_}
 use mathlib.Core.Bool.{Bool, true, false, cond}

@@ -1,4 +1,4 @@
--- Offsets as the code takes them: the signed number z that an `i32` holds, and the single row -1 - z of a negative one. Assumes nothing.
+-- Offsets as the code takes them: the signed number z that an `i32` holds, and the single row -1 - z of a negative one.
 use Prim.Native.Nat.{ℕ, suc, _-_, _<_}
 use mathlib.Core.Path.{_≡_, refl, ap, _∙_}
 use mathlib.Core.Bool.{true, false}

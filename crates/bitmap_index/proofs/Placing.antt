@@ -1,4 +1,4 @@
--- Placing rows: what marking answers, put into the reading, and that no byte behind a field of n rows changes. Assumes nothing.
+-- Placing rows: what marking answers, put into the reading, and that no byte behind a field of n rows changes.
 use Prim.Native.Nat.{ℕ, zero, suc, _-_, _/_, _<_, _≤_}
 use mathlib.Core.Path.{_≡_, refl, sym, ap, _∙_}
 use mathlib.Core.Bool.{Bool, true, false, _||_}

@@ -1,5 +1,5 @@
 -- The rows of a column whose cells pass a test: what marking them makes of a field, and how many they are. The scan marks such rows, and so does
--- each entry. Assumes nothing.
+-- each entry.
 use Prim.Native.Nat.{ℕ, zero, suc, _+_, _*_, _/_, _<_, _≤_}
 use mathlib.Core.Path.{_≡_, refl, sym, ap, _∙_}
 use mathlib.Core.Bool.{Bool, true, false, _||_, cond}

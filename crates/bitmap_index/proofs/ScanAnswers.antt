@@ -1,5 +1,5 @@
 -- A body of a column, audited and asked behind its dictionary, answers as the scan. What is marked is always the rows of the cells that pass a test: none
--- at first, and with each entry those of its cell besides. Assumes nothing.
+-- at first, and with each entry those of its cell besides.
 use Prim.Native.Nat.{ℕ, suc, _+_, _-_, _<_, _≤_}
 use mathlib.Core.Path.{_≡_, refl, sym, ap, _∙_}
 use mathlib.Core.Logic.{_⊎_, inl, inr}
@@ -11,7 +11,7 @@ use borrow.Author.Tests.{eq-eqb, ne-eqb, lt-ltb, le-ltb, lt-leb}
 use lib.IntN.{ℤ, pos, negsuc}
 use lib.ListN.{length, drop, replicate, length-append}
 use lib.Seq.{drop-at}
-use Rattle.numbers.specs.Meaning.{signed32, Bytes}
+use Rattle.numbers.specs.Meaning.{signed32, Bytes, minusOne}
 use Rattle.row_field.specs.Meaning.{size, bit, mark, markAll, anySet, fieldOf, cleared, count}
 use Rattle.row_field.proofs.Marks.{Below}
 use Rattle.roaring.specs.declared.Extent.{Extent}
@@ -21,7 +21,7 @@ use Rattle.stored_value.specs.Meaning.{Cell, sameCell}
 use Rattle.refusal.specs.declared.Refusal.{Refusal}
 use Rattle.refusal.specs.Reading.{Out, ok, check, andThen}
 use Rattle.stored_value.proofs.Laws.{sameCell→eq, sameCell-sym}
-use Rattle.dictionary.specs.Layout.{Entry, minusOne, someHas}
+use Rattle.dictionary.specs.Layout.{Entry, someHas}
 use Rattle.dictionary.proofs.Theorems.{Once}
 use Rattle.bitmap_index.specs.Meaning.{chosen, scan, scanFrom}
 use Rattle.bitmap_index.specs.Layout.{rowsWith, Placed, single, bitmap, AllPlaced, Covers}

@@ -1,5 +1,5 @@
 -- What Audit and Ask accepted, taken apart: each test was passed, and at the place of each entry there are rows, in order, below the row count, none of them
--- set before. Assumes nothing.
+-- set before.
 use Prim.Native.Nat.{ℕ, _-_, _<_, _≤_}
 use mathlib.Core.Path.{_≡_, refl, sym, ap, _∙_}
 use mathlib.Core.Logic.{_⊎_, inl, inr}
@@ -11,8 +11,8 @@ use lib.Dec.{eqb, ltb, leb}
 use lib.IntN.{ℤ, pos, negsuc}
 use lib.ListN.{length, take, drop, length-append, length-drop, take-append-drop}
 use lib.Seq.{length-take-le}
-use Rattle.numbers.specs.Meaning.{signed32, Bytes}
-use Rattle.numbers.proofs.Laws.{bytes-drop}
+use Rattle.numbers.specs.Meaning.{signed32, Bytes, minusOne}
+use Rattle.numbers.proofs.ByteLists.{bytes-drop}
 use Rattle.refusal.specs.Meaning.{limit}
 use Rattle.refusal.specs.declared.Refusal.{Refusal}
 use Rattle.refusal.specs.declared.Refusal.the-variants.{Bitmap, Range, Twice}
@@ -27,7 +27,7 @@ use Rattle.roaring.proofs.Theorems.{read-was-laid-out, rows-rising}
 use Rattle.refusal.proofs.Laws.{check-ok, then-ok}
 use Rattle.refusal.specs.Reading.{refuse, ok, andThen}
 use Rattle.stored_value.specs.Reading.{literals}
-use Rattle.dictionary.specs.Layout.{Entry, minusOne}
+use Rattle.dictionary.specs.Layout.{Entry}
 use Rattle.dictionary.specs.Reading.{Dictionary, dictionary}
 use Rattle.bitmap_index.specs.Meaning.{takes}
 use Rattle.bitmap_index.specs.Layout.{Placed, single, bitmap}

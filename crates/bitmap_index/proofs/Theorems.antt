@@ -1,4 +1,4 @@
--- A body of a column, audited and asked, answers as the scan (01, demand 3, from body to answers). Assumes nothing.
+-- A body of a column, audited and asked, answers as the scan (01, demand 3, from body to answers).
 use mathlib.Core.Path.{_≡_, ap}
 use mathlib.Core.Logic.{⊎-elim}
 use Prim.Native.Nat.{ℕ, zero, suc, _*_, _≤_, _<_}

@@ -1,4 +1,4 @@
--- A body of another version than 1 and 2, audited and asked. Assumes nothing.
+-- A body of another version than 1 and 2, audited and asked.
 use Prim.Native.Nat.{ℕ}
 use mathlib.Core.Path.{_≡_, refl, ap, _∙_}
 use mathlib.Core.Bool.{Bool, true, false}

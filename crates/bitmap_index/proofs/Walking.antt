@@ -1,4 +1,4 @@
--- The walk over the values' entries: what is left of them, placed from the field as it is, gives the whole. Assumes nothing.
+-- The walk over the values' entries: what is left of them, placed from the field as it is, gives the whole.
 use Prim.Native.Nat.{ℕ, _+_, _<_, _≤_}
 use mathlib.Core.Path.{_≡_, refl, sym, ap, _∙_}
 use mathlib.Core.Bool.{Bool}

@@ -6,10 +6,10 @@ use Prim.Native.Nat.{ℕ, _+_, _-_, _≤_, _<_}
 use mathlib.Core.Bool.{true, cond}
 use mathlib.Core.List.{List, [], _∷_, _++_}
 use lib.ListN.{length}
-use Rattle.numbers.specs.Meaning.{All, joined}
+use Rattle.numbers.specs.Meaning.{All, joined, minusOne}
 use Rattle.roaring.specs.Layout.{Bitmap}
 use Rattle.stored_value.specs.Meaning.{Cell, null, sameCell}
-use Rattle.dictionary.specs.Layout.{Entry, minusOne, NullOnly, someHas, Distinct, NoExtents, body1, Rises, NoneEmpty, body2}
+use Rattle.dictionary.specs.Layout.{Entry, NullOnly, someHas, Distinct, NoExtents, body1, Rises, NoneEmpty, body2}
 use Rattle.bitmap_index.specs.Meaning.{Column}
 
 -- the rows, from r on, whose cell is c

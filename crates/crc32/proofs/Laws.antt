@@ -1,5 +1,5 @@
 -- The checksum of bytes has 32 bits.
--- Assumes nothing.
+--
 use Prim.Native.Nat.{ℕ, zero, suc, _/_, _%_, _^_, _<_}
 use mathlib.Core.List.{List, [], _∷_}
 use native.Mathlib.Omega.{arith}

@@ -1,5 +1,5 @@
 -- Check values of CRC-32, computed from its definition.
--- Assumes nothing.
+--
 use mathlib.Core.Path.{_≡_, refl}
 use mathlib.Core.List.{[], _∷_}
 use Rattle.crc32.specs.Meaning.{checksum, withBytes, withByte, steps, shifted, afterBit}

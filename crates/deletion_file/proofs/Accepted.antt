@@ -1,4 +1,4 @@
--- What is accepted was laid out: the steps to it, from the answer back to the bytes. Assumes nothing.
+-- What is accepted was laid out: the steps to it, from the answer back to the bytes.
 use Prim.Native.Nat.{ℕ, zero, suc, _+_, _≤_}
 use mathlib.Core.Path.{_≡_, refl, sym, ap, _∙_}
 use mathlib.Core.Bool.{Bool, true, false}
@@ -8,7 +8,8 @@ use lib.Dec.{eqb, leb}
 use lib.ListN.{length, drop, getD, length-append}
 use borrow.Author.Tests.{leb-true, eqb-true}
 use Rattle.numbers.specs.Meaning.{be, beAt, big, All, Bytes}
-use Rattle.numbers.proofs.Laws.{bytes-drop, numberAt-back}
+use Rattle.numbers.proofs.ByteLists.{bytes-drop}
+use Rattle.numbers.proofs.Laws.{numberAt-back}
 use Rattle.refusal.specs.declared.Refusal.{Refusal}
 use Rattle.refusal.specs.declared.Refusal.the-variants.{Short, Magic, Version, Bitmap, Range, Checksum}
 use Rattle.crc32.specs.Meaning.{checksum}

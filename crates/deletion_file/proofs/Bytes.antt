@@ -1,4 +1,4 @@
--- Every number of a bitmap that is laid out, and of a bin, is a byte. Assumes nothing.
+-- Every number of a bitmap that is laid out, and of a bin, is a byte.
 use Prim.Native.Nat.{ℕ, zero, suc, _+_, _-_, _*_, _/_, _%_, _<_}
 use mathlib.Core.Bool.{Bool, true, false}
 use mathlib.Core.List.{List, [], _∷_, _++_}

@@ -1,4 +1,4 @@
--- Rows marked in a cleared field: the field of exactly these rows, with the bytes behind it kept, and the count of them. Assumes nothing.
+-- Rows marked in a cleared field: the field of exactly these rows, with the bytes behind it kept, and the count of them.
 use Prim.Native.Nat.{ℕ, zero, suc, _+_, _*_, _/_, _<_, _≤_}
 use mathlib.Core.Path.{_≡_, refl, ap, _∙_}
 use mathlib.Core.Bool.{Bool, true, false, _||_}

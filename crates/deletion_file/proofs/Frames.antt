@@ -1,4 +1,4 @@
--- The walk over the sizes and the bins that it passes: framed bins are passed, and what is passed was framed. Assumes nothing.
+-- The walk over the sizes and the bins that it passes: framed bins are passed, and what is passed was framed.
 use Prim.Native.Nat.{ℕ, zero, suc, _+_, _<_, _≤_}
 use mathlib.Core.Path.{_≡_, refl, sym, ap, _∙_}
 use mathlib.Core.Bool.{Bool, true, false, cond}
@@ -9,7 +9,8 @@ use lib.ListN.{length, take, drop, length-append, length-drop, take-append-drop}
 use lib.Seq.{take-append-seam, drop-append-seam, drop-append-add, drop-drop, length-take-le}
 use borrow.Author.Tests.{le-leb, leb-true, eqb-true, ne-eqb}
 use Rattle.numbers.specs.Meaning.{be, beAt, big, All, Bytes}
-use Rattle.numbers.proofs.Laws.{bytes-drop, beAt-lt, numberAt-drop, numberAt-laid, numberAt-back, number-laid, on-number}
+use Rattle.numbers.proofs.ByteLists.{bytes-drop}
+use Rattle.numbers.proofs.Laws.{beAt-lt, numberAt-drop, numberAt-laid, numberAt-back, number-laid, on-number}
 use Rattle.refusal.specs.declared.Refusal.{Refusal}
 use Rattle.refusal.specs.declared.Refusal.the-variants.{Short}
 use Rattle.deletion_file.specs.Layout.{Bin, frames, binOf, Framed, HasBin, has-bin}

@@ -1,4 +1,4 @@
--- What is laid out is read: the steps to it. Assumes nothing.
+-- What is laid out is read: the steps to it.
 use Prim.Native.Nat.{ℕ, zero, suc, _+_, _<_}
 use mathlib.Core.Path.{_≡_, refl, ap}
 use mathlib.Core.List.{List, [], _∷_, _++_, append-nil}

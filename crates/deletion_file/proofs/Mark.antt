@@ -1,4 +1,4 @@
--- Marking a bin's bitmap, and the stages before: roaring's promise put into the reading. Assumes nothing.
+-- Marking a bin's bitmap, and the stages before: roaring's promise put into the reading.
 use Prim.Native.Nat.{ℕ, _-_, _<_, _≤_}
 use mathlib.Core.Path.{_≡_, refl, sym, ap, _∙_}
 use mathlib.Core.Bool.{Bool, true, false, cond}

@@ -1,4 +1,4 @@
--- A bin at its place of the file: its magic, its checksum, and what lies behind the magic; and the stages before it. Assumes nothing.
+-- A bin at its place of the file: its magic, its checksum, and what lies behind the magic; and the stages before it.
 use Prim.Native.Nat.{ℕ, zero, suc, _+_, _-_, _<_, _≤_}
 use mathlib.Core.Path.{_≡_, refl, sym, _∙_}
 use mathlib.Core.Logic.{_≢_}

@@ -1,4 +1,4 @@
--- The layout and the reading agree. Assumes nothing.
+-- The layout and the reading agree.
 use Prim.Native.Nat.{ℕ, _<_, _≤_}
 use mathlib.Core.Path.{_≡_, refl, ap, _∙_}
 use mathlib.Core.Bool.{Bool, true, false, cond}

@@ -1,4 +1,4 @@
--- A turn of the walk over the sizes: what the reading says at a position of the file. Assumes nothing.
+-- A turn of the walk over the sizes: what the reading says at a position of the file.
 use Prim.Native.Nat.{ℕ, zero, suc, _+_, _-_, _<_, _≤_}
 use mathlib.Core.Path.{_≡_, refl, sym, ap, _∙_}
 use mathlib.Core.Logic.{_≢_}

@@ -1,5 +1,5 @@
 -- What is read was laid out. Each law named `on-` takes one step of an accepted reading apart: P of the bytes that were read follows from P of all
--- bytes that may be laid out there, with the rest of the reading accepted. Assumes nothing.
+-- bytes that may be laid out there, with the rest of the reading accepted.
 use mathlib.Core.Path.{_≡_, refl, sym, ap, _∙_, subst}
 use Prim.Native.Nat.{ℕ, zero, suc, _+_, _%_, _^_, _≤_, _<_}
 use native.Mathlib.Omega.{arith}
@@ -8,15 +8,16 @@ use mathlib.Core.List.{List, [], _∷_, _++_, append-assoc, append-nil}
 use lib.ListN.{length, take, drop, length-append, take-append-drop}
 use lib.Dec.{eqb, ltb, leb}
 use borrow.Author.Tests.{leb-true, ltb-true, eqb-true, not-true}
-use Rattle.numbers.specs.Meaning.{be, big, number, joined, Bytes}
-use Rattle.numbers.proofs.Laws.{bytes-drop, on-number}
+use Rattle.numbers.specs.Meaning.{be, big, number, joined, Bytes, minusOne}
+use Rattle.numbers.proofs.ByteLists.{bytes-drop}
+use Rattle.numbers.proofs.Laws.{on-number}
 use Rattle.refusal.specs.declared.Refusal.{Refusal}
 use Rattle.refusal.specs.declared.Refusal.the-variants.{Short, Dict}
 use Rattle.stored_value.specs.Meaning.{Cell, null, value, Value, sameCell}
 use Rattle.refusal.specs.Reading.{Out, refuse, ok, check, andThen}
 use Rattle.stored_value.specs.Reading.{valueSize, valueOf}
 use Rattle.dictionary.specs.Promises.{Patterns}
-use Rattle.dictionary.specs.Layout.{Entry, minusOne, NullOnly, someHas, Distinct, NoExtents, valueBytes, entries1, hasNull, null1, body1, first, Past, Rises, NoneEmpty, entries2, block, blocks, directory, null2, body2}
+use Rattle.dictionary.specs.Layout.{Entry, NullOnly, someHas, Distinct, NoExtents, valueBytes, entries1, hasNull, null1, body1, first, Past, Rises, NoneEmpty, entries2, block, blocks, directory, null2, body2}
 use Rattle.dictionary.specs.Reading.{counted, Dictionary, entriesOne, Listing, listings, past, heads, entriesTwo, behind, blocksOf, blocked, nullOf, dictionary}
 use Rattle.numbers.proofs.SameBytes.{same→eq}
 use Rattle.stored_value.proofs.Laws.{sameCell-sym, value-back}

@@ -1,4 +1,4 @@
--- The cursor over entries: of entries that stand at it, the definition of the entry at a cursor gives the first, and the cursor of the rest. Assumes nothing.
+-- The cursor over entries: of entries that stand at it, the definition of the entry at a cursor gives the first, and the cursor of the rest.
 use Prim.Native.Nat.{ℕ, _+_, _-_, _≤_, _<_}
 use mathlib.Core.Path.{_≡_, refl, sym, _∙_}
 use mathlib.Core.Bool.{Bool, true, false}
@@ -9,14 +9,14 @@ use lib.IntN.{ℤ}
 use lib.ListN.{length, drop, length-drop}
 use lib.Seq.{drop-drop}
 use borrow.Author.Tests.{le-leb, lt-leb, ne-eqb}
-use Rattle.numbers.specs.Meaning.{big, beAt, signed32, Bytes}
+use Rattle.numbers.specs.Meaning.{big, beAt, signed32, Bytes, minusOne}
 use Rattle.numbers.proofs.Laws.{numberAt-drop, numberAt-lt}
 use Rattle.refusal.specs.declared.Refusal.{Refusal}
 use Rattle.refusal.specs.declared.Refusal.the-variants.{Short, Dict}
 use Rattle.refusal.specs.Reading.{refuse, ok}
 use Rattle.stored_value.specs.Reading.{valueSize}
 use Rattle.dictionary.specs.declared.EntryAt.{EntryAt}
-use Rattle.dictionary.specs.Layout.{Entry, minusOne}
+use Rattle.dictionary.specs.Layout.{Entry}
 use Rattle.dictionary.specs.Promises.{position, tail, extentAt, entryOf, noEntry, entryTo, entrySized, entryFrom, nextOf, entryAt, Stand, Steps}
 use Rattle.dictionary.proofs.Offsets.{pattern-signed}
 use Rattle.dictionary.proofs.Steps.{be-behind, stand-head, stand-opened}

@@ -1,4 +1,4 @@
--- The reading of a dictionary's first fields and of null's entry, by the code's steps. Assumes nothing.
+-- The reading of a dictionary's first fields and of null's entry, by the code's steps.
 use Prim.Native.Nat.{ℕ, zero, suc, _+_, _-_, _≤_, _<_}
 use mathlib.Core.Path.{_≡_, refl, sym, _∙_}
 use mathlib.Core.Logic.{_⊎_, ⊎-elim}
@@ -12,14 +12,14 @@ use lib.ListN.{length, getD, drop}
 use mir.Syntax.{w32}
 use mir.Val.{toZ, ofZ}
 use borrow.Author.Tests.{le-leb, lt-leb, lt-ltb, le-ltb, ne-eqb}
-use Rattle.numbers.specs.Meaning.{big, beAt, number, signed32}
+use Rattle.numbers.specs.Meaning.{big, beAt, number, signed32, minusOne}
 use Rattle.refusal.specs.declared.Refusal.{Refusal}
 use Rattle.refusal.specs.declared.Refusal.the-variants.{Short, Dict, Limit, Version}
 use Rattle.refusal.specs.Reading.{Out, refuse, check}
 use Rattle.dictionary.specs.declared.Count.{Count}
 use Rattle.dictionary.specs.declared.Count.the-variants.{Is}
 use Rattle.dictionary.specs.declared.Fixed.the-variants.{Fields}
-use Rattle.dictionary.specs.Layout.{Entry, minusOne}
+use Rattle.dictionary.specs.Layout.{Entry}
 use Rattle.dictionary.specs.Reading.{Dictionary, counted, nullOf, entriesOne, blocked, dictionary}
 use Rattle.dictionary.specs.Answers.{CountAt, entriesOf, FixedOf}
 use Rattle.dictionary.specs.Promises.{pattern, nulls}

@@ -1,4 +1,4 @@
--- What is laid out is read. Each law reads one part of the layout with anything behind it; entries, directory and blocks go by induction. Assumes nothing.
+-- What is laid out is read. Each law reads one part of the layout with anything behind it; entries, directory and blocks go by induction.
 use mathlib.Core.Path.{_≡_, refl, ap, _∙_}
 use Prim.Native.Nat.{ℕ, suc, _+_, _≤_, _<_}
 use native.Mathlib.Nat.{zero-add}

@@ -1,4 +1,4 @@
--- An offset as the 32 bits that are stored and as the signed number that the code holds: each gives the other. Assumes nothing.
+-- An offset as the 32 bits that are stored and as the signed number that the code holds: each gives the other.
 use Prim.Native.Nat.{ℕ, suc, _-_, _<_}
 use mathlib.Core.Path.{_≡_, sym, ap, _∙_}
 use native.Mathlib.Decide.{decLt}

@@ -1,4 +1,4 @@
--- The order of values is strict: no value is less than itself, and what is less than a lesser one is less. Assumes nothing.
+-- The order of values is strict: no value is less than itself, and what is less than a lesser one is less.
 use mathlib.Core.Path.{_≡_, refl, sym, _∙_}
 use mathlib.Core.Logic.{_⊎_, ⊎-elim, inl, inr}
 use Prim.Native.Nat.{ℕ, _<_}

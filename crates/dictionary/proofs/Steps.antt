@@ -1,4 +1,4 @@
--- The reading by the code's steps. Entries that are read stand where the code finds them. Assumes nothing.
+-- The reading by the code's steps. Entries that are read stand where the code finds them.
 use Prim.Native.Nat.{ℕ, zero, suc, _+_, _-_, _≤_, _<_}
 use mathlib.Core.Path.{_≡_, refl, ap, sym, _∙_}
 use mathlib.Core.Bool.{Bool, true, false, not, _||_, cond}
@@ -8,7 +8,7 @@ use lib.Dec.{eqb, ltb, leb}
 use lib.ListN.{length, take, drop, length-append, length-drop}
 use lib.Seq.{drop-drop}
 use borrow.Author.Tests.{leb-true, eqb-false, ne-eqb}
-use Rattle.numbers.specs.Meaning.{big, beAt, number, same}
+use Rattle.numbers.specs.Meaning.{big, beAt, number, same, minusOne}
 use Rattle.numbers.proofs.Laws.{number-at, number-short, numberAt-drop}
 use Rattle.refusal.specs.declared.Refusal.{Refusal}
 use Rattle.refusal.specs.declared.Refusal.the-variants.{Short, Dict, Limit}
@@ -20,7 +20,7 @@ use Rattle.refusal.specs.Reading.{Out, refuse, ok, check, andThen}
 use Rattle.stored_value.specs.Promises.{sizedBy}
 use Rattle.stored_value.specs.Reading.{valueSize, valueOf}
 use Rattle.dictionary.specs.declared.Value.{Value}
-use Rattle.dictionary.specs.Layout.{Entry, minusOne, someHas}
+use Rattle.dictionary.specs.Layout.{Entry, someHas}
 use Rattle.dictionary.specs.Reading.{Dictionary, entriesOne}
 use Rattle.dictionary.specs.Promises.{tail, entryOf, position, Stand}
 use Rattle.dictionary.specs.Answers.{ValueAt}

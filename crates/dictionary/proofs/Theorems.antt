@@ -1,4 +1,4 @@
--- The layout and the reading of a dictionary agree: what a caller of this crate cites. Assumes nothing.
+-- The layout and the reading of a dictionary agree: what a caller of this crate cites.
 use mathlib.Core.Path.{_≡_, refl, sym, ap, _∙_, subst}
 use Prim.Native.Nat.{ℕ, _+_, _≤_, _<_}
 use mathlib.Core.Bool.{true, false}

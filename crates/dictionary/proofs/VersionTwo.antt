@@ -1,4 +1,4 @@
--- The reading of version 2 by the code's steps: the directory, a block's entries, the blocks. Assumes nothing.
+-- The reading of version 2 by the code's steps: the directory, a block's entries, the blocks.
 use Prim.Native.Nat.{ℕ, zero, suc, _+_, _-_, _≤_, _<_}
 use mathlib.Core.Path.{_≡_, refl, _∙_}
 use mathlib.Core.Bool.{Bool, true, false, _&&_, cond}

@@ -1,4 +1,4 @@
--- A whole dictionary by the code's steps: its fields, null's entry and its entries give what is read. Assumes nothing.
+-- A whole dictionary by the code's steps: its fields, null's entry and its entries give what is read.
 use Prim.Native.Nat.{ℕ}
 use mathlib.Core.Path.{_≡_, _∙_}
 use mathlib.Core.Bool.{Bool, true, false}

@@ -6,7 +6,7 @@ use Prim.Native.Nat.{ℕ, _+_, _≤_}
 use mathlib.Core.Bool.{Bool, true, false, _||_}
 use mathlib.Core.List.{List, [], _∷_, _++_}
 use lib.ListN.{length}
-use Rattle.numbers.specs.Meaning.{All, joined, be}
+use Rattle.numbers.specs.Meaning.{All, joined, be, minusOne}
 use Rattle.stored_value.specs.Meaning.{Cell, null, value, Value, sameCell, less}
 
 -- a stored cell, null's or a value's, with the two numbers that say where its rows are: 01's offset, and 01's length, here `extent`
@@ -14,10 +14,6 @@ pub record Entry : Type 0 where
   pub cell : Cell
   pub offset : ℕ
   pub extent : ℕ
-
--- -1 as 32 bits
-abbrev pub minusOne : ℕ
-minusOne = 4294967295
 
 -- ---- entries
 

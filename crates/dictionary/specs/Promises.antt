@@ -10,7 +10,7 @@ use lib.ListN.{length, take, drop, getD}
 use mir.Syntax.{w32}
 use mir.Val.{ofZ}
 use Rattle.numbers.specs.declared.Position.{Position}
-use Rattle.numbers.specs.Meaning.{beAt, signed32}
+use Rattle.numbers.specs.Meaning.{beAt, signed32, minusOne}
 use Rattle.refusal.specs.declared.Refusal.{Refusal}
 use Rattle.refusal.specs.declared.Refusal.the-variants.{Short, Dict}
 use Rattle.stored_value.specs.Meaning.{null, value}
@@ -20,7 +20,7 @@ use Rattle.dictionary.specs.declared.Checked.{Checked}
 use Rattle.dictionary.specs.declared.Checked.the-variants.{Refused, Found}
 use Rattle.dictionary.specs.declared.Head.{Head}
 use Rattle.dictionary.specs.declared.EntryAt.{EntryAt}
-use Rattle.dictionary.specs.Layout.{Entry, minusOne}
+use Rattle.dictionary.specs.Layout.{Entry}
 use Rattle.dictionary.specs.Reading.{dictionary}
 
 -- both numbers of each entry are 32-bit patterns

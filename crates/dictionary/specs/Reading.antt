@@ -4,13 +4,13 @@ use mathlib.Core.Bool.{Bool, true, false, not, _&&_, _||_, cond}
 use mathlib.Core.List.{List, [], _∷_, _++_}
 use lib.Dec.{eqb, ltb, leb}
 use lib.ListN.{length}
-use Rattle.numbers.specs.Meaning.{big, number, same}
+use Rattle.numbers.specs.Meaning.{big, number, same, minusOne}
 use Rattle.refusal.specs.declared.Refusal.{Refusal}
 use Rattle.refusal.specs.declared.Refusal.the-variants.{Short, Version, Dict, Limit}
 use Rattle.stored_value.specs.Meaning.{Cell, null, value, less}
 use Rattle.refusal.specs.Reading.{Out, refuse, ok, check}
 use Rattle.stored_value.specs.Reading.{valueOf}
-use Rattle.dictionary.specs.Layout.{Entry, someHas, minusOne}
+use Rattle.dictionary.specs.Layout.{Entry, someHas}
 
 -- a count of four bytes, big-endian and signed: SHORT; a negative one is DICT, one above `most` LIMIT
 unfoldable pub counted : {A : Type 0} → ℕ → List ℕ → (ℕ → List ℕ → Out Refusal A) → Out Refusal A

@@ -1,4 +1,4 @@
--- The three calls in turn, by what each of them answers, and what that says of a column's file. Assumes nothing.
+-- The three calls in turn, by what each of them answers, and what that says of a column's file.
 use Prim.Native.Nat.{ℕ, _≤_}
 use mathlib.Core.Path.{_≡_, refl, sym, _∙_}
 use mathlib.Core.Bool.{Bool, true, false, cond}

@@ -1,4 +1,4 @@
--- Demand 3, one claim from file to answers: all versions, cuts and forms at once, and over the scan. Assumes nothing.
+-- Demand 3, one claim from file to answers: all versions, cuts and forms at once, and over the scan.
 use Prim.Native.Nat.{ℕ, _≤_}
 use mathlib.Core.Path.{_≡_}
 use mathlib.Core.List.{List, _++_}

@@ -1,4 +1,4 @@
--- 01, "Files written out": the cases marked * stand together in one table, with one proved statement, `starred`. Assumes nothing.
+-- 01, "Files written out": the cases marked * stand together in one table, with one proved statement, `starred`.
 use Prim.Native.Nat.{ℕ, zero, suc, _-_, _≤_, _<_}
 use mathlib.Core.Path.{_≡_, refl}
 use native.Mathlib.Omega.{arith}
@@ -8,7 +8,7 @@ use mathlib.Core.List.{List, [], _∷_}
 use lib.Dec.{ltb}
 use lib.IntN.{negsuc}
 use lib.ListN.{length}
-use Rattle.numbers.specs.Meaning.{All, number, signed32, same, Bytes}
+use Rattle.numbers.specs.Meaning.{All, number, signed32, same, Bytes, minusOne}
 use Rattle.refusal.specs.Meaning.{limit}
 use Rattle.refusal.specs.declared.Refusal.the-variants.{Range, Twice}
 use Rattle.row_field.specs.Meaning.{bit, mark, markAll, anySet, zeroed, upTo, rowsFrom}
@@ -23,7 +23,7 @@ use Rattle.dictionary.specs.Reading.{counted, entriesOne, listings, past, heads
 use Rattle.index_file.specs.Reading.{located, answerOf, partOf, lookedAt}
 use Rattle.index_file.specs.Reading as head
 use Rattle.index_file.specs.Layout as layout
-use Rattle.dictionary.specs.Layout.{Entry, minusOne}
+use Rattle.dictionary.specs.Layout.{Entry}
 use Rattle.bitmap_index.specs.declared.Answered.{Answered}
 use Rattle.bitmap_index.specs.declared.Answered.the-variants.{Skip, Keep}
 use Rattle.bitmap_index.specs.Meaning.{Column, chosen, takes, scanFrom, scan, keeps}

@@ -1,4 +1,4 @@
--- What is answered `found` was laid out, and what is answered ABSENT has a head that keeps the rules. Each step takes a good reading apart: what holds of the bytes that were laid out holds of those that were read. Assumes nothing.
+-- What is answered `found` was laid out, and what is answered ABSENT has a head that keeps the rules. Each step takes a good reading apart: what holds of the bytes that were laid out holds of those that were read.
 use Prim.Native.Nat.{ℕ, zero, suc, _+_, _<_, _≤_}
 use mathlib.Core.Path.{_≡_, refl, sym, ap, ap₂, _∙_, subst}
 use mathlib.Core.Bool.{Bool, true, false, _||_}
@@ -9,7 +9,8 @@ use lib.Dec.{T, leb→le, ltb→lt, eqb→eq}
 use lib.ListN.{length, take, drop, length-take, take-append-drop, List·getD-eq-default}
 use lib.Seq.{length-take-le, getD-take, take-take}
 use Rattle.numbers.specs.Meaning.{be, big, same, All, Bytes}
-use Rattle.numbers.proofs.Laws.{bytes-drop, on-number}
+use Rattle.numbers.proofs.ByteLists.{bytes-drop}
+use Rattle.numbers.proofs.Laws.{on-number}
 use Rattle.numbers.specs.declared.Position.{Position}
 use Rattle.refusal.specs.declared.Refusal.{Refusal}
 use Rattle.index_file.specs.declared.Located.{Located}

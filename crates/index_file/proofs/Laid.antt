@@ -1,4 +1,4 @@
--- What is laid out is read as it was meant. Assumes nothing.
+-- What is laid out is read as it was meant.
 use Prim.Native.Nat.{ℕ, suc, _+_, _<_, _≤_}
 use mathlib.Core.Path.{_≡_, refl, sym, ap, _∙_}
 use mathlib.Core.Bool.{Bool, false, _||_}

@@ -1,4 +1,4 @@
--- Laws of the reading of a file: the limits, and the fields in front of the columns, in their order. Assumes nothing.
+-- Laws of the reading of a file: the limits, and the fields in front of the columns, in their order.
 use Prim.Native.Nat.{ℕ, _<_, _≤_}
 use mathlib.Core.Path.{_≡_, _∙_}
 use mathlib.Core.List.{List}

@@ -1,4 +1,4 @@
--- What the columns of a head come to, apart from their bytes: the place that the reading gathers is one exactly if the asked column and kind stand once. Assumes nothing.
+-- What the columns of a head come to, apart from their bytes: the place that the reading gathers is one exactly if the asked column and kind stand once.
 use Prim.Native.Nat.{ℕ}
 use mathlib.Core.Path.{_≡_, refl, sym, ap, _∙_}
 use mathlib.Core.Bool.{Bool, true, false, _||_, or-false}

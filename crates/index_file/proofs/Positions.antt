@@ -1,4 +1,4 @@
--- The reading's steps at a position of the bytes: what a step of the code finds. Assumes nothing.
+-- The reading's steps at a position of the bytes: what a step of the code finds.
 use Prim.Native.Nat.{ℕ, zero, suc, _+_, _-_, _<_, _≤_}
 use mathlib.Core.Path.{_≡_, refl, sym, ap, _∙_}
 use mathlib.Core.Bool.{Bool, false, _||_}

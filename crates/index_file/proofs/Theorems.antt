@@ -1,4 +1,4 @@
--- What the layout and the reading have to do with each other. Assumes nothing.
+-- What the layout and the reading have to do with each other.
 use Prim.Native.Nat.{ℕ, _+_, _≤_}
 use mathlib.Core.Path.{_≡_, refl, sym, ap, _∙_}
 use mathlib.Core.List.{List, []}

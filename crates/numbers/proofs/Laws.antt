@@ -1,4 +1,4 @@
--- Laws of numbers of w bytes, each proved once over the width, and where both byte orders have it, over the order. Assumes nothing.
+-- Laws of numbers of w bytes, each proved once over the width, and where both byte orders have it, over the order.
 use Prim.Native.Nat.{ℕ, zero, suc, _+_, _-_, _*_, _/_, _%_, _^_, _<_, _≤_}
 use mathlib.Core.Path.{_≡_, refl, sym, ap, _∙_, subst}
 use mathlib.Core.Bool.{Bool, true, false, cond}
@@ -10,15 +10,13 @@ use lib.Dec.{T, leb, leb→le}
 use lib.ListN.{length, getD, take, drop, length-append, length-drop}
 use lib.Seq.{getD-append-seam, getD-append-add, getD-drop, drop-at, drop-cons, drop-drop}
 use borrow.Author.Tests.{le-leb, lt-leb}
+use Rattle.numbers.proofs.ByteLists.{bytes-drop}
 use Rattle.numbers.specs.Meaning.{Bytes, beAt, leAt, be, le, Order, big, little, numberAt, number}
 
 -- the bytes that spell a number, in either order
 abbrev pub spelled : Order → ℕ → ℕ → List ℕ
 spelled big w v = be w v
 spelled little w v = le w v
-
-pub bytes-drop : (n : ℕ) (s : List ℕ) → Bytes s → Bytes (drop n s)
-bytes-drop n s h i = rw (getD-drop n s i 0) (h (n + i))
 
 -- ---- a number of w bytes is below 256 ^ w
 

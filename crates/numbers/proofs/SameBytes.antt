@@ -1,4 +1,4 @@
--- What `same` says: laws, and its steps at a position. Assumes nothing.
+-- What `same` says: laws, and its steps at a position.
 use Prim.Native.Nat.{ℕ, _+_, _<_, _≤_}
 use mathlib.Core.Path.{_≡_, refl, sym, ap, ap₂, _∙_}
 use mathlib.Core.Bool.{Bool, true, false, _&&_}
@@ -9,6 +9,7 @@ use lib.Dec.{eqb}
 use lib.ListN.{length, getD, drop, drop-of-length-le}
 use lib.Seq.{drop-cons}
 use borrow.Author.Tests.{eq-eqb, ne-eqb, eqb-true}
+use Rattle.numbers.proofs.Booleans.{and-both}
 use Rattle.numbers.specs.Meaning.{same}
 
 eqb-same : (x : ℕ) → eqb x x ≡ true
@@ -19,17 +20,13 @@ unfolding same
 same-refl [] = refl
 same-refl (x ∷ xs) = rw (eqb-same x) (same-refl xs)
 
-and-true : (a b : Bool) → a && b ≡ true → (a ≡ true) × (b ≡ true)
-and-true true b e = (refl, e)
-and-true false b e = (e, cc)
-
 pub same→eq : (v w : List ℕ) → same v w ≡ true → v ≡ w
 unfolding same
 same→eq [] [] e = refl
 same→eq [] (y ∷ ys) e = cc
 same→eq (x ∷ xs) [] e = cc
 same→eq (x ∷ xs) (y ∷ ys) e =
-    let h = and-true (eqb x y) (same xs ys) e in
+    let h = and-both (eqb x y) (same xs ys) e in
     ap₂ (λ (z : ℕ) (zs : List ℕ). z ∷ zs) (eqb-true x y (h .0)) (same→eq xs ys (h .1))
 
 eqb-sym : (x y : ℕ) → Dec (x ≡ y) → eqb x y ≡ eqb y x

@@ -1,4 +1,4 @@
--- Two's complement by the code's steps, once over the bytes k of a number and the integer type w that holds it. Assumes nothing.
+-- Two's complement by the code's steps, once over the bytes k of a number and the integer type w that holds it.
 use Prim.Native.Nat.{ℕ, zero, suc, _-_, _/_, _^_, _<_, _≤_}
 use mathlib.Core.Path.{_≡_, refl}
 use native.Mathlib.Nat.{zero-add}

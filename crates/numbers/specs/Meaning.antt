@@ -67,3 +67,11 @@ signed w x = cond (ltb x (256 ^ w / 2)) (pos x) (negsuc (256 ^ w - 1 - x))
 
 abbrev pub signed32 : ℕ → ℤ
 signed32 x = signed 4 x
+
+-- the least number of 32 bits whose top bit is set: from there on, read as signed, numbers are negative
+abbrev pub signBit : ℕ
+signBit = 2147483648
+
+-- -1 as 32 bits
+abbrev pub minusOne : ℕ
+minusOne = 4294967295

@@ -5,6 +5,12 @@ ghost use lib.ListN.{length, getD};
 ghost use Rattle.numbers.specs.Meaning.{beAt, leAt, signed32};
 ghost use Rattle.numbers.specs.Meaning as meaning;
 
+// The least number of 32 bits whose top bit is set: read as signed, it and those above are negative.
+pub const SIGN_BIT: u64 = 2_147_483_648;
+
+// -1 as 32 bits.
+pub const MINUS_ONE: u64 = 4_294_967_295;
+
 // A byte position in a buffer: a kind of its own (document 01), which no row number can stand in for.
 pub struct Position(pub usize);
 

@@ -1,4 +1,4 @@
--- Stages taken apart: what passed a test, and what came of a stage that followed. Assumes nothing.
+-- Stages taken apart: what passed a test, and what came of a stage that followed.
 use Prim.Native.Nat.{ℕ}
 use mathlib.Core.Path.{_≡_, refl}
 use mathlib.Core.Bool.{Bool, true, false}

@@ -2,6 +2,9 @@
 ghost use mathlib.Core.Path.{_≡_};
 ghost use Rattle.refusal.specs.Meaning.{numberOf};
 
+// The longest input buffer and the highest row count (document 01, "Limits").
+pub const LIMIT: u64 = 2_147_483_647;
+
 pub enum Refusal {
     Short,
     Magic,

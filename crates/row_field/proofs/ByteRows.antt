@@ -1,4 +1,4 @@
--- The rows of one byte's bits: marking them is one `or`, and asking about them one `and`. Assumes nothing.
+-- The rows of one byte's bits: marking them is one `or`, and asking about them one `and`.
 use Prim.Native.Nat.{ℕ, zero, suc, _+_, _-_, _*_, _/_, _%_, _^_, _<_, _≤_, min, max}
 use mathlib.Core.Path.{_≡_, refl, sym, ap, _∙_, subst}
 use mathlib.Core.Bool.{not, _||_}

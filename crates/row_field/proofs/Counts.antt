@@ -1,4 +1,4 @@
--- Laws of `count` and of a zeroed field. A count is a tally over rows, and the tally over a byte's rows is the byte's ones. Assumes nothing.
+-- Laws of `count` and of a zeroed field. A count is a tally over rows, and the tally over a byte's rows is the byte's ones.
 use Prim.Native.Nat.{ℕ, zero, suc, _+_, _-_, _*_, _/_, _%_, _^_, _<_, _≤_, min}
 use mathlib.Core.Path.{_≡_, refl, sym, ap, _∙_}
 use mathlib.Core.Bool.{Bool, true, false, cond}

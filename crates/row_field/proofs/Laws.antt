@@ -1,4 +1,4 @@
--- Laws of `bit` and `mark`: binary digits of a byte, and a field with one more row. Assumes nothing.
+-- Laws of `bit` and `mark`: binary digits of a byte, and a field with one more row.
 use Prim.Native.Nat.{ℕ, zero, suc, _+_, _-_, _*_, _/_, _%_, _^_, _<_, _≤_, max}
 use mathlib.Core.Path.{_≡_, refl, sym, ap, _∙_, subst}
 use mathlib.Core.Logic.{_≢_}

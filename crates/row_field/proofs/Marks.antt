@@ -1,4 +1,4 @@
--- Laws of many rows: marked one after the other, asked about, and read off a field again. Assumes nothing.
+-- Laws of many rows: marked one after the other, asked about, and read off a field again.
 use Prim.Native.Nat.{ℕ, zero, suc, _+_, _-_, _*_, _/_, _%_, _^_, _<_, _≤_, min}
 use mathlib.Core.Path.{_≡_, refl, sym, ap, _∙_}
 use mathlib.Core.Logic.{_≢_, _⊎_, inl, inr}

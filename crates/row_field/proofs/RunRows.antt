@@ -1,4 +1,4 @@
--- The rows of a run, byte by byte. Assumes nothing.
+-- The rows of a run, byte by byte.
 use Prim.Native.Nat.{ℕ, zero, suc, _+_, _-_, _*_, _/_, _%_, _^_, _<_, _≤_, min}
 use mathlib.Core.Path.{_≡_, refl, sym, _∙_, subst}
 use mathlib.Core.Bool.{Bool, false, _||_, or-assoc}

@@ -1,5 +1,5 @@
 -- Laws of `subtracted` and `removed`: row by row they go by the bits of both fields, so a field less another's rows is what the code computes a byte at a
--- time, and rows removed are those that were, less those that are left. Assumes nothing.
+-- time, and rows removed are those that were, less those that are left.
 use Prim.Native.Nat.{ℕ, zero, suc, _+_, _-_, _*_, _/_, _%_, _^_, _<_, _≤_, min}
 use mathlib.Core.Path.{_≡_, refl, sym, ap, _∙_}
 use mathlib.Core.Logic.{_≢_}

@@ -1,5 +1,5 @@
 -- Laws of values in stored form: that values and literals which are laid out are read, and that what is read is laid out.
--- Assumes nothing.
+--
 use Prim.Native.Nat.{ℕ, zero, suc, _+_, _<_, _≤_}
 use mathlib.Core.Path.{_≡_, refl, sym, ap, _∙_, subst}
 use mathlib.Core.Bool.{Bool, true, false}
@@ -11,7 +11,8 @@ use lib.Seq.{take-at, drop-at, length-take-le, getD-take}
 use borrow.Author.Tests.{lt-ltb, le-leb, ne-eqb, eqb-false, leb-true}
 use Rattle.numbers.specs.Meaning.{be, big, joined, Bytes}
 use Rattle.numbers.specs.Meaning as meaning
-use Rattle.numbers.proofs.Laws.{bytes-drop, on-number, number-laid}
+use Rattle.numbers.proofs.ByteLists.{bytes-drop}
+use Rattle.numbers.proofs.Laws.{on-number, number-laid}
 use Rattle.numbers.proofs.SameBytes.{same-refl, same→eq, same-sym}
 use Rattle.refusal.specs.declared.Refusal.{Refusal}
 use Rattle.refusal.specs.declared.Refusal.the-variants.{Literal, Limit}

@@ -1,4 +1,4 @@
--- What a turn of `listed` sees: literals are passed that have not v's bytes, and those that are left give the whole. Assumes nothing.
+-- What a turn of `listed` sees: literals are passed that have not v's bytes, and those that are left give the whole.
 use Prim.Native.Nat.{ℕ, zero, suc, _+_, _-_, _<_, _≤_}
 use mathlib.Core.Path.{_≡_, refl, sym, ap, _∙_}
 use mathlib.Core.Bool.{Bool, true, false, _||_, or-assoc, or-false}
@@ -7,7 +7,7 @@ use native.Mathlib.Omega.{arith}
 use lib.ListN.{length, take, drop, length-drop, drop-of-length-le}
 use lib.Seq.{drop-drop}
 use Rattle.numbers.specs.Meaning.{Bytes, same}
-use Rattle.numbers.proofs.Laws.{bytes-drop}
+use Rattle.numbers.proofs.ByteLists.{bytes-drop}
 use Rattle.refusal.specs.declared.Refusal.{Refusal}
 use Rattle.refusal.specs.declared.Refusal.the-variants.{Literal}
 use Rattle.stored_value.specs.Meaning.{listed}

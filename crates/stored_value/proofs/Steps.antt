@@ -1,4 +1,4 @@
--- What the code's answers and the turns of its loops see of the definitions. Assumes nothing.
+-- What the code's answers and the turns of its loops see of the definitions.
 use Prim.Native.Nat.{ℕ, suc, _+_, _-_, _<_, _≤_}
 use mathlib.Core.Path.{_≡_, ap, _∙_}
 use mathlib.Core.Bool.{Bool, true, false, _&&_, _||_}
@@ -17,7 +17,8 @@ use lib.ListN.{length, getD, take, drop, length-drop, drop-of-length-le}
 use lib.Seq.{drop-cons, drop-drop, getD-drop}
 use borrow.Author.Tests.{eq-eqb, ne-eqb, le-leb, lt-leb, lt-ltb, le-ltb}
 use Rattle.numbers.specs.Meaning.{beAt, big, Bytes}
-use Rattle.numbers.proofs.Laws.{bytes-drop, number-at, number-short}
+use Rattle.numbers.proofs.ByteLists.{bytes-drop}
+use Rattle.numbers.proofs.Laws.{number-at, number-short}
 use Rattle.refusal.specs.declared.Refusal.{Refusal}
 use Rattle.refusal.specs.declared.Refusal.the-variants.{Literal, Limit}
 use Rattle.stored_value.specs.declared.Sized.{Sized}

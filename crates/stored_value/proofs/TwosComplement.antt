@@ -1,5 +1,5 @@
 -- The signed number of w bytes by the code's steps. What carries them: the greatest number that i bytes spell, `last`, is one below 256 ^ i, which fits 64
--- bits up to the eighth byte. Assumes nothing.
+-- bits up to the eighth byte.
 use Prim.Native.Nat.{ℕ, zero, suc, _+_, _-_, _*_, _/_, _^_, _<_, _≤_}
 use mathlib.Core.Path.{_≡_}
 use mathlib.Core.List.{List}

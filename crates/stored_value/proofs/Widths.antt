@@ -1,4 +1,4 @@
--- The table of widths: a rule that each entry keeps, by a test that antt computes at each. Assumes nothing.
+-- The table of widths: a rule that each entry keeps, by a test that antt computes at each.
 use Prim.Native.Nat.{ℕ, zero, suc, _≤_}
 use mathlib.Core.Bool.{Bool, true, false, _&&_}
 use mathlib.Core.List.{List, [], _∷_}

@@ -6,46 +6,22 @@ use borrow.Author.Needs.{needs}
 use Rattle.bitmap_index.proofs.ask.Statement.{statement}
 use Rattle.bitmap_index.proofs.ask.Tie as tie
 
-test-question-requires : tie.Need-test-question-requires
-test-question-requires c κs = search needs
-
-enum-known-tested : tie.Need-enum-known-tested
-enum-known-tested c = search needs
-
 returns : tie.Need-returns
 returns c =
     let a = c .before .before .before .before .before .before .before .args in
     let w = ask-refused (a .t) (a .question) (a .literals .now) (a .body .now) (a .field .now) (c .before .tested .given .1) (c .before .before .before .test-question .ensures) in
     (w .0, w .1, ask-numbers (ask (a .t) (a .question) (a .literals .now) (a .body .now) (a .field .now)) (w .0))
 
-enum-told : tie.Need-enum-told
-enum-told c = search needs
-
-prepare-requires : tie.Need-prepare-requires
-prepare-requires c κs = search needs
-
-enum-known-prepared : tie.Need-enum-known-prepared
-enum-known-prepared c = search needs
-
-enum-known-prepared-2 : tie.Need-enum-known-prepared-2
-enum-known-prepared-2 c = search needs
-
 ask-field-requires : tie.Need-ask-field-requires
 ask-field-requires c κs =
     let a = c .before .before .before .before .before .before .before .before .before .before .before .before .args in
     sound (a .t) (a .body .now) (a .field .now) (c .before .before .prepared2 .given .1) (c .before .before .before .before .prepare .ensures)
-
-same-length : tie.Need-same-length
-same-length c = search needs
 
 returns-2 : tie.Need-returns-2
 returns-2 c =
     let a = c .before .before .before .before .before .before .before .before .before .before .before .args in
     let w = ask-unprepared (a .t) (a .question) (a .literals .now) (a .body .now) (a .field .now) (c .before .before .before .before .before .enum-told .given .1) (c .before .before .before .before .before .before .before .test-question .ensures) (c .before .prepared .given .1) (c .before .before .before .prepare .ensures) in
     (w .0, w .1, ask-numbers (ask (a .t) (a .question) (a .literals .now) (a .body .now) (a .field .now)) (w .0))
-
-same-length-2 : tie.Need-same-length-2
-same-length-2 c = search needs
 
 returns-3 : tie.Need-returns-3
 returns-3 c =
@@ -57,15 +33,15 @@ pub ask-spec : {M : Type 1} → statement M
 ask-spec =
     tie.close
     (tie.spec
-    test-question-requires
-    enum-known-tested
+    (λ c κs. search needs)
+    (λ c. search needs)
     returns
-    enum-told
-    prepare-requires
-    enum-known-prepared
-    enum-known-prepared-2
+    (λ c. search needs)
+    (λ c κs. search needs)
+    (λ c. search needs)
+    (λ c. search needs)
     ask-field-requires
-    same-length
+    (λ c. search needs)
     returns-2
-    same-length-2
+    (λ c. search needs)
     returns-3)

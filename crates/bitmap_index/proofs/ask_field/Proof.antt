@@ -4,28 +4,10 @@ use borrow.Author.Needs.{needs}
 use Rattle.bitmap_index.proofs.ask_field.Statement.{statement}
 use Rattle.bitmap_index.proofs.ask_field.Tie as tie
 
-audit-field-requires : tie.Need-audit-field-requires
-audit-field-requires c κs = search needs
-
-enum-known-audit : tie.Need-enum-known-audit
-enum-known-audit c = search needs
-
-enum-told : tie.Need-enum-told
-enum-told c = search needs
-
-answer-requires : tie.Need-answer-requires
-answer-requires c κs = search needs
-
-same-length : tie.Need-same-length
-same-length c = search needs
-
 returns : tie.Need-returns
 returns c =
     let a = c .before .before .before .before .before .before .before .before .before .before .args in
     λ es ls l k. unaudited (a .question) ls (a .body .now) (a .head) es (a .field .now) (c .before .before .before .before .before .audit-field .ensures es l) (c .before .audit .given .1)
-
-same-length-2 : tie.Need-same-length-2
-same-length-2 c = search needs
 
 returns-2 : tie.Need-returns-2
 returns-2 c =
@@ -36,11 +18,11 @@ pub ask-field-spec : {M : Type 1} → statement M
 ask-field-spec =
     tie.close
     (tie.spec
-    audit-field-requires
-    enum-known-audit
-    enum-told
-    answer-requires
-    same-length
+    (λ c κs. search needs)
+    (λ c. search needs)
+    (λ c. search needs)
+    (λ c κs. search needs)
+    (λ c. search needs)
     returns
-    same-length-2
+    (λ c. search needs)
     returns-2)

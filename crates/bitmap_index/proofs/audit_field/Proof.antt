@@ -4,18 +4,6 @@ use borrow.Author.Needs.{needs}
 use Rattle.bitmap_index.proofs.audit_field.Statement.{statement}
 use Rattle.bitmap_index.proofs.audit_field.Tie as tie
 
-clear-requires : tie.Need-clear-requires
-clear-requires c κs = search needs
-
-fill-requires : tie.Need-fill-requires
-fill-requires c κs = search needs
-
-clear-requires-2 : tie.Need-clear-requires-2
-clear-requires-2 c κs = search needs
-
-same-length : tie.Need-same-length
-same-length c = search needs
-
 returns : tie.Need-returns
 returns c =
     let a = c .before .before .before .before .before .before .before .before .before .before .before .before .before .before .args in
@@ -23,4 +11,10 @@ returns c =
 
 pub audit-field-spec : {M : Type 1} → statement M
 audit-field-spec =
-    tie.close (tie.spec clear-requires fill-requires clear-requires-2 same-length returns)
+    tie.close
+    (tie.spec
+    (λ c κs. search needs)
+    (λ c κs. search needs)
+    (λ c κs. search needs)
+    (λ c. search needs)
+    returns)

@@ -5,12 +5,6 @@ use borrow.Author.Needs.{needs}
 use Rattle.bitmap_index.proofs.chosen.Statement.{statement}
 use Rattle.bitmap_index.proofs.chosen.Tie as tie
 
-listed-requires : tie.Need-listed-requires
-listed-requires c κs = search needs
-
-listed-requires-2 : tie.Need-listed-requires-2
-listed-requires-2 c κs = search needs
-
 returns : tie.Need-returns
 returns c =
     let a = c .before .before .before .before .args in
@@ -27,4 +21,11 @@ returns-3 c =
     λ ls h. neither (a .question) (a .v .now) ls (c .match .rest .0 .1) (c .match .rest .1)
 
 pub chosen-spec : {M : Type 1} → statement M
-chosen-spec = tie.close (tie.spec listed-requires listed-requires-2 returns returns-2 returns-3)
+chosen-spec =
+    tie.close
+    (tie.spec
+    (λ c κs. search needs)
+    (λ c κs. search needs)
+    returns
+    returns-2
+    returns-3)

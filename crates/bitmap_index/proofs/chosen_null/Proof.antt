@@ -13,4 +13,9 @@ returns-3 : tie.Need-returns-3
 returns-3 c = λ ls. null-not (c .before .args .question) ls (c .match .rest .0 .1) (c .match .rest .1)
 
 pub chosen-null-spec : {M : Type 1} → statement M
-chosen-null-spec = tie.close (tie.spec returns returns-2 returns-3)
+chosen-null-spec =
+    tie.close
+    (tie.spec
+    returns
+    returns-2
+    returns-3)

@@ -10,4 +10,8 @@ returns-2 : tie.Need-returns-2
 returns-2 c = exactly (c .before .args .extent) (c .if1 .left)
 
 pub extent-of-spec : {M : Type 1} → statement M
-extent-of-spec = tie.close (tie.spec returns returns-2)
+extent-of-spec =
+    tie.close
+    (tie.spec
+    returns
+    returns-2)

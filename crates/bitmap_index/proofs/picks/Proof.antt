@@ -10,13 +10,15 @@ returns c =
     let a = c .before .before .before .args in
     λ ls h. picks-all (a .question) ls (value (a .v .now)) (c .if1 .taken)
 
-chosen-requires : tie.Need-chosen-requires
-chosen-requires c κs = search needs
-
 returns-2 : tie.Need-returns-2
 returns-2 c =
     let a = c .before .before .before .before .args in
     λ ls h. picks-chosen (a .question) ls (value (a .v .now)) (c .before .if1 .left) (c .chosen .ensures ls h)
 
 pub picks-spec : {M : Type 1} → statement M
-picks-spec = tie.close (tie.spec returns chosen-requires returns-2)
+picks-spec =
+    tie.close
+    (tie.spec
+    returns
+    (λ c κs. search needs)
+    returns-2)

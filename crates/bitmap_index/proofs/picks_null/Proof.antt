@@ -10,13 +10,15 @@ returns c =
     let a = c .before .args in
     λ ls. picks-all (a .question) ls null (c .if1 .taken)
 
-chosen-null-requires : tie.Need-chosen-null-requires
-chosen-null-requires c κs = search needs
-
 returns-2 : tie.Need-returns-2
 returns-2 c =
     let a = c .before .before .args in
     λ ls. picks-chosen (a .question) ls null (c .before .if1 .left) (c .chosen-null .ensures ls)
 
 pub picks-null-spec : {M : Type 1} → statement M
-picks-null-spec = tie.close (tie.spec returns chosen-null-requires returns-2)
+picks-null-spec =
+    tie.close
+    (tie.spec
+    returns
+    (λ c κs. search needs)
+    returns-2)

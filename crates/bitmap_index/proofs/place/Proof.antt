@@ -11,12 +11,6 @@ sub-t9 c = row-fits (c .before .before .before .before .args .offset) (c .before
 cast-t10 : tie.Need-cast-t10
 cast-t10 c = row-cast (c .before .before .before .before .args .offset) (c .before .before .before .before .fits .offset) (c .before .if1 .taken)
 
-place-row-requires : tie.Need-place-row-requires
-place-row-requires c κs = search needs
-
-same-length : tie.Need-same-length
-same-length c = search needs
-
 returns : tie.Need-returns
 returns c =
     let a = c .before .before .before .before .before .before .before .args in
@@ -24,12 +18,6 @@ returns c =
 
 cast-t14 : tie.Need-cast-t14
 cast-t14 c = place-cast (c .before .before .before .before .args .offset) (c .before .before .before .before .fits .offset) (c .before .if1 .left)
-
-place-bitmap-requires : tie.Need-place-bitmap-requires
-place-bitmap-requires c κs = search needs
-
-same-length-2 : tie.Need-same-length-2
-same-length-2 c = search needs
 
 returns-2 : tie.Need-returns-2
 returns-2 c =
@@ -42,10 +30,10 @@ place-spec =
     (tie.spec
     sub-t9
     cast-t10
-    place-row-requires
-    same-length
+    (λ c κs. search needs)
+    (λ c. search needs)
     returns
     cast-t14
-    place-bitmap-requires
-    same-length-2
+    (λ c κs. search needs)
+    (λ c. search needs)
     returns-2)

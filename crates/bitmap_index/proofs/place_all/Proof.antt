@@ -8,25 +8,10 @@ use Rattle.bitmap_index.proofs.place_all.Tie as tie
 place-null-requires : tie.Need-place-null-requires
 place-null-requires c κs = c .before .before .before .before .pre .laid .region
 
-enum-known-placed : tie.Need-enum-known-placed
-enum-known-placed c = search needs
-
-enum-told : tie.Need-enum-told
-enum-told c = search needs
-
-place-entries-requires : tie.Need-place-entries-requires
-place-entries-requires c κs = search needs
-
-same-length : tie.Need-same-length
-same-length c = search needs
-
 returns : tie.Need-returns
 returns c =
     let a = c .before .before .before .before .before .before .before .before .before .before .args in
     λ es ls l k. null-refused (a .head .rows) (drop (a .head .region .0) (a .body .now)) (a .all) (a .question) ls (a .head) es (a .field .now) (c .before .before .before .before .before .place-null .ensures ls) (c .before .placed .given .1)
-
-same-length-2 : tie.Need-same-length-2
-same-length-2 c = search needs
 
 returns-2 : tie.Need-returns-2
 returns-2 c =
@@ -38,10 +23,10 @@ place-all-spec =
     tie.close
     (tie.spec
     place-null-requires
-    enum-known-placed
-    enum-told
-    place-entries-requires
-    same-length
+    (λ c. search needs)
+    (λ c. search needs)
+    (λ c κs. search needs)
+    (λ c. search needs)
     returns
-    same-length-2
+    (λ c. search needs)
     returns-2)

@@ -14,43 +14,19 @@ Inv-loop field₀ body head t all question literals at₀ left₀ i₀ field at 
 abbrev μ-loop : tie.MeasureT-loop
 μ-loop field₀ body head t all question literals at₀ left₀ i₀ field at left i = head .count - i
 
-first-left-requires : tie.Need-first-left-requires Inv-loop μ-loop
-first-left-requires c κs = search needs
-
 loop-holds : tie.Need-loop-holds Inv-loop μ-loop
 loop-holds c =
     let a = c .before .before .before .before .before .args in
     (omega arith, at-start (a .t) (a .body .now) (a .head) (a .all) (a .question) (a .literals .now) (a .field .now) (c .first-left .ensures), refl)
 
-next-requires : tie.Need-next-requires Inv-loop μ-loop
-next-requires c κs = search needs
-
 place-entry-requires : tie.Need-place-entry-requires Inv-loop μ-loop
 place-entry-requires c κs = found (c .before .before .before .before .loop .inv .1) (c .before .next .result) (c .before .next .ensures .1) (c .before .before .if1 .taken) (c .before .before .before .before .before .before .before .before .before .before .pre)
-
-enum-known-placed : tie.Need-enum-known-placed Inv-loop μ-loop
-enum-known-placed c = search needs
-
-same-length : tie.Need-same-length Inv-loop μ-loop
-same-length c = search needs
 
 returns : tie.Need-returns Inv-loop μ-loop
 returns c = if-refused (c .before .before .before .before .before .before .before .before .before .before .loop .inv .1) (c .before .before .before .before .before .before .before .next .result) (c .before .before .before .before .before .before .before .next .ensures .1) (c .before .before .before .before .before .before .before .before .if1 .taken) (c .before .before .before .before .before .place-entry .ensures) (c .before .placed .given .1)
 
-enum-told : tie.Need-enum-told Inv-loop μ-loop
-enum-told c = search needs
-
-add-i : tie.Need-add-i Inv-loop μ-loop
-add-i c = search needs
-
-loop-less : tie.Need-loop-less Inv-loop μ-loop
-loop-less c = search needs
-
 loop-again : tie.Need-loop-again Inv-loop μ-loop
 loop-again c = (omega arith, if-placed (c .before .before .before .before .before .before .before .before .before .before .loop .inv .1) (c .before .before .before .before .before .before .before .next .result) (c .before .before .before .before .before .before .before .next .ensures .1) (c .before .before .before .before .before .before .before .before .if1 .taken) (c .before .before .before .before .before .place-entry .ensures) (c .before .enum-told .given .1), search needs)
-
-same-length-2 : tie.Need-same-length-2 Inv-loop μ-loop
-same-length-2 c = search needs
 
 returns-2 : tie.Need-returns-2 Inv-loop μ-loop
 returns-2 c = at-end (c .before .before .loop .inv .1) (c .if1 .left)
@@ -61,16 +37,16 @@ place-entries-spec =
     (tie.spec
     Inv-loop
     μ-loop
-    first-left-requires
+    (λ c κs. search needs)
     loop-holds
-    next-requires
+    (λ c κs. search needs)
     place-entry-requires
-    enum-known-placed
-    same-length
+    (λ c. search needs)
+    (λ c. search needs)
     returns
-    enum-told
-    add-i
-    loop-less
+    (λ c. search needs)
+    (λ c. search needs)
+    (λ c. search needs)
     loop-again
-    same-length-2
+    (λ c. search needs)
     returns-2)

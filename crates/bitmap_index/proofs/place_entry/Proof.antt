@@ -8,37 +8,10 @@ use borrow.Author.Needs.{needs}
 use Rattle.bitmap_index.proofs.place_entry.Statement.{statement}
 use Rattle.bitmap_index.proofs.place_entry.Tie as tie
 
-sub-picks : tie.Need-sub-picks
-sub-picks c = search needs
-
-part-picks-start : tie.Need-part-picks-start
-part-picks-start c = search needs
-
-part-picks-end : tie.Need-part-picks-end
-part-picks-end c = search needs
-
-picks-requires : tie.Need-picks-requires
-picks-requires c κs = search needs
-
 returns : tie.Need-returns
 returns c =
     let a = c .before .before .before .before .before .before .args in
     λ ls h. passed-over (a .head .rows) (drop (a .head .region .0) (a .body .now)) (a .all) (a .question) ls (entryAt (a .body .now) (a .entry)) (a .field .now) (c .before .picks .ensures ls h) (not-true _ (c .if1 .taken))
-
-sub-place : tie.Need-sub-place
-sub-place c = search needs
-
-part-place-start : tie.Need-part-place-start
-part-place-start c = search needs
-
-part-place-end : tie.Need-part-place-end
-part-place-end c = search needs
-
-place-requires : tie.Need-place-requires
-place-requires c κs = search needs
-
-same-length : tie.Need-same-length
-same-length c = search needs
 
 returns-2 : tie.Need-returns-2
 returns-2 c =
@@ -49,14 +22,14 @@ pub place-entry-spec : {M : Type 1} → statement M
 place-entry-spec =
     tie.close
     (tie.spec
-    sub-picks
-    part-picks-start
-    part-picks-end
-    picks-requires
+    (λ c. search needs)
+    (λ c. search needs)
+    (λ c. search needs)
+    (λ c κs. search needs)
     returns
-    sub-place
-    part-place-start
-    part-place-end
-    place-requires
-    same-length
+    (λ c. search needs)
+    (λ c. search needs)
+    (λ c. search needs)
+    (λ c κs. search needs)
+    (λ c. search needs)
     returns-2)

@@ -9,19 +9,10 @@ returns c =
     let a = c .before .before .args in
     row-range (a .row .0) (a .rows) (a .field .now) (c .if1 .taken)
 
-mark-requires : tie.Need-mark-requires
-mark-requires c κs = search needs
-
-same-length : tie.Need-same-length
-same-length c = search needs
-
 returns-2 : tie.Need-returns-2
 returns-2 c =
     let a = c .before .before .before .before .before .before .before .args in
     row-twice (a .row .0) (a .rows) (a .field .now) (c .before .before .before .before .before .if1 .left) (c .before .before .before .mark .ensures .0) (c .before .before .before .mark .ensures .1) (c .if2 .taken)
-
-same-length-2 : tie.Need-same-length-2
-same-length-2 c = search needs
 
 returns-3 : tie.Need-returns-3
 returns-3 c =
@@ -30,4 +21,11 @@ returns-3 c =
 
 pub place-row-spec : {M : Type 1} → statement M
 place-row-spec =
-    tie.close (tie.spec returns mark-requires same-length returns-2 same-length-2 returns-3)
+    tie.close
+    (tie.spec
+    returns
+    (λ c κs. search needs)
+    (λ c. search needs)
+    returns-2
+    (λ c. search needs)
+    returns-3)

@@ -15,18 +15,6 @@ returns-2 c =
     let a = c .before .before .before .before .args in
     no-type (a .t) (a .body .now) (a .field .now) (c .before .if1 .left) (c .if2 .taken)
 
-read-requires : tie.Need-read-requires
-read-requires c κs = search needs
-
-enum-known-checked : tie.Need-enum-known-checked
-enum-known-checked c = search needs
-
-enum-known-checked-2 : tie.Need-enum-known-checked-2
-enum-known-checked-2 c = search needs
-
-has-room-requires : tie.Need-has-room-requires
-has-room-requires c κs = search needs
-
 returns-3 : tie.Need-returns-3
 returns-3 c =
     let a = c .before .before .before .before .before .before .before .before .before .before .args in
@@ -48,10 +36,10 @@ prepare-spec =
     (tie.spec
     returns
     returns-2
-    read-requires
-    enum-known-checked
-    enum-known-checked-2
-    has-room-requires
+    (λ c κs. search needs)
+    (λ c. search needs)
+    (λ c. search needs)
+    (λ c κs. search needs)
     returns-3
     returns-4
     returns-5)

@@ -19,4 +19,9 @@ returns-3 c =
     takes-none (a .question) (a .count) (c .before .if1 .left) (c .if2 .left)
 
 pub takes-spec : {M : Type 1} → statement M
-takes-spec = tie.close (tie.spec returns returns-2 returns-3)
+takes-spec =
+    tie.close
+    (tie.spec
+    returns
+    returns-2
+    returns-3)

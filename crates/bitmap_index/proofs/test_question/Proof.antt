@@ -25,18 +25,6 @@ returns-4 c =
     let a = c .before .before .before .before .before .before .args in
     unknown-question (a .t) (a .question) (a .literals .now) (a .body .now) (c .before .before .before .if1 .left) (c .before .before .if2 .left) (c .before .if3 .left) (c .if4 .taken)
 
-literals-requires : tie.Need-literals-requires
-literals-requires c κs = search needs
-
-enum-known-counted : tie.Need-enum-known-counted
-enum-known-counted c = search needs
-
-enum-known-counted-2 : tie.Need-enum-known-counted-2
-enum-known-counted-2 c = search needs
-
-takes-requires : tie.Need-takes-requires
-takes-requires c κs = search needs
-
 returns-5 : tie.Need-returns-5
 returns-5 c =
     let a = c .before .before .before .before .before .before .before .before .before .before .before .before .args in
@@ -60,10 +48,10 @@ test-question-spec =
     returns-2
     returns-3
     returns-4
-    literals-requires
-    enum-known-counted
-    enum-known-counted-2
-    takes-requires
+    (λ c κs. search needs)
+    (λ c. search needs)
+    (λ c. search needs)
+    (λ c κs. search needs)
     returns-5
     returns-6
     returns-7)

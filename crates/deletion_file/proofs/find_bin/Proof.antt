@@ -22,47 +22,17 @@ abbrev μ-loop : tie.MeasureT-loop
 loop-holds : tie.Need-loop-holds Inv-loop μ-loop
 loop-holds c = (omega arith, omega arith, walked-first _ _ _ _)
 
-sub-left : tie.Need-sub-left Inv-loop μ-loop
-sub-left c = omega arith
-
 returns : tie.Need-returns Inv-loop μ-loop
 unfolding binAt
 returns c = (sym (walked-cut (c .before .before .loop .inv .2) (omega arith) (omega arith)), tt)
-
-be32-requires : tie.Need-be32-requires Inv-loop μ-loop
-be32-requires c κs = omega arith
 
 returns-2 : tie.Need-returns-2 Inv-loop μ-loop
 unfolding binAt
 returns-2 c = (sym (walked-small (c .before .before .before .before .loop .inv .2) (omega arith) (omega arith) (c .before .be32 .ensures .0) (omega arith)), tt)
 
-add-if3 : tie.Need-add-if3 Inv-loop μ-loop
-add-if3 c = omega arith
-
 returns-3 : tie.Need-returns-3 Inv-loop μ-loop
 unfolding binAt
 returns-3 c = (sym (walked-long (c .before .before .before .before .before .loop .inv .2) (omega arith) (omega arith) (c .before .before .be32 .ensures .0) (omega arith) (omega arith)), tt)
-
-add-start : tie.Need-add-start Inv-loop μ-loop
-add-start c = omega arith
-
-add-end : tie.Need-add-end Inv-loop μ-loop
-add-end c = omega arith
-
-add-end-2 : tie.Need-add-end-2 Inv-loop μ-loop
-add-end-2 c = omega arith
-
-add-next : tie.Need-add-next Inv-loop μ-loop
-add-next c = omega arith
-
-add-next-2 : tie.Need-add-next-2 Inv-loop μ-loop
-add-next-2 c = omega arith
-
-add-passed : tie.Need-add-passed Inv-loop μ-loop
-add-passed c = omega arith
-
-loop-less : tie.Need-loop-less Inv-loop μ-loop
-loop-less c = omega arith
 
 loop-again : tie.Need-loop-again Inv-loop μ-loop
 loop-again c = (
@@ -87,19 +57,19 @@ find-bin-spec =
     Inv-loop
     μ-loop
     loop-holds
-    sub-left
+    (λ c. omega arith)
     returns
-    be32-requires
+    (λ c κs. omega arith)
     returns-2
-    add-if3
+    (λ c. omega arith)
     returns-3
-    add-start
-    add-end
-    add-end-2
-    add-next
-    add-next-2
-    add-passed
-    loop-less
+    (λ c. omega arith)
+    (λ c. omega arith)
+    (λ c. omega arith)
+    (λ c. omega arith)
+    (λ c. omega arith)
+    (λ c. omega arith)
+    (λ c. omega arith)
     loop-again
     returns-4
     returns-5)

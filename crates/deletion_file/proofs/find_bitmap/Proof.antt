@@ -11,21 +11,9 @@ returns : tie.Need-returns
 unfolding bytesAt
 returns c = (sym (bitmap-empty _ _ (c .if1 .taken)), tt)
 
-byte-requires : tie.Need-byte-requires
-byte-requires c κs = search needs
-
 returns-2 : tie.Need-returns-2
 unfolding bytesAt
 returns-2 c = (sym (bitmap-version _ _ (omega arith) (c .before .byte .ensures .0) (c .if2 .taken)), tt)
-
-find-bin-requires : tie.Need-find-bin-requires
-find-bin-requires c κs = search needs
-
-enum-known-place : tie.Need-enum-known-place
-enum-known-place c = search needs
-
-enum-known-place-2 : tie.Need-enum-known-place-2
-enum-known-place-2 c = search needs
 
 open-bin-requires : tie.Need-open-bin-requires
 open-bin-requires c κs = rw (c .before .place2 .given .1) at (c .before .before .before .find-bin .ensures .1)
@@ -42,11 +30,11 @@ find-bitmap-spec =
     tie.close
     (tie.spec
     returns
-    byte-requires
+    (λ c κs. search needs)
     returns-2
-    find-bin-requires
-    enum-known-place
-    enum-known-place-2
+    (λ c κs. search needs)
+    (λ c. search needs)
+    (λ c. search needs)
     open-bin-requires
     returns-3
     returns-4)

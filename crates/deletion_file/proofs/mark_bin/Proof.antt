@@ -4,23 +4,11 @@ use Rattle.deletion_file.proofs.Mark.{place-refused, place-at}
 use Rattle.deletion_file.proofs.mark_bin.Statement.{statement}
 use Rattle.deletion_file.proofs.mark_bin.Tie as tie
 
-find-bitmap-requires : tie.Need-find-bitmap-requires
-find-bitmap-requires c κs = search needs
-
-enum-known-place : tie.Need-enum-known-place
-enum-known-place c = search needs
-
-enum-known-place-2 : tie.Need-enum-known-place-2
-enum-known-place-2 c = search needs
-
 mark-bitmap-requires : tie.Need-mark-bitmap-requires
 mark-bitmap-requires c κs = rw (c .before .before .place2 .given .1) at (c .before .before .before .before .find-bitmap .ensures .1)
 
 returns : tie.Need-returns
 returns c = place-refused _ _ (c .before .before .before .find-bitmap .ensures .0) _ _ (c .before .place .given .1)
-
-same-length : tie.Need-same-length
-same-length c = search needs
 
 returns-2 : tie.Need-returns-2
 returns-2 c = rw (← place-at _ _ (c .before .before .before .before .before .before .before .find-bitmap .ensures .0) (c .before .before .before .before .before .place2 .given .1)) (c .before .before .mark-bitmap .ensures)
@@ -29,10 +17,10 @@ pub mark-bin-spec : {M : Type 1} → statement M
 mark-bin-spec =
     tie.close
     (tie.spec
-    find-bitmap-requires
-    enum-known-place
-    enum-known-place-2
+    (λ c κs. search needs)
+    (λ c. search needs)
+    (λ c. search needs)
     mark-bitmap-requires
     returns
-    same-length
+    (λ c. search needs)
     returns-2)

@@ -7,33 +7,9 @@ use Rattle.deletion_file.proofs.Open.{opened-magic, opened-checksum, op
 use Rattle.deletion_file.proofs.open_bin.Statement.{statement}
 use Rattle.deletion_file.proofs.open_bin.Tie as tie
 
-be32-requires : tie.Need-be32-requires
-be32-requires c κs = search needs
-
 returns : tie.Need-returns
 unfolding bytesAt
 returns c = (sym (opened-magic _ _ _ (c .before .before .before .pre .0) (c .before .be32 .ensures .0) (c .if1 .taken)), tt)
-
-add-bitmap : tie.Need-add-bitmap
-add-bitmap c = search needs
-
-sub-checksum : tie.Need-sub-checksum
-sub-checksum c = search needs
-
-part-checksum-start : tie.Need-part-checksum-start
-part-checksum-start c = search needs
-
-part-checksum-end : tie.Need-part-checksum-end
-part-checksum-end c = search needs
-
-checksum-requires : tie.Need-checksum-requires
-checksum-requires c κs = search needs
-
-cast-if2 : tie.Need-cast-if2
-cast-if2 c = search needs
-
-be32-requires-2 : tie.Need-be32-requires-2
-be32-requires-2 c κs = search needs
 
 returns-2 : tie.Need-returns-2
 unfolding bytesAt
@@ -47,14 +23,14 @@ pub open-bin-spec : {M : Type 1} → statement M
 open-bin-spec =
     tie.close
     (tie.spec
-    be32-requires
+    (λ c κs. search needs)
     returns
-    add-bitmap
-    sub-checksum
-    part-checksum-start
-    part-checksum-end
-    checksum-requires
-    cast-if2
-    be32-requires-2
+    (λ c. search needs)
+    (λ c. search needs)
+    (λ c. search needs)
+    (λ c. search needs)
+    (λ c κs. search needs)
+    (λ c. search needs)
+    (λ c κs. search needs)
     returns-2
     returns-3)

@@ -11,20 +11,8 @@ returns c = long-file _ _ _ _ (c .if1 .taken)
 returns-2 : tie.Need-returns-2
 returns-2 c = many-rows _ _ _ _ (c .before .if1 .left) (c .if2 .taken)
 
-clear-if-room-requires : tie.Need-clear-if-room-requires
-clear-if-room-requires c κs = search needs
-
-same-length : tie.Need-same-length
-same-length c = search needs
-
 returns-3 : tie.Need-returns-3
 returns-3 c = no-room _ _ _ _ (c .before .before .before .before .before .before .if1 .left) (c .before .before .before .before .before .if2 .left) (c .before .before .before .clear-if-room .ensures) (not-true _ (c .if3 .taken))
-
-mark-bin-requires : tie.Need-mark-bin-requires
-mark-bin-requires c κs = search needs
-
-same-length-2 : tie.Need-same-length-2
-same-length-2 c = search needs
 
 returns-4 : tie.Need-returns-4
 returns-4 c =
@@ -36,9 +24,9 @@ read-deletions-spec =
     (tie.spec
     returns
     returns-2
-    clear-if-room-requires
-    same-length
+    (λ c κs. search needs)
+    (λ c. search needs)
     returns-3
-    mark-bin-requires
-    same-length-2
+    (λ c κs. search needs)
+    (λ c. search needs)
     returns-4)

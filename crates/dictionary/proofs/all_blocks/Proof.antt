@@ -1,5 +1,5 @@
 -- `all_blocks` meets its contract. The loop's invariant: whatever listings the directory has, what is left of them and of the reading gives the whole
--- (`Blocking`). Assumes nothing.
+-- (`Blocking`).
 use Prim.Native.Nat.{_-_, _*_, _≤_}
 use mathlib.Core.List.{List}
 use mathlib.Core.Path.{_≡_}
@@ -25,23 +25,11 @@ loop-holds c = let a = c .before .args in (omega arith, c .before .pre .0, omega
 one-block-requires : tie.Need-one-block-requires Inv-loop μ-loop
 one-block-requires c κs = (c .before .loop .inv .0, c .before .loop .inv .1, c .before .loop .inv .2)
 
-enum-known-r : tie.Need-enum-known-r Inv-loop μ-loop
-enum-known-r c = search needs
-
 returns : tie.Need-returns Inv-loop μ-loop
 returns c = λ ds l z. let a = c .before .before .before .before .before .before .before .args in let o = c .before .before .before .before .before .loop in blocking-refused (a .body .now) (a .base) (o .q) (o .p) (o .inv .5 ds l z) (omega arith) (rw (c .before .r .given .1) at (c .before .before .before .one-block .ensures))
 
-enum-known-listing : tie.Need-enum-known-listing Inv-loop μ-loop
-enum-known-listing c = search needs
-
 add-total : tie.Need-add-total Inv-loop μ-loop
 add-total c = let x = rw (c .before .listing .given .1) at (c .before .before .before .one-block .ensures) in omega (arith, x .4)
-
-add-i : tie.Need-add-i Inv-loop μ-loop
-add-i c = omega arith
-
-loop-less : tie.Need-loop-less Inv-loop μ-loop
-loop-less c = omega arith
 
 loop-again : tie.Need-loop-again Inv-loop μ-loop
 loop-again c =
@@ -70,11 +58,11 @@ all-blocks-spec =
     μ-loop
     loop-holds
     one-block-requires
-    enum-known-r
+    (λ c. search needs)
     returns
-    enum-known-listing
+    (λ c. search needs)
     add-total
-    add-i
-    loop-less
+    (λ c. omega arith)
+    (λ c. omega arith)
     loop-again
     returns-2)

@@ -1,4 +1,4 @@
--- `block_entries` meets its contract. The loop's invariant: what is left of the reading, behind the entries so far, gives the whole (`Passing`). Assumes nothing.
+-- `block_entries` meets its contract. The loop's invariant: what is left of the reading, behind the entries so far, gives the whole (`Passing`).
 use Prim.Native.Nat.{_-_, _≤_}
 use native.Mathlib.Omega.{arith}
 use lib.ListN.{length, drop, length-drop}
@@ -19,17 +19,8 @@ abbrev μ-loop : tie.MeasureT-loop
 loop-holds : tie.Need-loop-holds Inv-loop μ-loop
 loop-holds c = let a = c .before .args in (omega arith, c .before .pre .0, c .before .pre .1, c .before .pre .2, omega arith, passing-first (a .t) (a .n) (cellAt (a .body .now) (a .before)) (cellAt (a .body .now) (a .head)) (drop (a .at) (a .body .now)))
 
-value-end-requires : tie.Need-value-end-requires Inv-loop μ-loop
-value-end-requires c κs = search needs
-
-enum-known-r : tie.Need-enum-known-r Inv-loop μ-loop
-enum-known-r c = search needs
-
 returns : tie.Need-returns Inv-loop μ-loop
 returns c = passing-refused (c .before .before .before .before .before .loop .inv .5) (c .before .before .before .before .loop-test .taken) (rw (c .before .r .given .1) at (c .before .before .before .value-end .ensures))
-
-enum-known-to : tie.Need-enum-known-to Inv-loop μ-loop
-enum-known-to c = search needs
 
 is-past-requires : tie.Need-is-past-requires Inv-loop μ-loop
 is-past-requires c κs = let w = rw (c .before .to .given .1) at (c .before .before .before .value-end .ensures) in (c .before .before .before .before .before .loop .inv .2, omega arith, w .2)
@@ -48,15 +39,6 @@ sub-if3 c = let w = rw (c .before .before .before .before .before .to .given .1)
 
 returns-4 : tie.Need-returns-4 Inv-loop μ-loop
 returns-4 c = let w = rw (c .before .before .before .before .before .before .to .given .1) at (c .before .before .before .before .before .before .before .before .value-end .ensures) in passing-short (c .before .before .before .before .before .before .before .before .before .before .loop .inv .5) (c .before .before .before .before .before .before .before .before .before .loop-test .taken) (w .0) (c .before .before .before .before .is-past .ensures) (not-false _ (c .before .before .before .if1 .left)) (c .before .before .is-head .ensures) (not-false _ (c .before .if2 .left)) (simp length-drop (omega arith))
-
-add-p : tie.Need-add-p Inv-loop μ-loop
-add-p c = omega arith
-
-add-i : tie.Need-add-i Inv-loop μ-loop
-add-i c = omega arith
-
-loop-less : tie.Need-loop-less Inv-loop μ-loop
-loop-less c = omega arith
 
 loop-again : tie.Need-loop-again Inv-loop μ-loop
 loop-again c =
@@ -81,18 +63,18 @@ block-entries-spec =
     Inv-loop
     μ-loop
     loop-holds
-    value-end-requires
-    enum-known-r
+    (λ c κs. search needs)
+    (λ c. search needs)
     returns
-    enum-known-to
+    (λ c. search needs)
     is-past-requires
     returns-2
     is-head-requires
     returns-3
     sub-if3
     returns-4
-    add-p
-    add-i
-    loop-less
+    (λ c. omega arith)
+    (λ c. omega arith)
+    (λ c. omega arith)
     loop-again
     returns-5)

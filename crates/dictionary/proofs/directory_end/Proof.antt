@@ -1,4 +1,4 @@
--- `directory_end` meets its contract. The loop's invariant: what is left of the reading, behind the listings so far, gives the whole (`Listings`). Assumes nothing.
+-- `directory_end` meets its contract. The loop's invariant: what is left of the reading, behind the listings so far, gives the whole (`Listings`).
 use Prim.Native.Nat.{_-_, _≤_}
 use native.Mathlib.Omega.{arith}
 use lib.ListN.{length, drop, length-drop}
@@ -17,32 +17,14 @@ abbrev μ-loop : tie.MeasureT-loop
 loop-holds : tie.Need-loop-holds Inv-loop μ-loop
 loop-holds c = let a = c .before .args in (c .before .pre, omega arith, listings-first (a .t) (a .n) (drop (a .at) (a .body .now)))
 
-value-end-requires : tie.Need-value-end-requires Inv-loop μ-loop
-value-end-requires c κs = search needs
-
-enum-known-r : tie.Need-enum-known-r Inv-loop μ-loop
-enum-known-r c = search needs
-
 returns : tie.Need-returns Inv-loop μ-loop
 returns c = listings-refused (c .before .before .before .before .before .loop .inv .2) (c .before .before .before .before .loop-test .taken) (rw (c .before .r .given .1) at (c .before .before .before .value-end .ensures))
-
-enum-known-to : tie.Need-enum-known-to Inv-loop μ-loop
-enum-known-to c = search needs
 
 sub-if1 : tie.Need-sub-if1 Inv-loop μ-loop
 sub-if1 c = let w = rw (c .before .to .given .1) at (c .before .before .before .value-end .ensures) in omega arith
 
 returns-2 : tie.Need-returns-2 Inv-loop μ-loop
 returns-2 c = let w = rw (c .before .before .to .given .1) at (c .before .before .before .before .value-end .ensures) in listings-short (c .before .before .before .before .before .before .loop .inv .2) (c .before .before .before .before .before .loop-test .taken) (w .0) (simp length-drop (omega arith))
-
-add-p : tie.Need-add-p Inv-loop μ-loop
-add-p c = omega arith
-
-add-i : tie.Need-add-i Inv-loop μ-loop
-add-i c = omega arith
-
-loop-less : tie.Need-loop-less Inv-loop μ-loop
-loop-less c = omega arith
 
 loop-again : tie.Need-loop-again Inv-loop μ-loop
 loop-again c = let w = rw (c .before .before .to .given .1) at (c .before .before .before .before .value-end .ensures) in (omega arith, omega arith, rw (drop-past (c .before .before .before .before .before .before .before .before .args .body .now) (c .before .before .before .before .before .before .loop .p) (c .before .before .to .given .0 .0 .0) 4 (omega arith)) at (listings-next (c .before .before .before .before .before .before .loop .inv .2) (c .before .before .before .before .before .loop-test .taken) (w .0) (simp length-drop (omega arith))))
@@ -57,14 +39,14 @@ directory-end-spec =
     Inv-loop
     μ-loop
     loop-holds
-    value-end-requires
-    enum-known-r
+    (λ c κs. search needs)
+    (λ c. search needs)
     returns
-    enum-known-to
+    (λ c. search needs)
     sub-if1
     returns-2
-    add-p
-    add-i
-    loop-less
+    (λ c. omega arith)
+    (λ c. omega arith)
+    (λ c. omega arith)
     loop-again
     returns-3)

@@ -1,20 +1,20 @@
--- `entries` meets its contract, by the version. Assumes nothing.
+-- `entries` meets its contract, by the version.
 use borrow.Author.Needs.{needs}
 use Rattle.dictionary.proofs.Whole.{walked-two, walked-one}
 use Rattle.dictionary.proofs.entries.Statement.{statement}
 use Rattle.dictionary.proofs.entries.Tie as tie
 
-entries-two-requires : tie.Need-entries-two-requires
-entries-two-requires c κs = search needs
-
 returns : tie.Need-returns
 returns c = let a = c .before .before .before .args in walked-two (a .t) (a .n) (a .body .now) (a .at) (a .two) (c .entries-two .result) (c .before .if1 .taken) (c .entries-two .ensures)
-
-entries-one-requires : tie.Need-entries-one-requires
-entries-one-requires c κs = search needs
 
 returns-2 : tie.Need-returns-2
 returns-2 c = let a = c .before .before .before .args in walked-one (a .t) (a .n) (a .body .now) (a .at) (a .two) (c .entries-one .result) (c .before .if1 .left) (c .entries-one .ensures)
 
 pub entries-spec : {M : Type 1} → statement M
-entries-spec = tie.close (tie.spec entries-two-requires returns entries-one-requires returns-2)
+entries-spec =
+    tie.close
+    (tie.spec
+    (λ c κs. search needs)
+    returns
+    (λ c κs. search needs)
+    returns-2)

@@ -1,5 +1,5 @@
 -- `entries_one` meets its contract. The loop's invariant: what is left of the reading, behind the entries so far, gives the whole, and those entries
--- stand where `taken` looks for them (`One`). Assumes nothing.
+-- stand where `taken` looks for them (`One`).
 use Prim.Native.Nat.{_-_, _≤_}
 use mathlib.Core.Path.{_≡_}
 use native.Mathlib.Omega.{arith}
@@ -18,17 +18,8 @@ abbrev μ-loop : tie.MeasureT-loop
 loop-holds : tie.Need-loop-holds Inv-loop μ-loop
 loop-holds c = let a = c .before .args in (c .before .pre, omega arith, one-first (a .t) (a .n) (drop (a .at) (a .body .now)))
 
-value-end-requires : tie.Need-value-end-requires Inv-loop μ-loop
-value-end-requires c κs = search needs
-
-enum-known-r : tie.Need-enum-known-r Inv-loop μ-loop
-enum-known-r c = search needs
-
 returns : tie.Need-returns Inv-loop μ-loop
 returns c = one-refused (c .before .before .before .before .before .loop .inv .2) (c .before .before .before .before .loop-test .taken) (c .before .r .given .0 .0) (rw (c .before .r .given .1) at (c .before .before .before .value-end .ensures))
-
-enum-known-to : tie.Need-enum-known-to Inv-loop μ-loop
-enum-known-to c = search needs
 
 sub-taken : tie.Need-sub-taken Inv-loop μ-loop
 sub-taken c = let w = rw (c .before .to .given .1) at (c .before .before .before .value-end .ensures) in omega arith
@@ -38,9 +29,6 @@ part-taken-start c = let w = rw (c .before .to .given .1) at (c .before .before 
 
 part-taken-end : tie.Need-part-taken-end Inv-loop μ-loop
 part-taken-end c = let w = rw (c .before .to .given .1) at (c .before .before .before .value-end .ensures) in omega arith
-
-taken-requires : tie.Need-taken-requires Inv-loop μ-loop
-taken-requires c κs = search needs
 
 returns-2 : tie.Need-returns-2 Inv-loop μ-loop
 returns-2 c =
@@ -59,12 +47,6 @@ returns-3 c =
 
 add-p : tie.Need-add-p Inv-loop μ-loop
 add-p c = let w = rw (c .before .before .before .before .before .to .given .1) at (c .before .before .before .before .before .before .before .value-end .ensures) in omega arith
-
-add-i : tie.Need-add-i Inv-loop μ-loop
-add-i c = omega arith
-
-loop-less : tie.Need-loop-less Inv-loop μ-loop
-loop-less c = omega arith
 
 loop-again : tie.Need-loop-again Inv-loop μ-loop
 loop-again c =
@@ -85,19 +67,19 @@ entries-one-spec =
     Inv-loop
     μ-loop
     loop-holds
-    value-end-requires
-    enum-known-r
+    (λ c κs. search needs)
+    (λ c. search needs)
     returns
-    enum-known-to
+    (λ c. search needs)
     sub-taken
     part-taken-start
     part-taken-end
-    taken-requires
+    (λ c κs. search needs)
     returns-2
     sub-if2
     returns-3
     add-p
-    add-i
-    loop-less
+    (λ c. omega arith)
+    (λ c. omega arith)
     loop-again
     returns-4)

@@ -1,4 +1,4 @@
--- `entries_two` meets its contract: each way out is a law of the reading from the block number on. Assumes nothing.
+-- `entries_two` meets its contract: each way out is a law of the reading from the block number on.
 use Prim.Native.Nat.{_+_}
 use native.Mathlib.Omega.{arith}
 use borrow.Author.Tests.{not-true, not-false}
@@ -18,38 +18,17 @@ listed : (c : tie.After-known-told4)
     → DirectoryAt (c .before .before .before .before .before .before .before .before .before .before .before .args .t) (c .before .before .before .before .before .before .before .b .given .0 .0) (c .before .before .before .before .before .before .before .before .before .before .before .args .body .now) (c .before .before .before .before .before .before .before .before .before .before .before .args .at + 4) (Directory.Ends (c .before .to .given .0 .0))
 listed c = rw (c .before .to .given .1) at (c .before .before .before .directory-end .ensures)
 
-count-at-requires : tie.Need-count-at-requires
-count-at-requires c κs = search needs
-
-enum-known-r : tie.Need-enum-known-r
-enum-known-r c = search needs
-
 returns : tie.Need-returns
 returns c = let a = c .before .before .before .before .before .args in two-count (a .t) (a .n) (a .body .now) (a .at) (rw (c .before .r .given .1) at (c .before .before .before .count-at .ensures))
-
-enum-known-b : tie.Need-enum-known-b
-enum-known-b c = search needs
-
-blocks-fit-requires : tie.Need-blocks-fit-requires
-blocks-fit-requires c κs = search needs
 
 returns-2 : tie.Need-returns-2
 returns-2 c = let k = c .before .before in two-unfit (k .before .before .before .before .before .args .t) (k .before .before .before .before .before .args .n) (k .before .before .before .before .before .args .body .now) (k .before .before .before .before .before .args .at) (counted k) (c .before .blocks-fit .ensures) (not-true _ (c .if1 .taken))
 
-add-dir : tie.Need-add-dir
-add-dir c = search needs
-
 directory-end-requires : tie.Need-directory-end-requires
 directory-end-requires c κs = omega (arith, counted (c .before .before))
 
-enum-known-r-2 : tie.Need-enum-known-r-2
-enum-known-r-2 c = search needs
-
 returns-3 : tie.Need-returns-3
 returns-3 c = let k = c .before .before .before .before .before .before in two-directory (k .before .before .before .before .before .args .t) (k .before .before .before .before .before .args .n) (k .before .before .before .before .before .args .body .now) (k .before .before .before .before .before .args .at) (counted k) (c .before .before .before .before .before .blocks-fit .ensures) (not-false _ (c .before .before .before .before .if1 .left)) (rw (c .before .r2 .given .1) at (c .before .before .before .directory-end .ensures))
-
-enum-known-to : tie.Need-enum-known-to
-enum-known-to c = search needs
 
 sub-if2 : tie.Need-sub-if2
 sub-if2 c = omega (arith, listed c .4)
@@ -57,23 +36,11 @@ sub-if2 c = omega (arith, listed c .4)
 returns-4 : tie.Need-returns-4
 returns-4 c = let k = c .before .before .before .before .before .before .before in two-short (k .before .before .before .before .before .args .t) (k .before .before .before .before .before .args .n) (k .before .before .before .before .before .args .body .now) (k .before .before .before .before .before .args .at) (counted k) (c .before .before .before .before .before .before .blocks-fit .ensures) (not-false _ (c .before .before .before .before .before .if1 .left)) (listed (c .before)) (c .if2 .taken)
 
-be32-requires : tie.Need-be32-requires
-be32-requires c κs = search needs
-
-add-base : tie.Need-add-base
-add-base c = search needs
-
 all-blocks-requires : tie.Need-all-blocks-requires
 all-blocks-requires c κs = let l = listed (c .before .before) .4 in let n = counted (c .before .before .before .before .before .before .before .before) in (omega arith, n .2)
 
-enum-known-r-3 : tie.Need-enum-known-r-3
-enum-known-r-3 c = search needs
-
 returns-5 : tie.Need-returns-5
 returns-5 c = let k = c .before .before .before .before .before .before .before .before .before .before .before .before in two-broken (k .before .before .before .before .before .args .t) (k .before .before .before .before .before .args .n) (k .before .before .before .before .before .args .body .now) (k .before .before .before .before .before .args .at) (counted k) (c .before .before .before .before .before .before .before .before .before .before .before .blocks-fit .ensures) (not-false _ (c .before .before .before .before .before .before .before .before .before .before .if1 .left)) (listed (c .before .before .before .before .before .before)) (let l = listed (c .before .before .before .before .before .before) .4 in omega arith) (c .before .before .before .before .be32 .ensures .0) (rw (c .before .r3 .given .1) at (c .before .before .before .all-blocks .ensures))
-
-enum-known-next : tie.Need-enum-known-next
-enum-known-next c = search needs
 
 sub-if3 : tie.Need-sub-if3
 sub-if3 c = let x = rw (c .before .next .given .1) at (c .before .before .before .all-blocks .ensures) in omega (arith, x .1)
@@ -91,25 +58,25 @@ pub entries-two-spec : {M : Type 1} → statement M
 entries-two-spec =
     tie.close
     (tie.spec
-    count-at-requires
-    enum-known-r
+    (λ c κs. search needs)
+    (λ c. search needs)
     returns
-    enum-known-b
-    blocks-fit-requires
+    (λ c. search needs)
+    (λ c κs. search needs)
     returns-2
-    add-dir
+    (λ c. search needs)
     directory-end-requires
-    enum-known-r-2
+    (λ c. search needs)
     returns-3
-    enum-known-to
+    (λ c. search needs)
     sub-if2
     returns-4
-    be32-requires
-    add-base
+    (λ c κs. search needs)
+    (λ c. search needs)
     all-blocks-requires
-    enum-known-r-3
+    (λ c. search needs)
     returns-5
-    enum-known-next
+    (λ c. search needs)
     sub-if3
     returns-6
     returns-7

@@ -1,4 +1,4 @@
--- `entry_at` meets its contract: each way out is a case of the definition of the entry at a position. Assumes nothing.
+-- `entry_at` meets its contract: each way out is a case of the definition of the entry at a position.
 use mathlib.Core.Path.{_∙_}
 use native.Mathlib.Omega.{arith}
 use borrow.Author.Needs.{needs}
@@ -8,39 +8,18 @@ use Rattle.dictionary.proofs.Cursor.{entry-none, entry-lost, made-none,
 use Rattle.dictionary.proofs.entry_at.Statement.{statement}
 use Rattle.dictionary.proofs.entry_at.Tie as tie
 
-no-entry-requires : tie.Need-no-entry-requires
-no-entry-requires c κs = search needs
-
 returns : tie.Need-returns
 returns c =
     let a = c .before .before .before .args in
     c .no-entry .ensures ∙ entry-none (a .t) (a .two) (a .body .now) (a .at) (a .n) (c .before .if1 .taken)
-
-value-end-requires : tie.Need-value-end-requires
-value-end-requires c κs = search needs
-
-enum-told : tie.Need-enum-told
-enum-told c = search needs
-
-no-entry-requires-2 : tie.Need-no-entry-requires-2
-no-entry-requires-2 c κs = search needs
 
 returns-2 : tie.Need-returns-2
 returns-2 c =
     let a = c .before .before .before .before .before .before .args in
     c .no-entry2 .ensures ∙ entry-lost (a .t) (a .two) (a .body .now) (a .at) (a .n) (omega arith) (rw (c .before .enum-told .given .1) at (c .before .before .before .value-end .ensures))
 
-enum-known-to : tie.Need-enum-known-to
-enum-known-to c = search needs
-
-behind-value-requires : tie.Need-behind-value-requires
-behind-value-requires c κs = search needs
-
 sub-if2 : tie.Need-sub-if2
 sub-if2 c = let w = rw (c .before .before .to .given .1) at (c .before .before .before .before .value-end .ensures) in omega arith
-
-no-entry-requires-3 : tie.Need-no-entry-requires-3
-no-entry-requires-3 c κs = search needs
 
 returns-3 : tie.Need-returns-3
 returns-3 c =
@@ -57,9 +36,6 @@ extent-at-requires c κs = let w = rw (c .before .before .before .before .to .gi
 add-t11 : tie.Need-add-t11
 add-t11 c = let w = rw (c .before .before .before .before .before .to .given .1) at (c .before .before .before .before .before .before .before .value-end .ensures) in let l = c .before .before .before .behind-value .ensures in omega arith
 
-sub-t19 : tie.Need-sub-t19
-sub-t19 c = omega arith
-
 returns-4 : tie.Need-returns-4
 returns-4 c =
     let a = c .before .before .before .before .before .before .before .before .before .before .args in
@@ -72,19 +48,19 @@ pub entry-at-spec : {M : Type 1} → statement M
 entry-at-spec =
     tie.close
     (tie.spec
-    no-entry-requires
+    (λ c κs. search needs)
     returns
-    value-end-requires
-    enum-told
-    no-entry-requires-2
+    (λ c κs. search needs)
+    (λ c. search needs)
+    (λ c κs. search needs)
     returns-2
-    enum-known-to
-    behind-value-requires
+    (λ c. search needs)
+    (λ c κs. search needs)
     sub-if2
-    no-entry-requires-3
+    (λ c κs. search needs)
     returns-3
     offset-at-requires
     extent-at-requires
     add-t11
-    sub-t19
+    (λ c. omega arith)
     returns-4)

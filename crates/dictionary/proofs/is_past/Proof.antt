@@ -1,4 +1,4 @@
--- `is_past` meets its contract, by whether the span has bytes. Assumes nothing.
+-- `is_past` meets its contract, by whether the span has bytes.
 use Prim.Native.Nat.{_-_}
 use mathlib.Core.Path.{_∙_}
 use lib.ListN.{take, drop}
@@ -6,27 +6,6 @@ use borrow.Author.Needs.{needs}
 use Rattle.dictionary.proofs.VersionTwo.{past-none, past-some}
 use Rattle.dictionary.proofs.is_past.Statement.{statement}
 use Rattle.dictionary.proofs.is_past.Tie as tie
-
-sub-less : tie.Need-sub-less
-sub-less c = search needs
-
-part-less-start : tie.Need-part-less-start
-part-less-start c = search needs
-
-part-less-end : tie.Need-part-less-end
-part-less-end c = search needs
-
-sub-less-2 : tie.Need-sub-less-2
-sub-less-2 c = search needs
-
-part-less-start-2 : tie.Need-part-less-start-2
-part-less-start-2 c = search needs
-
-part-less-end-2 : tie.Need-part-less-end-2
-part-less-end-2 c = search needs
-
-less-requires : tie.Need-less-requires
-less-requires c κs = search needs
 
 returns : tie.Need-returns
 returns c = let a = c .before .before .before .before .before .args in c .less .ensures ∙ past-some (a .body .now) (a .before) (take (a .e - a .p) (drop (a .p) (a .body .now))) (a .t) (c .before .before .before .if1 .taken)
@@ -38,12 +17,12 @@ pub is-past-spec : {M : Type 1} → statement M
 is-past-spec =
     tie.close
     (tie.spec
-    sub-less
-    part-less-start
-    part-less-end
-    sub-less-2
-    part-less-start-2
-    part-less-end-2
-    less-requires
+    (λ c. search needs)
+    (λ c. search needs)
+    (λ c. search needs)
+    (λ c. search needs)
+    (λ c. search needs)
+    (λ c. search needs)
+    (λ c κs. search needs)
     returns
     returns-2)

@@ -1,5 +1,5 @@
 -- `next` meets its contract: where a block's number is due it is read first, and `entry_at` makes the entry. What stands there is then a law of the
--- definition (`next-stands`). Assumes nothing.
+-- definition (`next-stands`).
 use mathlib.Core.Path.{_∙_}
 use native.Mathlib.Omega.{arith}
 use borrow.Author.Needs.{needs}
@@ -7,20 +7,11 @@ use Rattle.dictionary.proofs.Cursor.{next-cut, next-opened, next-open, 
 use Rattle.dictionary.proofs.next.Statement.{statement}
 use Rattle.dictionary.proofs.next.Tie as tie
 
-no-entry-requires : tie.Need-no-entry-requires
-no-entry-requires c κs = search needs
-
 returns : tie.Need-returns
 returns c =
     let a = c .before .before .before .before .args in
     let r = c .no-entry .ensures ∙ next-cut (a .t) (a .two) (a .body .now) (a .at .0) (a .left) (c .before .before .if1 .taken) (omega arith) in
     (r, next-stands (a .t) (a .two) (a .body .now) (a .at .0) (a .left) (λ i. c .before .before .before .shared-slice-known .given i .fits) r)
-
-sub-if3 : tie.Need-sub-if3
-sub-if3 c = search needs
-
-no-entry-requires-2 : tie.Need-no-entry-requires-2
-no-entry-requires-2 c κs = search needs
 
 returns-2 : tie.Need-returns-2
 returns-2 c =
@@ -28,23 +19,11 @@ returns-2 c =
     let r = c .no-entry2 .ensures ∙ next-cut (a .t) (a .two) (a .body .now) (a .at .0) (a .left) (c .before .before .before .if1 .taken) (omega arith) in
     (r, next-stands (a .t) (a .two) (a .body .now) (a .at .0) (a .left) (λ i. c .before .before .before .before .shared-slice-known .given i .fits) r)
 
-be32-requires : tie.Need-be32-requires
-be32-requires c κs = search needs
-
-add-entry-at : tie.Need-add-entry-at
-add-entry-at c = search needs
-
-entry-at-requires : tie.Need-entry-at-requires
-entry-at-requires c κs = search needs
-
 returns-3 : tie.Need-returns-3
 returns-3 c =
     let a = c .before .before .before .before .before .before .args in
     let r = c .entry-at .ensures ∙ next-opened (a .t) (a .two) (a .body .now) (a .at .0) (a .left) (c .before .before .before .before .if1 .taken) (omega arith) (c .before .be32 .ensures .0) in
     (r, next-stands (a .t) (a .two) (a .body .now) (a .at .0) (a .left) (λ i. c .before .before .before .before .before .shared-slice-known .given i .fits) r)
-
-entry-at-requires-2 : tie.Need-entry-at-requires-2
-entry-at-requires-2 c κs = search needs
 
 returns-4 : tie.Need-returns-4
 returns-4 c =
@@ -56,14 +35,14 @@ pub next-spec : {M : Type 1} → statement M
 next-spec =
     tie.close
     (tie.spec
-    no-entry-requires
+    (λ c κs. search needs)
     returns
-    sub-if3
-    no-entry-requires-2
+    (λ c. search needs)
+    (λ c κs. search needs)
     returns-2
-    be32-requires
-    add-entry-at
-    entry-at-requires
+    (λ c κs. search needs)
+    (λ c. search needs)
+    (λ c κs. search needs)
     returns-3
-    entry-at-requires-2
+    (λ c κs. search needs)
     returns-4)

@@ -1,4 +1,4 @@
--- `null_entry` meets its contract: each way out is a law of the reading of null's entry. Assumes nothing.
+-- `null_entry` meets its contract: each way out is a law of the reading of null's entry.
 use mathlib.Core.Path.{refl}
 use native.Mathlib.Omega.{arith}
 use lib.IntN.{pos}
@@ -13,17 +13,8 @@ returns c =
     let a = c .before .before .args in
     (null-none (a .body .now) (a .at) (a .two) (not-true _ (c .if1 .taken)) (pos 0) 0, search needs, λ n. (refl, refl))
 
-sub-if2 : tie.Need-sub-if2
-sub-if2 c = search needs
-
 returns-2 : tie.Need-returns-2
 returns-2 c = let a = c .before .before .before .args in null-short (a .body .now) (a .at) (a .two) (not-false _ (c .before .if1 .left)) (c .if2 .taken)
-
-offset-at-requires : tie.Need-offset-at-requires
-offset-at-requires c κs = search needs
-
-add-p : tie.Need-add-p
-add-p c = search needs
 
 returns-3 : tie.Need-returns-3
 returns-3 c =
@@ -32,20 +23,11 @@ returns-3 c =
     let o = c .before .offset-at .ensures in
     (null-one (a .body .now) (a .at) (a .two) has (omega arith) (o .0) (o .1) (not-true _ (c .if3 .taken)), omega arith, has-one has)
 
-sub-if4 : tie.Need-sub-if4
-sub-if4 c = search needs
-
 returns-4 : tie.Need-returns-4
 returns-4 c =
     let a = c .before .before .before .before .before .before .args in
     let o = c .before .before .offset-at .ensures in
     null-cut (a .body .now) (a .at) (a .two) (not-false _ (c .before .before .before .before .if1 .left)) (omega arith) (o .0) (o .1) (not-false _ (c .before .if3 .left)) (c .if4 .taken)
-
-be32-requires : tie.Need-be32-requires
-be32-requires c κs = search needs
-
-add-t9 : tie.Need-add-t9
-add-t9 c = search needs
 
 returns-5 : tie.Need-returns-5
 returns-5 c =
@@ -59,13 +41,13 @@ null-entry-spec =
     tie.close
     (tie.spec
     returns
-    sub-if2
+    (λ c. search needs)
     returns-2
-    offset-at-requires
-    add-p
+    (λ c κs. search needs)
+    (λ c. search needs)
     returns-3
-    sub-if4
+    (λ c. search needs)
     returns-4
-    be32-requires
-    add-t9
+    (λ c κs. search needs)
+    (λ c. search needs)
     returns-5)

@@ -1,4 +1,4 @@
--- `offset_at` meets its contract: four bytes are 32 bits, and so fit a signed number of as many. Assumes nothing.
+-- `offset_at` meets its contract: four bytes are 32 bits, and so fit a signed number of as many.
 use Prim.Native.Nat.{_<_}
 use mathlib.Core.Path.{_∙_}
 use borrow.Author.Needs.{needs}
@@ -6,15 +6,6 @@ use Rattle.numbers.specs.Meaning.{beAt}
 use Rattle.dictionary.proofs.Offsets.{signed-passed}
 use Rattle.dictionary.proofs.offset_at.Statement.{statement}
 use Rattle.dictionary.proofs.offset_at.Tie as tie
-
-be32-requires : tie.Need-be32-requires
-be32-requires c κs = search needs
-
-cast-to-signed : tie.Need-cast-to-signed
-cast-to-signed c = search needs
-
-to-signed-requires : tie.Need-to-signed-requires
-to-signed-requires c κs = search needs
 
 returns : tie.Need-returns
 returns c =
@@ -24,4 +15,10 @@ returns c =
     (signed-passed (beAt 4 (a .body .now) (a .at)) (c .to-signed .ensures ∙ rw (n .0)) h, h)
 
 pub offset-at-spec : {M : Type 1} → statement M
-offset-at-spec = tie.close (tie.spec be32-requires cast-to-signed to-signed-requires returns)
+offset-at-spec =
+    tie.close
+    (tie.spec
+    (λ c κs. search needs)
+    (λ c. search needs)
+    (λ c κs. search needs)
+    returns)

@@ -1,4 +1,4 @@
--- `one_block` meets its contract: each way out is a law of the reading of a block. The listing's value was found when the directory was read. Assumes nothing.
+-- `one_block` meets its contract: each way out is a law of the reading of a block. The listing's value was found when the directory was read.
 use mathlib.Core.List.{_++_}
 use native.Mathlib.Omega.{arith}
 use lib.ListN.{length-append}
@@ -13,17 +13,8 @@ use Rattle.dictionary.proofs.one_block.Tie as tie
 found : (c : tie.After-known-told2) → ValueAt (c .before .before .before .before .before .args .t) (c .before .before .before .before .before .args .body .now) (c .before .before .before .before .before .args .q) (Value.To (c .before .to .given .0 .0))
 found c = rw (c .before .to .given .1) at (c .before .before .before .value-end .ensures)
 
-value-end-requires : tie.Need-value-end-requires
-value-end-requires c κs = search needs
-
-enum-known-r : tie.Need-enum-known-r
-enum-known-r c = search needs
-
 returns : tie.Need-returns
 returns c = λ d ds l. let a = c .before .before .before .before .before .args in absurd (listed-lost (a .t) (a .body .now) (a .q) (c .before .r .given .0 .0) d ds (rw (c .before .r .given .1) at (c .before .before .before .value-end .ensures)) l)
-
-enum-known-to : tie.Need-enum-known-to
-enum-known-to c = search needs
 
 sub-if1 : tie.Need-sub-if1
 sub-if1 c = let w = found c in omega arith
@@ -35,12 +26,6 @@ returns-2 c = λ d ds l.
     let a = b .args in
     let w = block-listed (a .t) (a .body .now) (a .base) (a .q) (a .p) (k .before .to .given .0 .0 .0) (b .pre .0) (b .pre .1) (found k) (cellAt (a .body .now) (a .before)) d ds l .0 in absurd (omega arith)
 
-be32-requires : tie.Need-be32-requires
-be32-requires c κs = search needs
-
-sub-if2 : tie.Need-sub-if2
-sub-if2 c = search needs
-
 returns-3 : tie.Need-returns-3
 returns-3 c = λ d ds l es f.
     let k = c .before .before .before in
@@ -48,18 +33,12 @@ returns-3 c = λ d ds l es f.
     let a = b .args in
     block-misplaced (a .t) (a .body .now) (a .base) (a .q) (a .p) (k .before .to .given .0 .0 .0) (b .pre .0) (b .pre .1) (found k) (cellAt (a .body .now) (a .before)) d ds l es f (c .before .be32 .ensures .0) (c .if2 .taken)
 
-sub-if3 : tie.Need-sub-if3
-sub-if3 c = search needs
-
 returns-4 : tie.Need-returns-4
 returns-4 c = λ d ds l es f.
     let k = c .before .before .before .before in
     let b = k .before .before .before .before .before in
     let a = b .args in
     block-short (a .t) (a .body .now) (a .base) (a .q) (a .p) (k .before .to .given .0 .0 .0) (b .pre .0) (b .pre .1) (found k) (cellAt (a .body .now) (a .before)) d ds l es f (c .before .before .be32 .ensures .0) (c .before .if2 .left) (c .if3 .taken)
-
-be32-requires-2 : tie.Need-be32-requires-2
-be32-requires-2 c κs = search needs
 
 returns-5 : tie.Need-returns-5
 returns-5 c = λ d ds l es f.
@@ -75,14 +54,8 @@ returns-6 c = λ d ds l es f.
     let a = b .args in
     block-negative (a .t) (a .body .now) (a .base) (a .q) (a .p) (k .before .to .given .0 .0 .0) (b .pre .0) (b .pre .1) (found k) (cellAt (a .body .now) (a .before)) d ds l es f (c .before .before .before .before .before .be32 .ensures .0) (c .before .before .before .before .if2 .left) (omega arith) (c .before .before .be322 .ensures .0) (c .before .if4 .left) (c .if5 .taken)
 
-add-block-entries : tie.Need-add-block-entries
-add-block-entries c = search needs
-
 block-entries-requires : tie.Need-block-entries-requires
 block-entries-requires c κs = let w = found (c .before .before .before .before .before .before .before) in (omega arith, c .before .before .before .before .before .before .before .before .before .before .before .before .pre .2, w .2)
-
-enum-known-r-2 : tie.Need-enum-known-r-2
-enum-known-r-2 c = search needs
 
 returns-7 : tie.Need-returns-7
 returns-7 c = λ d ds l es f.
@@ -90,12 +63,6 @@ returns-7 c = λ d ds l es f.
     let b = k .before .before .before .before .before in
     let a = b .args in
     block-refused (a .t) (a .body .now) (a .base) (a .q) (a .p) (k .before .to .given .0 .0 .0) (b .pre .0) (b .pre .1) (found k) (cellAt (a .body .now) (a .before)) d ds l es f (c .before .before .before .before .before .before .before .before .before .be32 .ensures .0) (c .before .before .before .before .before .before .before .before .if2 .left) (omega arith) (c .before .before .before .before .before .before .be322 .ensures .0) (c .before .before .before .before .before .if4 .left) (c .before .before .before .before .if5 .left) (rw (c .before .r2 .given .1) at (c .before .before .before .block-entries .ensures))
-
-enum-known-next : tie.Need-enum-known-next
-enum-known-next c = search needs
-
-add-listing : tie.Need-add-listing
-add-listing c = search needs
 
 returns-8 : tie.Need-returns-8
 returns-8 c =
@@ -122,24 +89,24 @@ pub one-block-spec : {M : Type 1} → statement M
 one-block-spec =
     tie.close
     (tie.spec
-    value-end-requires
-    enum-known-r
+    (λ c κs. search needs)
+    (λ c. search needs)
     returns
-    enum-known-to
+    (λ c. search needs)
     sub-if1
     returns-2
-    be32-requires
-    sub-if2
+    (λ c κs. search needs)
+    (λ c. search needs)
     returns-3
-    sub-if3
+    (λ c. search needs)
     returns-4
-    be32-requires-2
+    (λ c κs. search needs)
     returns-5
     returns-6
-    add-block-entries
+    (λ c. search needs)
     block-entries-requires
-    enum-known-r-2
+    (λ c. search needs)
     returns-7
-    enum-known-next
-    add-listing
+    (λ c. search needs)
+    (λ c. search needs)
     returns-8)

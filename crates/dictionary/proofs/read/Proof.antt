@@ -1,44 +1,23 @@
--- `read` meets its contract: the fields, null's entry and the entries, read one after another, give the whole dictionary. Assumes nothing.
+-- `read` meets its contract: the fields, null's entry and the entries, read one after another, give the whole dictionary.
 use borrow.Author.Needs.{needs}
 use Rattle.dictionary.proofs.Whole.{read-null, read-refused, read-found}
 use Rattle.dictionary.proofs.read.Statement.{statement}
 use Rattle.dictionary.proofs.read.Tie as tie
 
-fixed-fields-requires : tie.Need-fixed-fields-requires
-fixed-fields-requires c κs = search needs
-
-enum-known-r : tie.Need-enum-known-r
-enum-known-r c = search needs
-
 returns : tie.Need-returns
 returns c = let f = rw (c .before .r .given .1) at (c .before .before .before .fixed-fields .ensures) in f (c .before .before .before .before .before .args .t)
-
-enum-known-two : tie.Need-enum-known-two
-enum-known-two c = search needs
 
 null-entry-requires : tie.Need-null-entry-requires
 null-entry-requires c κs = let f = rw (c .before .two .given .1) at (c .before .before .before .fixed-fields .ensures) in f .1
 
-enum-known-r-2 : tie.Need-enum-known-r-2
-enum-known-r-2 c = search needs
-
 returns-2 : tie.Need-returns-2
 returns-2 c = read-null (c .before .before .before .before .before .before .before .before .before .args .t) (c .before .before .before .before .before .before .before .before .before .args .body .now) (c .before .before .before .before .before .two .given .1) (c .before .before .before .before .before .before .before .fixed-fields .ensures) (c .before .before .before .null-entry .ensures) (c .before .r2 .given .1)
-
-enum-known-offset : tie.Need-enum-known-offset
-enum-known-offset c = search needs
 
 entries-requires : tie.Need-entries-requires
 entries-requires c κs = let n = rw (c .before .offset .given .1) at (c .before .before .before .null-entry .ensures) in n .1
 
-enum-known-r-3 : tie.Need-enum-known-r-3
-enum-known-r-3 c = search needs
-
 returns-3 : tie.Need-returns-3
 returns-3 c = read-refused (c .before .before .before .before .before .before .before .before .before .before .before .before .before .args .t) (c .before .before .before .before .before .before .before .before .before .before .before .before .before .args .body .now) (c .before .before .before .before .before .before .before .before .before .two .given .1) (c .before .before .before .before .before .before .before .before .before .before .before .fixed-fields .ensures) (c .before .before .before .before .before .before .before .null-entry .ensures) (c .before .before .before .before .before .offset .given .1) (c .before .before .before .entries .ensures) (c .before .r3 .given .1)
-
-enum-known-entries : tie.Need-enum-known-entries
-enum-known-entries c = search needs
 
 returns-4 : tie.Need-returns-4
 returns-4 c = read-found (c .before .before .before .before .before .before .before .before .before .before .before .before .before .args .t) (c .before .before .before .before .before .before .before .before .before .before .before .before .before .args .body .now) (c .before .before .before .before .before .before .before .before .before .two .given .1) (c .before .before .before .before .before .before .before .before .before .before .before .fixed-fields .ensures) (c .before .before .before .before .before .before .before .null-entry .ensures) (c .before .before .before .before .before .offset .given .1) (c .before .before .before .entries .ensures) (record { sfits = c .before .before .before .before .known-told4 .given .0 .1 }) (c .before .entries2 .given .1)
@@ -47,16 +26,16 @@ pub read-spec : {M : Type 1} → statement M
 read-spec =
     tie.close
     (tie.spec
-    fixed-fields-requires
-    enum-known-r
+    (λ c κs. search needs)
+    (λ c. search needs)
     returns
-    enum-known-two
+    (λ c. search needs)
     null-entry-requires
-    enum-known-r-2
+    (λ c. search needs)
     returns-2
-    enum-known-offset
+    (λ c. search needs)
     entries-requires
-    enum-known-r-3
+    (λ c. search needs)
     returns-3
-    enum-known-entries
+    (λ c. search needs)
     returns-4)

@@ -1,4 +1,4 @@
--- `taken` meets its contract. The loop's invariant: whatever entries stand at `at`, the value is among those left exactly if it is among all (`Sought`). Assumes nothing.
+-- `taken` meets its contract. The loop's invariant: whatever entries stand at `at`, the value is among those left exactly if it is among all (`Sought`).
 use Prim.Native.Nat.{_-_}
 use native.Mathlib.Omega.{arith}
 use lib.ListN.{drop}
@@ -16,17 +16,8 @@ abbrev μ-loop : tie.MeasureT-loop
 loop-holds : tie.Need-loop-holds Inv-loop μ-loop
 loop-holds c = let a = c .before .before .args in sought-first (a .t) (a .v .now) (drop (a .at) (a .body .now)) (a .i)
 
-value-end-requires : tie.Need-value-end-requires Inv-loop μ-loop
-value-end-requires c κs = search needs
-
-enum-told : tie.Need-enum-told Inv-loop μ-loop
-enum-told c = search needs
-
 returns : tie.Need-returns Inv-loop μ-loop
 returns c = sought-lost (c .before .before .before .before .loop .inv) (c .before .before .before .loop-test .taken) (rw (c .enum-told .given .1) at (c .before .before .value-end .ensures))
-
-enum-known-to : tie.Need-enum-known-to Inv-loop μ-loop
-enum-known-to c = search needs
 
 sub-same : tie.Need-sub-same Inv-loop μ-loop
 sub-same c = let w = rw (c .before .to .given .1) at (c .before .before .before .value-end .ensures) in omega arith
@@ -37,20 +28,11 @@ part-same-start c = let w = rw (c .before .to .given .1) at (c .before .before .
 part-same-end : tie.Need-part-same-end Inv-loop μ-loop
 part-same-end c = let w = rw (c .before .to .given .1) at (c .before .before .before .value-end .ensures) in omega arith
 
-same-requires : tie.Need-same-requires Inv-loop μ-loop
-same-requires c κs = search needs
-
 returns-2 : tie.Need-returns-2 Inv-loop μ-loop
 returns-2 c = let w = rw (c .before .before .before .before .to .given .1) at (c .before .before .before .before .before .before .value-end .ensures) in sought-found (c .before .before .before .before .before .before .before .before .loop .inv) (c .before .before .before .before .before .before .before .loop-test .taken) (w .0) (c .before .same .ensures) (c .if1 .taken)
 
 add-p : tie.Need-add-p Inv-loop μ-loop
 add-p c = let w = rw (c .before .before .before .before .to .given .1) at (c .before .before .before .before .before .before .value-end .ensures) in omega arith
-
-add-j : tie.Need-add-j Inv-loop μ-loop
-add-j c = search needs
-
-loop-less : tie.Need-loop-less Inv-loop μ-loop
-loop-less c = search needs
 
 loop-again : tie.Need-loop-again Inv-loop μ-loop
 loop-again c = let w = rw (c .before .before .before .before .to .given .1) at (c .before .before .before .before .before .before .value-end .ensures) in rw (drop-past (c .before .before .before .before .before .before .before .before .before .before .before .args .body .now) (c .before .before .before .before .before .before .before .before .loop .p) (c .before .before .before .before .to .given .0 .0 .0) 4 (omega arith)) at (sought-next (c .before .before .before .before .before .before .before .before .loop .inv) (c .before .before .before .before .before .before .before .loop-test .taken) (w .0) (c .before .same .ensures) (c .if1 .left))
@@ -65,17 +47,17 @@ taken-spec =
     Inv-loop
     μ-loop
     loop-holds
-    value-end-requires
-    enum-told
+    (λ c κs. search needs)
+    (λ c. search needs)
     returns
-    enum-known-to
+    (λ c. search needs)
     sub-same
     part-same-start
     part-same-end
-    same-requires
+    (λ c κs. search needs)
     returns-2
     add-p
-    add-j
-    loop-less
+    (λ c. search needs)
+    (λ c. search needs)
     loop-again
     returns-3)

@@ -5,9 +5,6 @@ use borrow.Author.Needs.{needs}
 use Rattle.file_to_answers.proofs.ask_file.Statement.{statement}
 use Rattle.file_to_answers.proofs.ask_file.Tie as tie
 
-locate-requires : tie.Need-locate-requires
-locate-requires c κs = search needs
-
 returns : tie.Need-returns
 returns c =
     let a = c .before .before .before .before .before .before .before .before .before .args in
@@ -22,45 +19,12 @@ returns-2 c =
     let p = refused (a .embedded .now) (a .file .now) (a .column .now) (a .kind .now) (a .t) (a .question) (a .literals .now) (a .field .now) (l .ensures .0) (c .before .if1 .left) (c .if2 .taken) in
     (p, as-scan (a .embedded .now) (a .file .now) (a .column .now) (a .kind .now) (a .t) (a .question) (a .literals .now) (a .field .now) (p .0) (p .1) (λ i. c .before .before .before .before .slice-known .given i .fits))
 
-audit-requires : tie.Need-audit-requires
-audit-requires c κs = search needs
-
-enum-known-audited : tie.Need-enum-known-audited
-enum-known-audited c = search needs
-
-number-requires : tie.Need-number-requires
-number-requires c κs = search needs
-
-same-length : tie.Need-same-length
-same-length c = search needs
-
 returns-3 : tie.Need-returns-3
 returns-3 c =
     let a = c .before .before .before .before .before .before .before .before .before .before .before .before .before .before .before .before .before .before .args in
     let l = c .before .before .before .before .before .before .before .before .before .before .locate in
     let p = audit-refused (a .embedded .now) (a .file .now) (a .column .now) (a .kind .now) (a .t) (a .question) (a .literals .now) (a .field .now) (l .ensures .0) (c .before .before .before .before .before .before .before .before .if2 .left) (l .ensures .1) (c .before .before .before .before .before .before .audit .ensures .0) (c .before .before .before .before .before .before .audit .ensures .1) (c .before .before .audited .given .1) (c .number .ensures) in
     (p, as-scan (a .embedded .now) (a .file .now) (a .column .now) (a .kind .now) (a .t) (a .question) (a .literals .now) (a .field .now) (p .0) (p .1) (λ i. c .before .before .before .before .before .before .before .before .before .before .before .before .slice-known .given i .fits))
-
-enum-told : tie.Need-enum-told
-enum-told c = search needs
-
-ask-requires : tie.Need-ask-requires
-ask-requires c κs = search needs
-
-enum-known-answered : tie.Need-enum-known-answered
-enum-known-answered c = search needs
-
-number-requires-2 : tie.Need-number-requires-2
-number-requires-2 c κs = search needs
-
-enum-told-2 : tie.Need-enum-told-2
-enum-told-2 c = search needs
-
-enum-known-answered-2 : tie.Need-enum-known-answered-2
-enum-known-answered-2 c = search needs
-
-same-length-2 : tie.Need-same-length-2
-same-length-2 c = search needs
 
 returns-4 : tie.Need-returns-4
 returns-4 c =
@@ -69,18 +33,12 @@ returns-4 c =
     let p = answered (a .embedded .now) (a .file .now) (a .column .now) (a .kind .now) (a .t) (a .question) (a .literals .now) (a .field .now) (l .ensures .0) (c .before .before .before .before .before .before .before .before .before .before .before .before .before .before .if2 .left) (l .ensures .1) (c .before .before .before .before .before .before .before .before .before .before .before .before .audit .ensures .0) (c .before .before .before .before .before .before .before .before .before .before .before .before .audit .ensures .1) (c .before .before .before .before .before .before .before .before .enum-told .given .1) (c .before .before .before .before .before .before .ask .ensures .0) (c .before .before .before .before .before .before .ask .ensures .1) (tell-refused (c .before .before .answered .given .1) (c .number2 .ensures)) in
     (p, as-scan (a .embedded .now) (a .file .now) (a .column .now) (a .kind .now) (a .t) (a .question) (a .literals .now) (a .field .now) (p .0) (p .1) (λ i. c .before .before .before .before .before .before .before .before .before .before .before .before .before .before .before .before .before .before .slice-known .given i .fits))
 
-same-length-3 : tie.Need-same-length-3
-same-length-3 c = search needs
-
 returns-5 : tie.Need-returns-5
 returns-5 c =
     let a = c .before .before .before .before .before .before .before .before .before .before .before .before .before .before .before .before .before .before .before .before .before .before .args in
     let l = c .before .before .before .before .before .before .before .before .before .before .before .before .before .before .locate in
     let p = answered (a .embedded .now) (a .file .now) (a .column .now) (a .kind .now) (a .t) (a .question) (a .literals .now) (a .field .now) (l .ensures .0) (c .before .before .before .before .before .before .before .before .before .before .before .before .if2 .left) (l .ensures .1) (c .before .before .before .before .before .before .before .before .before .before .audit .ensures .0) (c .before .before .before .before .before .before .before .before .before .before .audit .ensures .1) (c .before .before .before .before .before .before .enum-told .given .1) (c .before .before .before .before .ask .ensures .0) (c .before .before .before .before .ask .ensures .1) (tell-skip (c .enum-told2 .given .1)) in
     (p, as-scan (a .embedded .now) (a .file .now) (a .column .now) (a .kind .now) (a .t) (a .question) (a .literals .now) (a .field .now) (p .0) (p .1) (λ i. c .before .before .before .before .before .before .before .before .before .before .before .before .before .before .before .before .slice-known .given i .fits))
-
-same-length-4 : tie.Need-same-length-4
-same-length-4 c = search needs
 
 returns-6 : tie.Need-returns-6
 returns-6 c =
@@ -93,23 +51,23 @@ pub ask-file-spec : {M : Type 1} → statement M
 ask-file-spec =
     tie.close
     (tie.spec
-    locate-requires
+    (λ c κs. search needs)
     returns
     returns-2
-    audit-requires
-    enum-known-audited
-    number-requires
-    same-length
+    (λ c κs. search needs)
+    (λ c. search needs)
+    (λ c κs. search needs)
+    (λ c. search needs)
     returns-3
-    enum-told
-    ask-requires
-    enum-known-answered
-    number-requires-2
-    enum-told-2
-    enum-known-answered-2
-    same-length-2
+    (λ c. search needs)
+    (λ c κs. search needs)
+    (λ c. search needs)
+    (λ c κs. search needs)
+    (λ c. search needs)
+    (λ c. search needs)
+    (λ c. search needs)
     returns-4
-    same-length-3
+    (λ c. search needs)
     returns-5
-    same-length-4
+    (λ c. search needs)
     returns-6)

@@ -4,17 +4,11 @@ use Rattle.index_file.proofs.Positions.{used-embedded, used-file}
 use Rattle.file_to_answers.proofs.locate.Statement.{statement}
 use Rattle.file_to_answers.proofs.locate.Tie as tie
 
-part-of-requires : tie.Need-part-of-requires
-part-of-requires c κs = search needs
-
 returns : tie.Need-returns
 returns c =
     let t = c .before .before in
     let a = t .before .before .before .before .before .args in
     rw (used-embedded (a .embedded .now) (a .embedded .now) (a .file .now) (t .if1 .taken), used-embedded (a .embedded .now) (a .embedded .ptr) (a .file .ptr) (t .if1 .taken)) (c .part-of .ensures)
-
-part-of-requires-2 : tie.Need-part-of-requires-2
-part-of-requires-2 c κs = search needs
 
 returns-2 : tie.Need-returns-2
 returns-2 c =
@@ -23,4 +17,10 @@ returns-2 c =
     rw (used-file (a .embedded .now) (a .embedded .now) (a .file .now) (t .if1 .left), used-file (a .embedded .now) (a .embedded .ptr) (a .file .ptr) (t .if1 .left)) (c .part-of2 .ensures)
 
 pub locate-spec : {M : Type 1} → statement M
-locate-spec = tie.close (tie.spec part-of-requires returns part-of-requires-2 returns-2)
+locate-spec =
+    tie.close
+    (tie.spec
+    (λ c κs. search needs)
+    returns
+    (λ c κs. search needs)
+    returns-2)

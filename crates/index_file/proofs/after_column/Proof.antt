@@ -17,4 +17,9 @@ unfolding afterColumn
 returns-3 c = simp (not-false (c .before .before .args .hit) (c .before .if1 .left), c .if2 .left)
 
 pub after-column-spec : {M : Type 1} → statement M
-after-column-spec = tie.close (tie.spec returns returns-2 returns-3)
+after-column-spec =
+    tie.close
+    (tie.spec
+    returns
+    returns-2
+    returns-3)

@@ -9,15 +9,6 @@ returns : tie.Need-returns
 unfolding afterEntry
 returns c = simp (not-true (c .before .args .hit) (c .if1 .taken))
 
-enum-told : tie.Need-enum-told
-enum-told c = search needs
-
-enum-told-2 : tie.Need-enum-told-2
-enum-told-2 c = search needs
-
-enum-told-3 : tie.Need-enum-told-3
-enum-told-3 c = search needs
-
 returns-2 : tie.Need-returns-2
 unfolding afterEntry
 returns-2 c = simp (not-false (c .before .before .before .args .hit) (c .before .before .if1 .left), c .enum-told .given .1)
@@ -32,4 +23,12 @@ returns-4 c = simp (not-false (c .before .before .before .args .hit) (c .before 
 
 pub after-entry-spec : {M : Type 1} → statement M
 after-entry-spec =
-    tie.close (tie.spec returns enum-told enum-told-2 enum-told-3 returns-2 returns-3 returns-4)
+    tie.close
+    (tie.spec
+    returns
+    (λ c. search needs)
+    (λ c. search needs)
+    (λ c. search needs)
+    returns-2
+    returns-3
+    returns-4)

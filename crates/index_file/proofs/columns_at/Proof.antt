@@ -26,15 +26,6 @@ room c = rw (c .before .g .given .1) at (c .before .before .before .count-at .en
 loop-holds : tie.Need-loop-holds Inv-loop μ-loop
 loop-holds c = let a = c .before .before .before .args in (omega arith, columns-first (a .column .now) (a .kind .now) (a .s .now) (a .n) (a .at))
 
-name-at-requires : tie.Need-name-at-requires Inv-loop μ-loop
-name-at-requires c κs = search needs
-
-enum-known-f : tie.Need-enum-known-f Inv-loop μ-loop
-enum-known-f c = search needs
-
-enum-told : tie.Need-enum-told Inv-loop μ-loop
-enum-told c = search needs
-
 returns : tie.Need-returns Inv-loop μ-loop
 returns c =
     let n = c .before .before in
@@ -44,12 +35,6 @@ returns c =
 count-at-requires : tie.Need-count-at-requires Inv-loop μ-loop
 count-at-requires c κs = omega (arith, ends c .1)
 
-enum-known-g : tie.Need-enum-known-g Inv-loop μ-loop
-enum-known-g c = search needs
-
-enum-told-2 : tie.Need-enum-told-2 Inv-loop μ-loop
-enum-told-2 c = search needs
-
 returns-2 : tie.Need-returns-2 Inv-loop μ-loop
 returns-2 c =
     let m = c .before .before in
@@ -57,9 +42,6 @@ returns-2 c =
     let n = f .before .before in
     let l = n .before .before .loop in
     columns-count (l .inv .1) (n .before .loop-test .taken) (n .name-at .ensures) (f .f .given .1) (m .count-at .ensures) (c .enum-told2 .given .1)
-
-add-from : tie.Need-add-from Inv-loop μ-loop
-add-from c = search needs
 
 sub-same-name : tie.Need-sub-same-name Inv-loop μ-loop
 sub-same-name c = omega (arith, ends (c .before .before .before .before) .0)
@@ -70,20 +52,11 @@ part-same-name-start c = omega (arith, ends (c .before .before .before .before) 
 part-same-name-end : tie.Need-part-same-name-end Inv-loop μ-loop
 part-same-name-end c = omega (arith, ends (c .before .before .before .before) .1)
 
-same-name-requires : tie.Need-same-name-requires Inv-loop μ-loop
-same-name-requires c κs = search needs
-
 add-entries-at : tie.Need-add-entries-at Inv-loop μ-loop
 add-entries-at c = omega (arith, room (c .before .before) .0)
 
 entries-at-requires : tie.Need-entries-at-requires Inv-loop μ-loop
 entries-at-requires c κs = omega (arith, room (c .before .before) .0)
-
-enum-known-w : tie.Need-enum-known-w Inv-loop μ-loop
-enum-known-w c = search needs
-
-enum-told-3 : tie.Need-enum-told-3 Inv-loop μ-loop
-enum-told-3 c = search needs
 
 returns-3 : tie.Need-returns-3 Inv-loop μ-loop
 returns-3 c =
@@ -95,15 +68,6 @@ returns-3 c =
     let l = n .before .before .loop in
     columns-entries (l .inv .1) (n .before .loop-test .taken) (n .name-at .ensures) (f .f .given .1) (m .count-at .ensures) (g .g .given .1)
     (w .entries-at .ensures) (c .enum-told3 .given .1)
-
-after-column-requires : tie.Need-after-column-requires Inv-loop μ-loop
-after-column-requires c κs = search needs
-
-add-i : tie.Need-add-i Inv-loop μ-loop
-add-i c = search needs
-
-loop-less : tie.Need-loop-less Inv-loop μ-loop
-loop-less c = search needs
 
 loop-again : tie.Need-loop-again Inv-loop μ-loop
 loop-again c =
@@ -129,26 +93,26 @@ columns-at-spec =
     Inv-loop
     μ-loop
     loop-holds
-    name-at-requires
-    enum-known-f
-    enum-told
+    (λ c κs. search needs)
+    (λ c. search needs)
+    (λ c. search needs)
     returns
     count-at-requires
-    enum-known-g
-    enum-told-2
+    (λ c. search needs)
+    (λ c. search needs)
     returns-2
-    add-from
+    (λ c. search needs)
     sub-same-name
     part-same-name-start
     part-same-name-end
-    same-name-requires
+    (λ c κs. search needs)
     add-entries-at
     entries-at-requires
-    enum-known-w
-    enum-told-3
+    (λ c. search needs)
+    (λ c. search needs)
     returns-3
-    after-column-requires
-    add-i
-    loop-less
+    (λ c κs. search needs)
+    (λ c. search needs)
+    (λ c. search needs)
     loop-again
     returns-4)

@@ -22,15 +22,6 @@ ends c = rw (c .before .f .given .1) at (c .before .before .before .name-at .ens
 loop-holds : tie.Need-loop-holds Inv-loop μ-loop
 loop-holds c = let a = c .before .before .args in (omega arith, entries-first (a .kind .now) (a .s .now) (a .n) (a .at))
 
-name-at-requires : tie.Need-name-at-requires Inv-loop μ-loop
-name-at-requires c κs = search needs
-
-enum-known-f : tie.Need-enum-known-f Inv-loop μ-loop
-enum-known-f c = search needs
-
-enum-told : tie.Need-enum-told Inv-loop μ-loop
-enum-told c = search needs
-
 returns : tie.Need-returns Inv-loop μ-loop
 returns c =
     let n = c .before .before in
@@ -47,18 +38,6 @@ returns-2 c =
     let l = n .before .before .loop in
     entries-short (l .inv .1) (n .before .loop-test .taken) (n .name-at .ensures) (f .f .given .1) (c .if1 .taken)
 
-be32-requires : tie.Need-be32-requires Inv-loop μ-loop
-be32-requires c κs = search needs
-
-add-t15 : tie.Need-add-t15 Inv-loop μ-loop
-add-t15 c = search needs
-
-be32-requires-2 : tie.Need-be32-requires-2 Inv-loop μ-loop
-be32-requires-2 c κs = search needs
-
-add-from : tie.Need-add-from Inv-loop μ-loop
-add-from c = search needs
-
 sub-same-name : tie.Need-sub-same-name Inv-loop μ-loop
 sub-same-name c = omega (arith, ends (c .before .before .before) .0)
 
@@ -67,21 +46,6 @@ part-same-name-start c = omega (arith, ends (c .before .before .before) .0)
 
 part-same-name-end : tie.Need-part-same-name-end Inv-loop μ-loop
 part-same-name-end c = omega (arith, ends (c .before .before .before) .1)
-
-same-name-requires : tie.Need-same-name-requires Inv-loop μ-loop
-same-name-requires c κs = search needs
-
-after-entry-requires : tie.Need-after-entry-requires Inv-loop μ-loop
-after-entry-requires c κs = search needs
-
-add-p : tie.Need-add-p Inv-loop μ-loop
-add-p c = search needs
-
-add-i : tie.Need-add-i Inv-loop μ-loop
-add-i c = search needs
-
-loop-less : tie.Need-loop-less Inv-loop μ-loop
-loop-less c = search needs
 
 loop-again : tie.Need-loop-again Inv-loop μ-loop
 loop-again c =
@@ -104,23 +68,23 @@ entries-at-spec =
     Inv-loop
     μ-loop
     loop-holds
-    name-at-requires
-    enum-known-f
-    enum-told
+    (λ c κs. search needs)
+    (λ c. search needs)
+    (λ c. search needs)
     returns
     sub-if1
     returns-2
-    be32-requires
-    add-t15
-    be32-requires-2
-    add-from
+    (λ c κs. search needs)
+    (λ c. search needs)
+    (λ c κs. search needs)
+    (λ c. search needs)
     sub-same-name
     part-same-name-start
     part-same-name-end
-    same-name-requires
-    after-entry-requires
-    add-p
-    add-i
-    loop-less
+    (λ c κs. search needs)
+    (λ c κs. search needs)
+    (λ c. search needs)
+    (λ c. search needs)
+    (λ c. search needs)
     loop-again
     returns-3)

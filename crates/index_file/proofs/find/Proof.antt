@@ -22,13 +22,17 @@ returns-3 c =
     let a = c .before .before .before .before .before .before .args in
     numbered (sym (find-kind (a .bytes .now) (a .column .now) (a .kind .now) (omega arith) (omega arith) (omega arith)))
 
-read-file-requires : tie.Need-read-file-requires
-read-file-requires c κs = search needs
-
 returns-4 : tie.Need-returns-4
 returns-4 c =
     let a = c .before .before .before .before .before .before .before .args in
     numbered (c .read-file .ensures ∙ sym (find-file (a .bytes .now) (a .column .now) (a .kind .now) (omega arith) (omega arith) (omega arith)))
 
 pub find-spec : {M : Type 1} → statement M
-find-spec = tie.close (tie.spec returns returns-2 returns-3 read-file-requires returns-4)
+find-spec =
+    tie.close
+    (tie.spec
+    returns
+    returns-2
+    returns-3
+    (λ c κs. search needs)
+    returns-4)

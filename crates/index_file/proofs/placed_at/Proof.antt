@@ -6,15 +6,6 @@ use borrow.Author.Needs.{needs}
 use Rattle.index_file.proofs.placed_at.Statement.{statement}
 use Rattle.index_file.proofs.placed_at.Tie as tie
 
-enum-told : tie.Need-enum-told
-enum-told c = search needs
-
-enum-told-2 : tie.Need-enum-told-2
-enum-told-2 c = search needs
-
-enum-known-place : tie.Need-enum-known-place
-enum-known-place c = search needs
-
 returns : tie.Need-returns
 returns c = let t = c .before in let a = t .before .before .before .args in placed-negative (a .front) (a .total) (t .before .place .given .1) (omega arith)
 
@@ -23,9 +14,6 @@ returns-2 c = let t = c .before .before in let a = t .before .before .before .ar
 
 returns-3 : tie.Need-returns-3
 returns-3 c = let t = c .before .before .before in let a = t .before .before .before .args in placed-length (a .front) (a .total) (t .before .place .given .1) (omega arith) (omega arith) (omega arith)
-
-add-if4 : tie.Need-add-if4
-add-if4 c = search needs
 
 returns-4 : tie.Need-returns-4
 returns-4 c = let t = c .before .before .before .before in let a = t .before .before .before .args in placed-past (a .front) (a .total) (t .before .place .given .1) (omega arith) (omega arith) (omega arith) (omega arith)
@@ -45,13 +33,13 @@ pub placed-at-spec : {M : Type 1} → statement M
 placed-at-spec =
     tie.close
     (tie.spec
-    enum-told
-    enum-told-2
-    enum-known-place
+    (λ c. search needs)
+    (λ c. search needs)
+    (λ c. search needs)
     returns
     returns-2
     returns-3
-    add-if4
+    (λ c. search needs)
     returns-4
     returns-5
     returns-6

@@ -13,12 +13,6 @@ returns c =
     let a = c .before .before .before .before .args in
     sym (file-short (a .column .now) (a .kind .now) (a .bytes .now) (c .if1 .taken))
 
-be64-requires : tie.Need-be64-requires
-be64-requires c κs = search needs
-
-be32-requires : tie.Need-be32-requires
-be32-requires c κs = search needs
-
 returns-2 : tie.Need-returns-2
 returns-2 c =
     let b = c .before .before in
@@ -31,15 +25,6 @@ returns-3 c =
     let b = v .before in
     let a = b .before .before .before .before .before .args in
     sym (file-version (a .column .now) (a .kind .now) (a .bytes .now) (omega arith) (b .be64 .ensures) (c .before .if2 .left) (v .be32 .ensures .0) (c .if3 .taken))
-
-count-at-requires : tie.Need-count-at-requires
-count-at-requires c κs = search needs
-
-enum-known-f : tie.Need-enum-known-f
-enum-known-f c = search needs
-
-enum-told : tie.Need-enum-told
-enum-told c = search needs
 
 returns-4 : tie.Need-returns-4
 returns-4 c =
@@ -97,13 +82,13 @@ read-file-spec =
     tie.close
     (tie.spec
     returns
-    be64-requires
-    be32-requires
+    (λ c κs. search needs)
+    (λ c κs. search needs)
     returns-2
     returns-3
-    count-at-requires
-    enum-known-f
-    enum-told
+    (λ c κs. search needs)
+    (λ c. search needs)
+    (λ c. search needs)
     returns-4
     returns-5
     returns-6

@@ -5,15 +5,6 @@ use Rattle.index_file.proofs.Positions.{head-count, head-columns, head-
 use Rattle.index_file.proofs.read_head.Statement.{statement}
 use Rattle.index_file.proofs.read_head.Tie as tie
 
-count-at-requires : tie.Need-count-at-requires
-count-at-requires c κs = search needs
-
-enum-known-f : tie.Need-enum-known-f
-enum-known-f c = search needs
-
-enum-told : tie.Need-enum-told
-enum-told c = search needs
-
 returns : tie.Need-returns
 returns c =
     let m = c .before .before in
@@ -22,12 +13,6 @@ returns c =
 
 columns-at-requires : tie.Need-columns-at-requires
 columns-at-requires c κs = omega (arith, (rw (c .before .f .given .1) at (c .before .before .before .count-at .ensures)) .0)
-
-enum-known-w : tie.Need-enum-known-w
-enum-known-w c = search needs
-
-enum-told-2 : tie.Need-enum-told-2
-enum-told-2 c = search needs
 
 returns-2 : tie.Need-returns-2
 returns-2 c =
@@ -39,12 +24,6 @@ returns-2 c =
 
 count-at-requires-2 : tie.Need-count-at-requires-2
 count-at-requires-2 c κs = (rw (c .before .w .given .1) at (c .before .before .before .columns-at .ensures)) .0
-
-enum-known-g : tie.Need-enum-known-g
-enum-known-g c = search needs
-
-enum-told-3 : tie.Need-enum-told-3
-enum-told-3 c = search needs
 
 returns-3 : tie.Need-returns-3
 returns-3 c =
@@ -73,9 +52,6 @@ returns-4 c =
     let a = m .before .before .before .before .args in
     head-end (a .column .now) (a .kind .now) (a .s .now) (a .total) (m .count-at .ensures) (f .f .given .1) (v .w .given .1) (w .columns-at .ensures) (r .g .given .1) (g .count-at2 .ensures) (omega arith)
 
-placed-at-requires : tie.Need-placed-at-requires
-placed-at-requires c κs = search needs
-
 returns-5 : tie.Need-returns-5
 returns-5 c =
     let r = c .before .before .before in
@@ -92,20 +68,20 @@ pub read-head-spec : {M : Type 1} → statement M
 read-head-spec =
     tie.close
     (tie.spec
-    count-at-requires
-    enum-known-f
-    enum-told
+    (λ c κs. search needs)
+    (λ c. search needs)
+    (λ c. search needs)
     returns
     columns-at-requires
-    enum-known-w
-    enum-told-2
+    (λ c. search needs)
+    (λ c. search needs)
     returns-2
     count-at-requires-2
-    enum-known-g
-    enum-told-3
+    (λ c. search needs)
+    (λ c. search needs)
     returns-3
     add-if1
     sub-if1
     returns-4
-    placed-at-requires
+    (λ c κs. search needs)
     returns-5)

@@ -3,11 +3,12 @@ use borrow.Author.Needs.{needs}
 use Rattle.index_file.proofs.same_name.Statement.{statement}
 use Rattle.index_file.proofs.same_name.Tie as tie
 
-same-requires : tie.Need-same-requires
-same-requires c κs = search needs
-
 returns : tie.Need-returns
 returns c = c .same .ensures
 
 pub same-name-spec : {M : Type 1} → statement M
-same-name-spec = tie.close (tie.spec same-requires returns)
+same-name-spec =
+    tie.close
+    (tie.spec
+    (λ c κs. search needs)
+    returns)

@@ -7,15 +7,6 @@ use Rattle.numbers.proofs.Signed.{down-fits, signed-low, signed-high}
 use Rattle.numbers.proofs.to_signed.Statement.{statement}
 use Rattle.numbers.proofs.to_signed.Tie as tie
 
-cast-result : tie.Need-cast-result
-cast-result c = search needs
-
-sub-result : tie.Need-sub-result
-sub-result c = search needs
-
-cast-result-2 : tie.Need-cast-result-2
-cast-result-2 c = search needs
-
 sub-result-2 : tie.Need-sub-result-2
 sub-result-2 c = down-fits w32 (4294967295 - c .before .args .x) (omega arith)
 
@@ -27,4 +18,11 @@ returns-2 c = signed-high w32 4 (c .before .args .x) (c .if1 .left) (omega arith
 
 pub to-signed-spec : {M : Type 1} → statement M
 to-signed-spec =
-    tie.close (tie.spec cast-result sub-result cast-result-2 sub-result-2 returns returns-2)
+    tie.close
+    (tie.spec
+    (λ c. search needs)
+    (λ c. search needs)
+    (λ c. search needs)
+    sub-result-2
+    returns
+    returns-2)

@@ -4,16 +4,10 @@ use borrow.Author.Needs.{needs}
 use Rattle.poddurance.proofs.find.Statement.{statement}
 use Rattle.poddurance.proofs.find.Tie as tie
 
-find-requires : tie.Need-find-requires
-find-requires c κs = search needs
-
 returns : tie.Need-returns
 returns c =
     let a = c .before .before .before .before .before .before .args in
     rw (used-embedded (a .embedded .now) (a .embedded .now) (a .file .now) (c .before .if1 .taken)) (c .find .ensures .0)
-
-find-requires-2 : tie.Need-find-requires-2
-find-requires-2 c κs = search needs
 
 returns-2 : tie.Need-returns-2
 returns-2 c =
@@ -21,4 +15,10 @@ returns-2 c =
     rw (used-file (a .embedded .now) (a .embedded .now) (a .file .now) (c .before .if1 .left)) (c .find2 .ensures .0)
 
 pub find-spec : {M : Type 1} → statement M
-find-spec = tie.close (tie.spec find-requires returns find-requires-2 returns-2)
+find-spec =
+    tie.close
+    (tie.spec
+    (λ c κs. search needs)
+    returns
+    (λ c κs. search needs)
+    returns-2)

@@ -5,21 +5,6 @@ use borrow.Author.Needs.{needs}
 use Rattle.poddurance.proofs.poddurance_locate.Statement.{statement}
 use Rattle.poddurance.proofs.poddurance_locate.Tie as tie
 
-find-requires : tie.Need-find-requires
-find-requires c κs = search needs
-
-enum-known-answer : tie.Need-enum-known-answer
-enum-known-answer c = search needs
-
-enum-told : tie.Need-enum-told
-enum-told c = search needs
-
-enum-known-answer-2 : tie.Need-enum-known-answer-2
-enum-known-answer-2 c = search needs
-
-number-requires : tie.Need-number-requires
-number-requires c κs = search needs
-
 returns : tie.Need-returns
 unfolding locateOut
 returns c =
@@ -42,11 +27,11 @@ pub poddurance-locate-spec : {M : Type 1} → statement M
 poddurance-locate-spec =
     tie.close
     (tie.spec
-    find-requires
-    enum-known-answer
-    enum-told
-    enum-known-answer-2
-    number-requires
+    (λ c κs. search needs)
+    (λ c. search needs)
+    (λ c. search needs)
+    (λ c. search needs)
+    (λ c κs. search needs)
     returns
     returns-2
     returns-3)

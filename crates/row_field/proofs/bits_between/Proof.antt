@@ -1,4 +1,4 @@
--- `bits_between` meets its contract: powers of two at most 256 fit, and the lower is at most the higher. Assumes nothing.
+-- `bits_between` meets its contract: powers of two at most 256 fit, and the lower is at most the higher.
 use Prim.Native.Nat.{_≤_, _*_, _%_, _^_}
 use mathlib.Core.Path.{_≡_}
 use native.Mathlib.Omega.{arith}
@@ -6,18 +6,6 @@ use lib.Pow.{pow-mono, pow-pos, pow-add}
 use borrow.Author.Needs.{needs}
 use Rattle.row_field.proofs.bits_between.Statement.{statement}
 use Rattle.row_field.proofs.bits_between.Tie as tie
-
-cast-result : tie.Need-cast-result
-cast-result c = search needs
-
-shl-result : tie.Need-shl-result
-shl-result c = search needs
-
-cast-result-2 : tie.Need-cast-result-2
-cast-result-2 c = search needs
-
-shl-result-2 : tie.Need-shl-result-2
-shl-result-2 c = search needs
 
 sub-result : tie.Need-sub-result
 sub-result c =
@@ -41,4 +29,11 @@ returns c =
 pub bits-between-spec : {M : Type 1} → statement M
 bits-between-spec =
     tie.close
-    (tie.spec cast-result shl-result cast-result-2 shl-result-2 sub-result cast-result-3 returns)
+    (tie.spec
+    (λ c. search needs)
+    (λ c. search needs)
+    (λ c. search needs)
+    (λ c. search needs)
+    sub-result
+    cast-result-3
+    returns)

@@ -1,5 +1,5 @@
 -- `row_field::clear` meets its contract. The loop's invariant: the bytes passed are 0, the others as they were (`fill-more`); the end is `zeroed-as-far`.
--- Assumes nothing.
+--
 use Prim.Native.Nat.{_≤_, _-_, min}
 use mathlib.Core.Path.{_≡_, refl, sym, _∙_}
 use mathlib.Core.List.{_++_}
@@ -26,23 +26,11 @@ smaller-requires c κs = tt
 loop-holds : tie.Need-loop-holds Inv-loop μ-loop
 loop-holds c = (omega arith, omega arith, refl, refl)
 
-slice-write-buffer : tie.Need-slice-write-buffer Inv-loop μ-loop
-slice-write-buffer c = omega arith
-
-add-i : tie.Need-add-i Inv-loop μ-loop
-add-i c = omega arith
-
-loop-less : tie.Need-loop-less Inv-loop μ-loop
-loop-less c = omega arith
-
 loop-again : tie.Need-loop-again Inv-loop μ-loop
 loop-again c =
     let i = c .before .loop .i in
     let b = c .before .before .before .before .before .args .buffer .now in
     (omega arith, omega arith, simp length-set (omega arith), rw (c .before .loop .inv .3) (fill-more i 0 b (omega arith)))
-
-same-length : tie.Need-same-length Inv-loop μ-loop
-same-length c = omega arith
 
 returns : tie.Need-returns Inv-loop μ-loop
 returns c =
@@ -60,9 +48,9 @@ clear-spec =
     bytes-for-requires
     smaller-requires
     loop-holds
-    slice-write-buffer
-    add-i
-    loop-less
+    (λ c. omega arith)
+    (λ c. omega arith)
+    (λ c. omega arith)
     loop-again
-    same-length
+    (λ c. omega arith)
     returns)

@@ -1,5 +1,5 @@
 -- `row_field::count` meets its contract. `count-last` joins the whole bytes' count and the last byte's; where the field ends before, `count-past`.
--- Assumes nothing.
+--
 use mathlib.Core.Path.{sym, ap, _∙_}
 use native.Mathlib.Omega.{arith}
 use lib.Count.{ones}
@@ -7,18 +7,6 @@ use Rattle.row_field.proofs.Counts.{count-le, count-last, count-past}
 use borrow.Author.Needs.{needs}
 use Rattle.row_field.proofs.count.Statement.{statement}
 use Rattle.row_field.proofs.count.Tie as tie
-
-smaller-requires : tie.Need-smaller-requires
-smaller-requires c κs = search needs
-
-count-bytes-requires : tie.Need-count-bytes-requires
-count-bytes-requires c κs = search needs
-
-shared-slice-read-low-bits : tie.Need-shared-slice-read-low-bits
-shared-slice-read-low-bits c = search needs
-
-low-bits-requires : tie.Need-low-bits-requires
-low-bits-requires c κs = search needs
 
 cast-result : tie.Need-cast-result
 cast-result c =
@@ -52,10 +40,10 @@ pub count-spec : {M : Type 1} → statement M
 count-spec =
     tie.close
     (tie.spec
-    smaller-requires
-    count-bytes-requires
-    shared-slice-read-low-bits
-    low-bits-requires
+    (λ c κs. search needs)
+    (λ c κs. search needs)
+    (λ c. search needs)
+    (λ c κs. search needs)
     cast-result
     add-result
     returns

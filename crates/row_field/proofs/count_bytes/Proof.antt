@@ -1,5 +1,5 @@
 -- `row_field::count_bytes` meets its contract. The loop's invariant: the total is the count of the rows of the bytes passed (`count-byte`), which at first
--- are those of the whole words. Assumes nothing.
+-- are those of the whole words.
 use Prim.Native.Nat.{ℕ, _-_, _*_, _/_, _≤_}
 use mathlib.Core.Path.{_≡_, ap, _∙_}
 use native.Mathlib.Omega.{arith}
@@ -18,17 +18,11 @@ abbrev μ-loop : tie.MeasureT-loop
 count-words-requires : tie.Need-count-words-requires Inv-loop μ-loop
 count-words-requires c κs = (omega arith, omega arith)
 
-mul-i : tie.Need-mul-i Inv-loop μ-loop
-mul-i c = omega arith
-
 loop-holds : tie.Need-loop-holds Inv-loop μ-loop
 loop-holds c =
     let n = c .before .before .args .end / 8 in
     let e : n * 64 ≡ n * 8 * 8 = omega arith in
     (omega arith, c .count-words .ensures ∙ ap (λ (k : ℕ). count (c .before .before .args .field .now) k) e)
-
-shared-slice-read-total : tie.Need-shared-slice-read-total Inv-loop μ-loop
-shared-slice-read-total c = omega arith
 
 cast-total : tie.Need-cast-total Inv-loop μ-loop
 cast-total c =
@@ -40,12 +34,6 @@ add-total c =
     let i = c .before .before .loop .i in
     let f = c .before .before .before .before .before .args .field .now in
     omega (arith, ones-le 8 _ (c .shared-slice-known2 .given i .fits), count-le f (i * 8))
-
-add-i : tie.Need-add-i Inv-loop μ-loop
-add-i c = omega arith
-
-loop-less : tie.Need-loop-less Inv-loop μ-loop
-loop-less c = omega arith
 
 loop-again : tie.Need-loop-again Inv-loop μ-loop
 loop-again c =
@@ -65,12 +53,12 @@ count-bytes-spec =
     Inv-loop
     μ-loop
     count-words-requires
-    mul-i
+    (λ c. omega arith)
     loop-holds
-    shared-slice-read-total
+    (λ c. omega arith)
     cast-total
     add-total
-    add-i
-    loop-less
+    (λ c. omega arith)
+    (λ c. omega arith)
     loop-again
     returns)

@@ -1,5 +1,5 @@
 -- `row_field::count_words` meets its contract. The loop's invariant: the total is the count of the rows of the words passed; a word's rows are its ones
--- (`count-word`). Assumes nothing.
+-- (`count-word`).
 use Prim.Native.Nat.{_+_, _-_, _*_, _≤_}
 use mathlib.Core.Path.{_≡_, sym, ap}
 use native.Mathlib.Omega.{arith}
@@ -18,12 +18,6 @@ abbrev μ-loop : tie.MeasureT-loop
 loop-holds : tie.Need-loop-holds Inv-loop μ-loop
 loop-holds c = (omega arith, sym (count-none _))
 
-mul-t7 : tie.Need-mul-t7 Inv-loop μ-loop
-mul-t7 c = omega arith
-
-le64-requires : tie.Need-le64-requires Inv-loop μ-loop
-le64-requires c κs = omega arith
-
 -- one word more
 turn : (c : tie.After-le64 Inv-loop μ-loop)
     → count (c .before .before .before .before .args .field .now) ((c .before .before .loop .i + 1) * 64) ≡ c .before .before .loop .total + ones (c .le64 .result)
@@ -37,12 +31,6 @@ cast-total c = omega (arith, turn c, count-le (c .before .before .before .before
 
 add-total : tie.Need-add-total Inv-loop μ-loop
 add-total c = omega (arith, turn c, count-le (c .before .before .before .before .args .field .now) ((c .before .before .loop .i + 1) * 64))
-
-add-i : tie.Need-add-i Inv-loop μ-loop
-add-i c = omega arith
-
-loop-less : tie.Need-loop-less Inv-loop μ-loop
-loop-less c = omega arith
 
 loop-again : tie.Need-loop-again Inv-loop μ-loop
 loop-again c = (omega arith, sym (turn c))
@@ -59,11 +47,11 @@ count-words-spec =
     Inv-loop
     μ-loop
     loop-holds
-    mul-t7
-    le64-requires
+    (λ c. omega arith)
+    (λ c κs. omega arith)
     cast-total
     add-total
-    add-i
-    loop-less
+    (λ c. omega arith)
+    (λ c. omega arith)
     loop-again
     returns)

@@ -1,4 +1,4 @@
--- `mark_bytes` meets its contract. The loop's invariant: the rows of the bytes that are left, marked and asked about from here, give the whole (`bytes-next`, `bytes-done`). Assumes nothing.
+-- `mark_bytes` meets its contract. The loop's invariant: the rows of the bytes that are left, marked and asked about from here, give the whole (`bytes-next`, `bytes-done`).
 use Prim.Native.Nat.{_+_, _-_, _*_}
 use mathlib.Core.Path.{_≡_, refl}
 use mathlib.Core.Bool.{_||_}
@@ -21,20 +21,8 @@ Inv-loop field₀ from to end seen₀ i₀ field seen i =
 abbrev μ-loop : tie.MeasureT-loop
 μ-loop field₀ from to end seen₀ i₀ field seen i = end - i
 
-smaller-requires : tie.Need-smaller-requires Inv-loop μ-loop
-smaller-requires c κs = search needs
-
 loop-holds : tie.Need-loop-holds Inv-loop μ-loop
 loop-holds c = (refl, refl, refl)
-
-mark-byte-requires : tie.Need-mark-byte-requires Inv-loop μ-loop
-mark-byte-requires c κs = search needs
-
-add-i : tie.Need-add-i Inv-loop μ-loop
-add-i c = omega arith
-
-loop-less : tie.Need-loop-less Inv-loop μ-loop
-loop-less c = omega arith
 
 loop-again : tie.Need-loop-again Inv-loop μ-loop
 loop-again c =
@@ -49,9 +37,6 @@ loop-again c =
       cc (seen-next (l .field) whole part rest (l .seen) e),
       cc (marked-next (l .field) whole part rest e),
     )
-
-same-length : tie.Need-same-length Inv-loop μ-loop
-same-length c = omega arith
 
 returns : tie.Need-returns Inv-loop μ-loop
 returns c =
@@ -69,11 +54,11 @@ mark-bytes-spec =
     (tie.spec
     Inv-loop
     μ-loop
-    smaller-requires
+    (λ c κs. search needs)
     loop-holds
-    mark-byte-requires
-    add-i
-    loop-less
+    (λ c κs. search needs)
+    (λ c. omega arith)
+    (λ c. omega arith)
     loop-again
-    same-length
+    (λ c. omega arith)
     returns)

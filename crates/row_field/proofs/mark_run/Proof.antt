@@ -1,4 +1,4 @@
--- `mark_run` meets its contract. A run within one byte is that byte's bits (`run-one`); any other is a first byte, whole bytes and a last byte (`run-parts`). Assumes nothing.
+-- `mark_run` meets its contract. A run within one byte is that byte's bits (`run-one`); any other is a first byte, whole bytes and a last byte (`run-parts`).
 use mathlib.Core.Bool.{_||_}
 use native.Mathlib.Omega.{arith}
 use Rattle.row_field.proofs.RunRows.{run-none, run-out, run-one-seen, run-one-marked, run-seen, run-marked, tail-seen, tail-marked}
@@ -16,36 +16,12 @@ returns-2 c =
     let g = c .before .before .before .args in
     run-out (g .field .now) (g .first .0) (g .last .0) (omega arith)
 
-bits-between-requires : tie.Need-bits-between-requires
-bits-between-requires c κs = search needs
-
-mark-byte-requires : tie.Need-mark-byte-requires
-mark-byte-requires c κs = search needs
-
-same-length : tie.Need-same-length
-same-length c = search needs
-
 returns-3 : tie.Need-returns-3
 returns-3 c =
     let g = c .before .before .before .before .before .before .before .before .before .args in
     let s = run-one-seen (g .field .now) (g .first .0) (g .last .0) (omega arith) (omega arith) in
     let m = run-one-marked (g .field .now) (g .first .0) (g .last .0) (omega arith) (omega arith) in
     (cc, cc)
-
-bits-between-requires-2 : tie.Need-bits-between-requires-2
-bits-between-requires-2 c κs = search needs
-
-mark-byte-requires-2 : tie.Need-mark-byte-requires-2
-mark-byte-requires-2 c κs = search needs
-
-add-mark-bytes : tie.Need-add-mark-bytes
-add-mark-bytes c = search needs
-
-mark-bytes-requires : tie.Need-mark-bytes-requires
-mark-bytes-requires c κs = search needs
-
-same-length-2 : tie.Need-same-length-2
-same-length-2 c = search needs
 
 returns-4 : tie.Need-returns-4
 returns-4 c =
@@ -55,15 +31,6 @@ returns-4 c =
     let t = tail-seen (c .before .before .before .mark-bytes .last .0) (g .last .0) (omega arith) (c .before .before .before .before .before .before .before .mark-byte2 .result || c .before .before .before .mark-bytes .result) in
     let k = tail-marked (c .before .before .before .mark-bytes .last .0) (g .last .0) (omega arith) in
     (cc, cc)
-
-bits-between-requires-3 : tie.Need-bits-between-requires-3
-bits-between-requires-3 c κs = search needs
-
-mark-byte-requires-3 : tie.Need-mark-byte-requires-3
-mark-byte-requires-3 c κs = search needs
-
-same-length-3 : tie.Need-same-length-3
-same-length-3 c = search needs
 
 returns-5 : tie.Need-returns-5
 returns-5 c =
@@ -78,17 +45,17 @@ mark-run-spec =
     (tie.spec
     returns
     returns-2
-    bits-between-requires
-    mark-byte-requires
-    same-length
+    (λ c κs. search needs)
+    (λ c κs. search needs)
+    (λ c. search needs)
     returns-3
-    bits-between-requires-2
-    mark-byte-requires-2
-    add-mark-bytes
-    mark-bytes-requires
-    same-length-2
+    (λ c κs. search needs)
+    (λ c κs. search needs)
+    (λ c. search needs)
+    (λ c κs. search needs)
+    (λ c. search needs)
     returns-4
-    bits-between-requires-3
-    mark-byte-requires-3
-    same-length-3
+    (λ c κs. search needs)
+    (λ c κs. search needs)
+    (λ c. search needs)
     returns-5)

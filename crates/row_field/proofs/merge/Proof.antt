@@ -1,4 +1,4 @@
--- `merge` meets its contract. The loop's invariant: the rows of the bytes that are left, marked and asked about from here, give the whole (`rows-next`, `rows-done`). Assumes nothing.
+-- `merge` meets its contract. The loop's invariant: the rows of the bytes that are left, marked and asked about from here, give the whole (`rows-next`, `rows-done`).
 use Prim.Native.Nat.{_+_, _-_, _*_, _≤_}
 use mathlib.Core.Path.{_≡_, refl}
 use mathlib.Core.Bool.{_||_}
@@ -22,9 +22,6 @@ Inv-loop field₀ rows end seen₀ i₀ field seen i =
 abbrev μ-loop : tie.MeasureT-loop
 μ-loop field₀ rows end seen₀ i₀ field seen i = end - i
 
-smaller-requires : tie.Need-smaller-requires Inv-loop μ-loop
-smaller-requires c κs = search needs
-
 loop-holds : tie.Need-loop-holds Inv-loop μ-loop
 loop-holds c =
     let a = c .before .before .before .args in (
@@ -33,18 +30,6 @@ loop-holds c =
       rw sub-zero (anySeen-rising (a .field .now) 0 (rowsOf (a .rows .now)) (rowsFrom-rising (a .rows .now) 0 0 (length (a .rows .now) * 8) (omega arith))),
       rw sub-zero,
     )
-
-shared-slice-read-mark-byte : tie.Need-shared-slice-read-mark-byte Inv-loop μ-loop
-shared-slice-read-mark-byte c = omega arith
-
-mark-byte-requires : tie.Need-mark-byte-requires Inv-loop μ-loop
-mark-byte-requires c κs = search needs
-
-add-i : tie.Need-add-i Inv-loop μ-loop
-add-i c = omega arith
-
-loop-less : tie.Need-loop-less Inv-loop μ-loop
-loop-less c = omega arith
 
 loop-again : tie.Need-loop-again Inv-loop μ-loop
 loop-again c =
@@ -59,9 +44,6 @@ loop-again c =
       cc (seen-next (l .field) (rowsFrom rows (l .i * 8) ((length rows - l .i) * 8)) part rest (l .seen) e),
       cc (marked-next (l .field) (rowsFrom rows (l .i * 8) ((length rows - l .i) * 8)) part rest e),
     )
-
-same-length : tie.Need-same-length Inv-loop μ-loop
-same-length c = omega arith
 
 returns : tie.Need-returns Inv-loop μ-loop
 returns c =
@@ -79,12 +61,12 @@ merge-spec =
     (tie.spec
     Inv-loop
     μ-loop
-    smaller-requires
+    (λ c κs. search needs)
     loop-holds
-    shared-slice-read-mark-byte
-    mark-byte-requires
-    add-i
-    loop-less
+    (λ c. omega arith)
+    (λ c κs. search needs)
+    (λ c. omega arith)
+    (λ c. omega arith)
     loop-again
-    same-length
+    (λ c. omega arith)
     returns)

@@ -1,5 +1,5 @@
 -- `row_field::subtract` meets its contract: each answer from the tests that led to it, the last from what `subtract_rows` and `count` ensure, since rows left
--- and rows removed are those that were (`left-removed`). Assumes nothing.
+-- and rows removed are those that were (`left-removed`).
 use Prim.Native.Nat.{ℕ, _+_, _-_}
 use mathlib.Core.Path.{_≡_, refl, sym, ap, _∙_}
 use mathlib.Core.Bool.{true, false}
@@ -20,12 +20,6 @@ returns : tie.Need-returns
 unfolding subtraction fieldAfter need
 returns c = let l = lt-leb _ limit (c .if1 .taken) in (rw l, refl, rw l)
 
-has-room-requires : tie.Need-has-room-requires
-has-room-requires c κs = search needs
-
-same-length : tie.Need-same-length
-same-length c = search needs
-
 returns-2 : tie.Need-returns-2
 unfolding subtraction fieldAfter need
 returns-2 c =
@@ -33,12 +27,6 @@ returns-2 c =
     let a = c .before .before .before .before .before .before .args in
     let f : leb (size (a .rows)) (length (a .first .now)) ≡ false = sym (c .before .has-room .ensures) ∙ not-true _ (c .if2 .taken) in
     (rw (l, f), refl, rw (l, f))
-
-has-room-requires-2 : tie.Need-has-room-requires-2
-has-room-requires-2 c κs = search needs
-
-same-length-2 : tie.Need-same-length-2
-same-length-2 c = search needs
 
 returns-3 : tie.Need-returns-3
 unfolding subtraction fieldAfter need
@@ -49,17 +37,11 @@ returns-3 c =
     let g : leb (size (a .rows)) (length (a .second .now)) ≡ false = sym (c .before .has-room2 .ensures) ∙ not-true _ (c .if3 .taken) in
     (rw (l, f, g), refl, rw (l, f, g))
 
-count-requires : tie.Need-count-requires
-count-requires c κs = search needs
-
 subtract-rows-requires : tie.Need-subtract-rows-requires
 subtract-rows-requires c κs =
     let f = leb-true _ _ (sym (c .before .before .before .before .before .before .has-room .ensures) ∙ not-false _ (c .before .before .before .before .before .if2 .left)) in
     let g = leb-true _ _ (sym (c .before .before .before .before .has-room2 .ensures) ∙ not-false _ (c .before .before .before .if3 .left)) in
     (f, g)
-
-count-requires-2 : tie.Need-count-requires-2
-count-requires-2 c κs = search needs
 
 -- rows left and rows removed are the rows that were
 parts : (c : tie.After-count2) → c .count2 .result + removed (c .before .before .before .before .before .before .before .before .before .before .before .before .before .before .before .before .args .rows) (c .before .before .before .before .before .before .before .before .before .before .before .before .before .before .before .before .args .first .now) (c .before .before .before .before .before .before .before .before .before .before .before .before .before .before .before .before .args .second .now) ≡ c .before .before .before .before .before .before .count .result
@@ -71,9 +53,6 @@ parts c =
 
 sub-removed : tie.Need-sub-removed
 sub-removed c = omega (arith, parts c)
-
-same-length-3 : tie.Need-same-length-3
-same-length-3 c = search needs
 
 returns-4 : tie.Need-returns-4
 unfolding subtraction fieldAfter need
@@ -94,15 +73,15 @@ subtract-spec =
     tie.close
     (tie.spec
     returns
-    has-room-requires
-    same-length
+    (λ c κs. search needs)
+    (λ c. search needs)
     returns-2
-    has-room-requires-2
-    same-length-2
+    (λ c κs. search needs)
+    (λ c. search needs)
     returns-3
-    count-requires
+    (λ c κs. search needs)
     subtract-rows-requires
-    count-requires-2
+    (λ c κs. search needs)
     sub-removed
-    same-length-3
+    (λ c. search needs)
     returns-4)

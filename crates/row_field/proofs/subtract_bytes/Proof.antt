@@ -1,5 +1,5 @@
 -- `row_field::subtract_bytes` meets its contract. The loop's invariant: the field is without the rows of the bytes passed (`subtracted-byte`).
--- Assumes nothing.
+--
 use Prim.Native.Nat.{_≤_, _*_, _-_}
 use mathlib.Core.Path.{_≡_, sym, ap, _∙_}
 use native.Mathlib.Omega.{arith}
@@ -18,20 +18,11 @@ abbrev μ-loop : tie.MeasureT-loop
 loop-holds : tie.Need-loop-holds Inv-loop μ-loop
 loop-holds c = (omega arith, subtracted-none _ _)
 
-shared-slice-read-clear-bits : tie.Need-shared-slice-read-clear-bits Inv-loop μ-loop
-shared-slice-read-clear-bits c = omega arith
-
 clear-bits-requires : tie.Need-clear-bits-requires Inv-loop μ-loop
 clear-bits-requires c κs =
     let a = c .before .before .before .before .before .before .args in
     let l = c .before .before .before .loop in
     omega (arith, ap length (l .inv .1), length-subtracted (l .i * 8) (a .first .now) (a .second .now))
-
-add-i : tie.Need-add-i Inv-loop μ-loop
-add-i c = omega arith
-
-loop-less : tie.Need-loop-less Inv-loop μ-loop
-loop-less c = omega arith
 
 loop-again : tie.Need-loop-again Inv-loop μ-loop
 loop-again c =
@@ -55,10 +46,10 @@ subtract-bytes-spec =
     Inv-loop
     μ-loop
     loop-holds
-    shared-slice-read-clear-bits
+    (λ c. omega arith)
     clear-bits-requires
-    add-i
-    loop-less
+    (λ c. omega arith)
+    (λ c. omega arith)
     loop-again
     same-length
     returns)

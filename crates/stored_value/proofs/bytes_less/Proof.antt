@@ -1,4 +1,4 @@
--- `bytes_less` meets its contract: what is left of both, compared, gives the whole. Assumes nothing.
+-- `bytes_less` meets its contract: what is left of both, compared, gives the whole.
 use Prim.Native.Nat.{_-_}
 use mathlib.Core.Path.{_≡_, refl, sym, _∙_}
 use native.Mathlib.Omega.{arith}
@@ -23,12 +23,6 @@ returns c =
     let a = c .before .before .before .args in
     sym (less-past (a .a .now) (a .b .now) (l .i) (omega arith) (omega arith)) ∙ l .inv
 
-shared-slice-read-x : tie.Need-shared-slice-read-x Inv-loop μ-loop
-shared-slice-read-x c = omega arith
-
-shared-slice-read-y : tie.Need-shared-slice-read-y Inv-loop μ-loop
-shared-slice-read-y c = omega arith
-
 returns-2 : tie.Need-returns-2 Inv-loop μ-loop
 returns-2 c =
     let l = c .before .before .before .before .before .loop in
@@ -40,12 +34,6 @@ returns-3 c =
     let l = c .before .before .before .before .before .before .loop in
     let a = c .before .before .before .before .before .before .before .args in
     sym (less-no (a .a .now) (a .b .now) (l .i) (omega arith) (omega arith) (omega arith)) ∙ l .inv
-
-add-i : tie.Need-add-i Inv-loop μ-loop
-add-i c = omega arith
-
-loop-less : tie.Need-loop-less Inv-loop μ-loop
-loop-less c = omega arith
 
 loop-again : tie.Need-loop-again Inv-loop μ-loop
 loop-again c =
@@ -67,11 +55,11 @@ bytes-less-spec =
     μ-loop
     loop-holds
     returns
-    shared-slice-read-x
-    shared-slice-read-y
+    (λ c. omega arith)
+    (λ c. omega arith)
     returns-2
     returns-3
-    add-i
-    loop-less
+    (λ c. omega arith)
+    (λ c. omega arith)
     loop-again
     returns-4)

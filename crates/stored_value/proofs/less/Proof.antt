@@ -1,4 +1,4 @@
--- `less` meets its contract: strings by their bytes behind the length, numbers by the order of the signed numbers. Assumes nothing.
+-- `less` meets its contract: strings by their bytes behind the length, numbers by the order of the signed numbers.
 use mathlib.Core.Path.{_∙_}
 use native.Mathlib.Omega.{arith}
 use borrow.Author.Needs.{needs}
@@ -6,23 +6,11 @@ use Rattle.stored_value.proofs.Steps.{less-string, less-number}
 use Rattle.stored_value.proofs.less.Statement.{statement}
 use Rattle.stored_value.proofs.less.Tie as tie
 
-width-of-requires : tie.Need-width-of-requires
-width-of-requires c κs = search needs
-
-bytes-less-requires : tie.Need-bytes-less-requires
-bytes-less-requires c κs = search needs
-
 returns : tie.Need-returns
 returns c =
     let a = c .before .before .before .before .before .args in
     let w = c .before .before .width-of in
     c .bytes-less .ensures ∙ less-string (a .t) (a .a .now) (a .b .now) (w .result) (w .ensures .0) (c .before .if1 .taken)
-
-signed-requires : tie.Need-signed-requires
-signed-requires c κs = omega arith
-
-signed-requires-2 : tie.Need-signed-requires-2
-signed-requires-2 c κs = omega arith
 
 returns-2 : tie.Need-returns-2
 returns-2 c =
@@ -36,9 +24,9 @@ pub less-spec : {M : Type 1} → statement M
 less-spec =
     tie.close
     (tie.spec
-    width-of-requires
-    bytes-less-requires
+    (λ c κs. search needs)
+    (λ c κs. search needs)
     returns
-    signed-requires
-    signed-requires-2
+    (λ c κs. omega arith)
+    (λ c κs. omega arith)
     returns-2)

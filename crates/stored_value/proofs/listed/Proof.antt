@@ -1,4 +1,4 @@
--- `listed` meets its contract: of literals that are read, those passed have not the bytes of `v`, and those that are left give the whole. Assumes nothing.
+-- `listed` meets its contract: of literals that are read, those passed have not the bytes of `v`, and those that are left give the whole.
 use Prim.Native.Nat.{ℕ, _+_, _-_, _≤_}
 use mathlib.Core.Path.{_≡_, sym, _∙_}
 use mathlib.Core.Bool.{true, false}
@@ -27,12 +27,6 @@ loop-holds c =
     let a = c .before .before .args in
     (omega arith, λ ls e. left-start (a .t) (a .v .now) (a .literals .now) ls e)
 
-size-requires : tie.Need-size-requires Inv-loop μ-loop
-size-requires c κs = search needs
-
-enum-told : tie.Need-enum-told Inv-loop μ-loop
-enum-told c = search needs
-
 returns : tie.Need-returns Inv-loop μ-loop
 returns c =
     let l = c .before .before .before .before .loop in
@@ -41,9 +35,6 @@ returns c =
     let v = size-refused (reading.valueSize Literal Literal (a .t) (drop (l .p) (a .literals .now))) (r .result) (c .enum-told .given .0 .0) (r .ensures) (c .enum-told .given .1) in
     lists-by (a .v .now) false (reading.literals (a .t) 1024 [] (a .literals .now))
     (λ ls e. absurd (left-refused (a .t) (a .v .now) (a .literals .now) ls (l .p) (omega arith) (l .inv .1 ls e) (c .enum-told .given .0 .0) v))
-
-enum-known-n : tie.Need-enum-known-n Inv-loop μ-loop
-enum-known-n c = search needs
 
 -- the literal that was found
 found : (c : tie.After-known-told Inv-loop μ-loop)
@@ -70,17 +61,8 @@ within c =
 add-e : tie.Need-add-e Inv-loop μ-loop
 add-e c = omega (arith, within c)
 
-sub-same : tie.Need-sub-same Inv-loop μ-loop
-sub-same c = omega arith
-
-part-same-start : tie.Need-part-same-start Inv-loop μ-loop
-part-same-start c = omega arith
-
 part-same-end : tie.Need-part-same-end Inv-loop μ-loop
 part-same-end c = omega (arith, within c)
-
-same-requires : tie.Need-same-requires Inv-loop μ-loop
-same-requires c κs = search needs
 
 returns-2 : tie.Need-returns-2 Inv-loop μ-loop
 returns-2 c =
@@ -118,15 +100,15 @@ listed-spec =
     Inv-loop
     μ-loop
     loop-holds
-    size-requires
-    enum-told
+    (λ c κs. search needs)
+    (λ c. search needs)
     returns
-    enum-known-n
+    (λ c. search needs)
     add-e
-    sub-same
-    part-same-start
+    (λ c. omega arith)
+    (λ c. omega arith)
     part-same-end
-    same-requires
+    (λ c κs. search needs)
     returns-2
     loop-less
     loop-again

@@ -1,4 +1,4 @@
--- `literals` meets its contract: what is left to read, behind the literals read so far, gives the whole. Assumes nothing.
+-- `literals` meets its contract: what is left to read, behind the literals read so far, gives the whole.
 use Prim.Native.Nat.{ℕ, _+_, _-_, _≤_}
 use mathlib.Core.Path.{_≡_, refl, sym, ap, _∙_}
 use mathlib.Core.List.{List, [], _∷_, _++_}
@@ -31,12 +31,6 @@ returns c =
     let a = c .before .before .before .before .args in
     sym (ap countedBy (sym (l .inv .4) ∙ turn-full (a .t) 1024 (l .i) (l .inv .0) (a .s .now) (l .p) (omega arith) (omega arith)))
 
-size-requires : tie.Need-size-requires Inv-loop μ-loop
-size-requires c κs = search needs
-
-enum-known-r : tie.Need-enum-known-r Inv-loop μ-loop
-enum-known-r c = search needs
-
 returns-2 : tie.Need-returns-2 Inv-loop μ-loop
 unfolding countedBy
 returns-2 c =
@@ -45,9 +39,6 @@ returns-2 c =
     let r = c .before .before .before .size in
     let v = size-refused (reading.valueSize Literal Literal (a .t) (drop (l .p) (a .s .now))) (r .result) (c .before .r .given .0 .0) (r .ensures) (c .before .r .given .1) in
     sym (ap countedBy (sym (l .inv .4) ∙ turn-refused (a .t) 1024 (l .i) (l .inv .0) (a .s .now) (l .p) (omega arith) (omega arith) (c .before .r .given .0 .0) v))
-
-enum-known-n : tie.Need-enum-known-n Inv-loop μ-loop
-enum-known-n c = search needs
 
 -- the value that was found
 found : (c : tie.After-known-told2 Inv-loop μ-loop)
@@ -72,9 +63,6 @@ within c =
 
 add-p : tie.Need-add-p Inv-loop μ-loop
 add-p c = omega (arith, within c)
-
-add-i : tie.Need-add-i Inv-loop μ-loop
-add-i c = omega arith
 
 loop-less : tie.Need-loop-less Inv-loop μ-loop
 loop-less c = omega (arith, within c)
@@ -107,12 +95,12 @@ literals-spec =
     μ-loop
     loop-holds
     returns
-    size-requires
-    enum-known-r
+    (λ c κs. search needs)
+    (λ c. search needs)
     returns-2
-    enum-known-n
+    (λ c. search needs)
     add-p
-    add-i
+    (λ c. omega arith)
     loop-less
     loop-again
     returns-3)

@@ -1,5 +1,5 @@
 -- `signed` meets its contract: after i bytes x is the number that they spell, and `last` the greatest that i bytes do; then the two sides of half.
--- Assumes nothing.
+--
 use Prim.Native.Nat.{_+_, _-_, _^_, _≤_}
 use mathlib.Core.Path.{_≡_, refl}
 use native.Mathlib.Omega.{arith}
@@ -23,9 +23,6 @@ loop-holds c = (omega arith, refl, omega arith, refl)
 mul-x : tie.Need-mul-x Inv-loop μ-loop
 mul-x c = let l = c .before .loop in omega (arith, turn-fits (l .i) (l .last) (omega arith) (l .inv .3))
 
-byte-at-requires : tie.Need-byte-at-requires Inv-loop μ-loop
-byte-at-requires c κs = search needs
-
 add-x : tie.Need-add-x Inv-loop μ-loop
 add-x c = let l = c .before .before .loop in omega (arith, turn-fits (l .i) (l .last) (omega arith) (l .inv .3))
 
@@ -34,12 +31,6 @@ mul-last c = let l = c .before .before .loop in omega (arith, turn-fits (l .i) (
 
 add-last : tie.Need-add-last Inv-loop μ-loop
 add-last c = let l = c .before .before .loop in omega (arith, turn-fits (l .i) (l .last) (omega arith) (l .inv .3))
-
-add-i : tie.Need-add-i Inv-loop μ-loop
-add-i c = omega arith
-
-loop-less : tie.Need-loop-less Inv-loop μ-loop
-loop-less c = omega arith
 
 loop-again : tie.Need-loop-again Inv-loop μ-loop
 loop-again c =
@@ -55,9 +46,6 @@ returns c =
     let l = c .before .before .loop in
     let a = c .before .before .before .before .args in
     signed-low (a .s .now) (a .w) (l .i) (l .x) (l .last) (omega arith) (omega arith) (omega arith) (l .inv .3) (l .inv .1) (omega arith)
-
-sub-result : tie.Need-sub-result Inv-loop μ-loop
-sub-result c = omega arith
 
 cast-result-2 : tie.Need-cast-result-2 Inv-loop μ-loop
 cast-result-2 c = let l = c .before .before .loop in record { sfits = omega (arith, pow-fits (l .i) (omega arith)) }
@@ -79,16 +67,16 @@ signed-spec =
     μ-loop
     loop-holds
     mul-x
-    byte-at-requires
+    (λ c κs. search needs)
     add-x
     mul-last
     add-last
-    add-i
-    loop-less
+    (λ c. omega arith)
+    (λ c. omega arith)
     loop-again
     cast-result
     returns
-    sub-result
+    (λ c. omega arith)
     cast-result-2
     sub-result-2
     returns-2)

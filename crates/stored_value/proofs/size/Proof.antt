@@ -1,4 +1,4 @@
--- `size` meets its contract: each answer has a law of the value at `at`, whose premises are what the tests on the way found. Assumes nothing.
+-- `size` meets its contract: each answer has a law of the value at `at`, whose premises are what the tests on the way found.
 use Prim.Native.Nat.{ℕ, _+_}
 use mathlib.Core.Path.{sym, ap, _∙_}
 use native.Mathlib.Omega.{arith}
@@ -15,20 +15,11 @@ returns c =
     let a = c .before .before .args in
     sym (ap sizedBy (past (a .short) (a .broken) (a .t) (a .s .now) (a .at .0) (omega arith)))
 
-sub-left : tie.Need-sub-left
-sub-left c = search needs
-
-width-of-requires : tie.Need-width-of-requires
-width-of-requires c κs = search needs
-
 returns-2 : tie.Need-returns-2
 unfolding sizedBy
 returns-2 c =
     let a = c .before .before .before .before .before .args in
     sym (ap sizedBy (string-short (a .short) (a .broken) (a .t) (a .s .now) (a .at .0) (omega arith) (omega arith)))
-
-be32-requires : tie.Need-be32-requires
-be32-requires c κs = search needs
 
 returns-3 : tie.Need-returns-3
 unfolding sizedBy
@@ -48,9 +39,6 @@ returns-5 c =
     let a = c .before .before .before .before .before .before .before .before .before .args in
     sym (ap sizedBy (string-cut (a .short) (a .broken) (a .t) (a .s .now) (a .at .0) (omega arith) (omega arith) (omega arith) (omega arith)))
 
-add-t17 : tie.Need-add-t17
-add-t17 c = search needs
-
 returns-6 : tie.Need-returns-6
 unfolding sizedBy
 returns-6 c =
@@ -63,9 +51,6 @@ unfolding sizedBy
 returns-7 c =
     let a = c .before .before .before .before .before .args in
     sym (ap sizedBy (number-cut (a .short) (a .broken) (a .t) (a .s .now) (a .at .0) (omega arith) (omega arith)))
-
-shared-slice-read-if9 : tie.Need-shared-slice-read-if9
-shared-slice-read-if9 c = search needs
 
 returns-8 : tie.Need-returns-8
 unfolding sizedBy
@@ -92,17 +77,17 @@ size-spec =
     tie.close
     (tie.spec
     returns
-    sub-left
-    width-of-requires
+    (λ c. search needs)
+    (λ c κs. search needs)
     returns-2
-    be32-requires
+    (λ c κs. search needs)
     returns-3
     returns-4
     returns-5
-    add-t17
+    (λ c. search needs)
     returns-6
     returns-7
-    shared-slice-read-if9
+    (λ c. search needs)
     returns-8
     returns-9
     returns-10)

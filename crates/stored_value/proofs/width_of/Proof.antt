@@ -1,4 +1,4 @@
--- `width_of` meets its contract: the code's table is the table of widths, and no entry passes 8. Assumes nothing.
+-- `width_of` meets its contract: the code's table is the table of widths, and no entry passes 8.
 use mathlib.Core.Path.{refl, sym}
 use native.Mathlib.Omega.{arith}
 use lib.ListN.{List·getD-eq-default}
@@ -7,9 +7,6 @@ use Rattle.stored_value.specs.Meaning.{widths, width}
 use Rattle.stored_value.proofs.Widths.{width-le}
 use Rattle.stored_value.proofs.width_of.Statement.{statement}
 use Rattle.stored_value.proofs.width_of.Tie as tie
-
-array-read-result : tie.Need-array-read-result
-array-read-result c = search needs
 
 cast-result : tie.Need-cast-result
 unfolding width
@@ -24,4 +21,10 @@ unfolding width
 returns-2 c = (sym (List·getD-eq-default widths 0 (c .if1 .left)), omega arith)
 
 pub width-of-spec : {M : Type 1} → statement M
-width-of-spec = tie.close (tie.spec array-read-result cast-result returns returns-2)
+width-of-spec =
+    tie.close
+    (tie.spec
+    (λ c. search needs)
+    cast-result
+    returns
+    returns-2)
