@@ -6,4 +6,3 @@ pub mod Counts
 pub mod Fronts
 pub mod ByteRows
 pub mod RunRows
-pub mod Subtracts

@@ -2,15 +2,12 @@
 ghost use mathlib.Core.Path.{_≡_};
 ghost use Prim.Native.Nat.{_+_, _-_, _*_, _%_, _^_, _<_, _≤_, min};
 ghost use lib.Dec.{leb};
-ghost use lib.Bits.{bitAnd};
-ghost use lib.ListN.{length, getD, set};
-ghost use Rattle.row_field.specs.Meaning.{size, bit, markAll, anySet, cleared, upTo, rowsOf, subtracted};
+ghost use lib.ListN.{length};
+ghost use Rattle.row_field.specs.Meaning.{size, bit, markAll, anySet, cleared, upTo, rowsOf};
 ghost use Rattle.row_field.specs.Meaning as meaning;
-ghost use Rattle.row_field.specs.Reading.{subtraction, fieldAfter, subtractOut};
 ghost use Rattle.row_field.specs.Promises.{anySeen, byteRows};
 use numbers::Position;
 use numbers::Row;
-use refusal::Refusal;
 
 // How many bytes the field for `rows` rows takes.
 pub fn bytes_for(rows: u64) -> u64
@@ -179,12 +176,14 @@ fn count_bytes(field: &[u8], end: usize) -> u64
     total
 }
 
-// The lowest `count` bits of a byte.
-fn low_bits(byte: u8, count: u64) -> u8
-    requires { ⌜ count < 8 ⌝ }
+// The lowest `count` bits of a byte, which are all of it from 8 on.
+pub fn low_bits(byte: u8, count: u64) -> u8
     ensures { λ r. ⌜ r ≡ byte % 2 ^ count ⌝ }
 {
-    byte % (1u8 << count)
+    if count < 8 {
+        return byte % (1u8 << count);
+    }
+    byte
 }
 
 // How many rows below `rows` are set: those of whole bytes, then those of the last one's bits that stand for rows.
@@ -198,72 +197,4 @@ pub fn count(field: &[u8], rows: u64) -> u64
         return total + u8::count_ones(last) as u64;
     }
     total
-}
-
-// What Subtract answers: a refusal, or how many rows below the row count are left and how many were removed.
-pub enum Subtracted {
-    Refused(Refusal),
-    Done { left: u64, removed: u64 },
-}
-
-// The most rows that a field may have.
-const MOST_ROWS: u64 = 2_147_483_647;
-
-// Clears the bits of one byte that are set in `bits`.
-fn clear_bits(field: &mut [u8], at: usize, bits: u8)
-    requires { ⌜ at < length (now field) ⌝ }
-    ensures { λ _. ⌜ now (field .exit) ≡ set (now (field .entry)) at (bitAnd (getD (now (field .entry)) at 0) (255 - bits)) ⌝ }
-{
-    let old = field[at];
-    field[at] = old & !bits;
-}
-
-// Subtracts the rows of the first `end` bytes.
-fn subtract_bytes(first: &mut [u8], second: &[u8], end: usize)
-    requires { ⌜ (end ≤ length (now first)) × (end ≤ length (now second)) ⌝ }
-    ensures { λ _. ⌜ now (first .exit) ≡ subtracted (end * 8) (now (first .entry)) (now (second .entry)) ⌝ }
-{
-    let mut i = 0;
-    while i < end {
-        clear_bits(first, i, second[i]);
-        i += 1;
-    }
-}
-
-// Subtracts the rows below `rows`: those of whole bytes, then those of the last one's bits that stand for rows.
-fn subtract_rows(first: &mut [u8], second: &[u8], rows: u64)
-    requires { ⌜ (size rows ≤ length (now first)) × (size rows ≤ length (now second)) ⌝ }
-    ensures { λ _. ⌜ now (first .exit) ≡ subtracted rows (now (first .entry)) (now (second .entry)) ⌝ }
-{
-    let whole = (rows / 8) as usize;
-    subtract_bytes(first, second, whole);
-    let more = rows % 8;
-    if more == 0 {
-        return;
-    }
-    let bits = low_bits(second[whole], more);
-    clear_bits(first, whole, bits);
-}
-
-// Document 01, Subtract: clears in the first field each row below `rows` that is set in the second. A refusal changes nothing. Rows removed are those that
-// were, less those that are left: two counts by words are faster than a count of each byte as it is cleared.
-pub fn subtract(first: &mut [u8], second: &[u8], rows: u64) -> Subtracted
-    ensures { λ r. ⌜ (r ≡ subtraction rows (now (first .entry)) (now (second .entry)))
-        × (now (first .exit) ≡ fieldAfter r rows (now (first .entry)) (now (second .entry)))
-        × (subtractOut r ≡ subtractOut (subtraction rows (now (first .entry)) (now (second .entry)))) ⌝ }
-{
-    if MOST_ROWS < rows {
-        return Subtracted::Refused(Refusal::Limit);
-    }
-    if !has_room(first, rows) {
-        return Subtracted::Refused(Refusal::Room);
-    }
-    if !has_room(second, rows) {
-        return Subtracted::Refused(Refusal::Room);
-    }
-    let before = count(first, rows);
-    subtract_rows(first, second, rows);
-    let left = count(first, rows);
-    let removed = before - left;
-    Subtracted::Done { left, removed }
 }
