@@ -2,6 +2,7 @@
 pub mod Laws
 pub mod RowLists
 pub mod Marks
+pub mod Loops
 pub mod Counts
 pub mod Fronts
 pub mod ByteRows

@@ -296,9 +296,6 @@ bit-subtracted n f g r = subtracted-go n f g r (decLt r n)
 pub length-subtracted : (n : ℕ) (f g : List ℕ) → length (subtracted n f g) ≡ length f
 length-subtracted n f g = length-without f (rowsFrom g 0 n)
 
-pub bytes-subtracted : (n : ℕ) (f g : List ℕ) → Bytes f → Bytes (subtracted n f g)
-bytes-subtracted n f g b = bytes-without f (rowsFrom g 0 n) b
-
 part-tick : (a b : Bool) → tick a ≡ tick (a && not b) + tick (a && b)
 part-tick true true = refl
 part-tick true false = refl
