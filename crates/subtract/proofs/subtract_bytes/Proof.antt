@@ -1,5 +1,4 @@
 -- `subtract_bytes` meets its contract. The loop's invariant: the field is without the rows of the bytes passed (`subtracted-byte`).
---
 use Prim.Native.Nat.{_≤_, _*_, _-_}
 use mathlib.Core.Path.{_≡_, sym, ap, _∙_}
 use native.Mathlib.Omega.{arith}
