@@ -10,10 +10,11 @@ use borrow.Author.Tests.{leb-true, eqb-true}
 use Rattle.numbers.specs.Meaning.{be, beAt, big, All, Bytes}
 use Rattle.numbers.proofs.ByteLists.{bytes-drop}
 use Rattle.numbers.proofs.Laws.{numberAt-back}
+use Rattle.refusal.specs.Meaning.{limit}
 use Rattle.refusal.specs.declared.Refusal.{Refusal}
-use Rattle.refusal.specs.declared.Refusal.the-variants.{Short, Magic, Version, Bitmap, Range, Checksum}
+use Rattle.refusal.specs.declared.Refusal.the-variants.{Short, Magic, Version, Bitmap, Range, Room, Limit, Checksum}
 use Rattle.crc32.specs.Meaning.{checksum}
-use Rattle.row_field.specs.Meaning.{markAll, anySet, count}
+use Rattle.row_field.specs.Meaning.{size, markAll, anySet, count, cleared}
 use Rattle.row_field.proofs.Marks.{Below}
 use Rattle.roaring.specs.declared.Extent.the-variants.{Exactly}
 use Rattle.roaring.specs.declared.Marked.the-variants.{Refused, Done}
@@ -23,8 +24,8 @@ use Rattle.roaring.proofs.Theorems.{read-was-laid-out}
 use Rattle.deletion_file.specs.declared.Deletions.the-variants.{Deleted}
 use Rattle.deletion_file.specs.Layout.{Bin, magic, binOf, frames, Framed}
 use Rattle.refusal.specs.Reading.{Out, refuse, ok, andThen}
-use Rattle.deletion_file.specs.Reading.{bins, asked, opened, bitmapOf, Outcome, untouched, zeroed, marked, before, markedBy, bitmapIn, answerOf}
-use Rattle.refusal.proofs.Laws.{not-ok, check-ok, then-ok}
+use Rattle.deletion_file.specs.Reading.{bins, binNumbered, binIn, afterMagic, bitmapIn, fieldBy, markBitmap, deletionsReady, deletionsBy}
+use Rattle.refusal.proofs.Laws.{not-ok, ok-same, check-ok, then-ok}
 use Rattle.deletion_file.proofs.Frames.{nothing, walk-passed}
 use Rattle.deletion_file.proofs.Fields.{any-below}
 
@@ -39,7 +40,7 @@ bytes-right : (x y : List ℕ) → Bytes (x ++ y) → Bytes y
 bytes-right [] y b = b
 bytes-right (a ∷ x) y b = bytes-right x y (λ j. b (suc j))
 
--- ---- the asked bin among the bins
+-- ---- a bin among the bins
 
 pub record Placed (xs : List Bin) (b : ℕ) (x : Bin) : Type 0 where
   pub earlier : List Bin
@@ -47,14 +48,14 @@ pub record Placed (xs : List Bin) (b : ℕ) (x : Bin) : Type 0 where
   pub place : length earlier ≡ b
   pub cut : xs ≡ earlier ++ (x ∷ later)
 
-asked-placed : (b : ℕ) (xs : List Bin) {x : Bin} → asked b xs ≡ ok x → Placed xs b x
-unfolding asked
-asked-placed b [] e = absurd (not-ok e)
-asked-placed zero (y ∷ ys) {x} e =
+numbered-placed : (b : ℕ) (xs : List Bin) {x : Bin} → binNumbered b xs ≡ ok x → Placed xs b x
+unfolding binNumbered
+numbered-placed b [] e = absurd (not-ok e)
+numbered-placed zero (y ∷ ys) {x} e =
     let f : y ≡ x = cc in
     record { earlier = []; later = ys; place = refl; cut = rw f }
-asked-placed (suc b) (y ∷ ys) e =
-    let i = asked-placed b ys e in
+numbered-placed (suc b) (y ∷ ys) e =
+    let i = numbered-placed b ys e in
     record { earlier = y ∷ i .earlier; later = i .later; place = ap suc (i .place); cut = ap (λ (zs : List Bin). y ∷ zs) (i .cut) }
 
 framed-at : (ys : List Bin) (x : Bin) (zs : List Bin) → All Framed (ys ++ (x ∷ zs)) → 4 ≤ length (x .bytes)
@@ -70,14 +71,14 @@ bytes-at : (ys : List Bin) (x : Bin) (zs : List Bin) → Bytes (frames (ys ++ (x
 bytes-at [] x zs b = bytes-first x (frames zs) b .0
 bytes-at (y ∷ ys) x zs b = bytes-at ys x zs (bytes-first y (frames (ys ++ (x ∷ zs))) b .1)
 
--- ---- a bin that was opened
+-- ---- a bin with its magic and checksum
 
 bin-same : (x : Bin) (bytes : List ℕ) (sum : ℕ) → x .bytes ≡ bytes → x .sum ≡ sum → x ≡ record { bytes = bytes; sum = sum }
 bin-same x bytes sum e f = rw (← e, ← f)
 
-opened-back : (x : Bin) (bitmap : List ℕ) → Bytes (x .bytes) → 4 ≤ length (x .bytes) → opened x ≡ ok bitmap → (x ≡ binOf bitmap) × (bitmap ≡ drop 4 (x .bytes))
-unfolding opened
-opened-back x bitmap b h e =
+bin-back : (x : Bin) (bitmap : List ℕ) → Bytes (x .bytes) → 4 ≤ length (x .bytes) → afterMagic x ≡ ok bitmap → (x ≡ binOf bitmap) × (bitmap ≡ drop 4 (x .bytes))
+unfolding afterMagic
+bin-back x bitmap b h e =
     let m = check-ok (eqb (beAt 4 (x .bytes) 0) magic) Magic _ _ e in
     let c = check-ok (eqb (checksum (x .bytes)) (x .sum)) Checksum _ _ (m .1) in
     let d : drop 4 (x .bytes) ≡ bitmap = cc in
@@ -101,12 +102,12 @@ first-byte [] h e = absurd (omega arith)
 first-byte (v ∷ s) h e = rw e
 
 found-at : (file : List ℕ) (b : ℕ) (bitmap : List ℕ) (xs : List Bin) (x : Bin) → Placed xs b x → Bytes file → file ≡ 1 ∷ drop 1 file
-    → All Framed xs → drop 1 file ≡ frames xs → opened x ≡ ok bitmap → Found file b bitmap
+    → All Framed xs → drop 1 file ≡ frames xs → afterMagic x ≡ ok bitmap → Found file b bitmap
 found-at file b bitmap xs x p t w g h e =
     let f : All Framed (p .earlier ++ (x ∷ p .later)) = rw (p .cut) at g in
     let s : drop 1 file ≡ frames (p .earlier ++ (x ∷ p .later)) = rw (p .cut) at h in
     let y = bytes-at (p .earlier) x (p .later) (rw s at (bytes-drop 1 file t)) in
-    let o = opened-back x bitmap y (framed-at (p .earlier) x (p .later) f) e in
+    let o = bin-back x bitmap y (framed-at (p .earlier) x (p .later) f) e in
     record {
       earlier = p .earlier;
       later = p .later;
@@ -116,15 +117,15 @@ found-at file b bitmap xs x p t w g h e =
       are-bytes = rw (o .1) (bytes-drop 4 (x .bytes) y);
     }
 
-pub bitmap-found : (file : List ℕ) (b : ℕ) (bitmap : List ℕ) → Bytes file → bitmapOf b file ≡ ok bitmap → Found file b bitmap
-unfolding bitmapOf
+pub bitmap-found : (file : List ℕ) (b : ℕ) (bitmap : List ℕ) → Bytes file → bitmapIn b file ≡ ok bitmap → Found file b bitmap
+unfolding bitmapIn binIn
 bitmap-found file b bitmap t e =
     let c = check-ok (leb 1 (length file)) Short _ _ e in
     let d = check-ok (eqb (getD file 0 0) 1) Version _ _ (c .1) in
-    let w = then-ok (andThen (bins (length file) (drop 1 file)) (asked b)) opened _ (d .1) in
-    let v = then-ok (bins (length file) (drop 1 file)) (asked b) _ (w .1) in
+    let w = then-ok (andThen (bins (length file) (drop 1 file)) (binNumbered b)) afterMagic _ (d .1) in
+    let v = then-ok (bins (length file) (drop 1 file)) (binNumbered b) _ (w .1) in
     let p = walk-passed (length file) (drop 1 file) (v .0) (bytes-drop 1 file t) (v .1) in
-    found-at file b bitmap (v .0) (w .0) (asked-placed b (v .0) (v .2)) t (first-byte file (leb-true _ _ (c .0)) (eqb-true _ _ (d .0))) (p .0) (p .1) (w .2)
+    found-at file b bitmap (v .0) (w .0) (numbered-placed b (v .0) (v .2)) t (first-byte file (leb-true _ _ (c .0)) (eqb-true _ _ (d .0))) (p .0) (p .1) (w .2)
 
 -- ---- the bitmap
 
@@ -133,9 +134,6 @@ pub record Rows (n : ℕ) (field bytes after : List ℕ) : Type 0 where
   pub is-bitmap : roaring.Bitmap rows bytes
   pub below : Below n rows
   pub field-is : after ≡ markAll field rows
-
-not-marked : {r : Refusal} {after : List ℕ} → zeroed r ≡ marked after → ⊥
-not-marked e = let z : _≡_ {A = ℕ} 0 1 = cc in omega arith
 
 -- what is as long as the whole is the whole
 all-of : (s x t : List ℕ) → s ≡ x ++ t → length s ≡ length x → s ≡ x
@@ -150,39 +148,45 @@ filled n field bytes after rows t long b e l a f =
     record { rows = rows; is-bitmap = rw (all-of bytes (r .0) t (r .3) (sym l ∙ r .2)) (r .1); below = any-below n rows a; field-is = f }
 
 bitmap-rows-go : (n : ℕ) (field bytes after : List ℕ) → Bytes bytes → (x : Read) → read bytes ≡ x
-    → markedBy (marking (Exactly (length bytes)) n field x) (fieldAfter (Exactly (length bytes)) n field x) ≡ marked after → Rows n field bytes after
-unfolding markedBy marking fieldAfter choose fits
-bitmap-rows-go n field bytes after b refused e m = absurd (not-marked m)
+    → fieldBy (marking (Exactly (length bytes)) n field x) (fieldAfter (Exactly (length bytes)) n field x) ≡ ok after → Rows n field bytes after
+unfolding fieldBy marking fieldAfter choose fits
+bitmap-rows-go n field bytes after b refused e m = absurd (not-ok m)
 bitmap-rows-go n field bytes after b (got rows long t) e m = go (fits (Exactly (length bytes)) long) refl (anyFrom n rows) refl m
   where
     go : (fit : Bool) → fits (Exactly (length bytes)) long ≡ fit → (any : Bool) → anyFrom n rows ≡ any
-        → markedBy (choose fit (choose any (Refused Range) (Done long (anySet field rows))) (Refused Bitmap)) (choose fit (choose any field (markAll field rows)) field) ≡ marked after
+        → fieldBy (choose fit (choose any (Refused Range) (Done long (anySet field rows))) (Refused Bitmap)) (choose fit (choose any field (markAll field rows)) field) ≡ ok after
         → Rows n field bytes after
-    go true f true a g = absurd (not-marked g)
-    go true f false a g =
-        let h : markAll field rows ≡ after = cc in
-        filled n field bytes after rows t long b e (eqb-true long (length bytes) f) a (sym h)
-    go false f any a g = absurd (not-marked g)
+    go true f true a g = absurd (not-ok g)
+    go true f false a g = filled n field bytes after rows t long b e (eqb-true long (length bytes) f) a (sym (ok-same _ _ g))
+    go false f any a g = absurd (not-ok g)
 
-pub bitmap-rows : (n : ℕ) (field bytes after : List ℕ) → Bytes bytes → bitmapIn n field (ok bytes) ≡ marked after → Rows n field bytes after
-unfolding bitmapIn
+pub bitmap-rows : (n : ℕ) (field bytes after : List ℕ) → Bytes bytes → markBitmap bytes n field ≡ ok after → Rows n field bytes after
+unfolding markBitmap
 bitmap-rows n field bytes after b m = bitmap-rows-go n field bytes after b (read bytes) refl m
 
 -- ---- the call
 
-pub bitmap-there : (n : ℕ) (field : List ℕ) (o : Out Refusal (List ℕ)) {after : List ℕ} → bitmapIn n field o ≡ marked after
-    → (bytes : List ℕ) × (o ≡ ok bytes) × (bitmapIn n field (ok bytes) ≡ marked after)
-unfolding bitmapIn
-bitmap-there n field (refuse r) e = absurd (not-marked e)
-bitmap-there n field (ok bytes) e = (bytes, refl, e)
+-- what the limits and ROOM let through
+pub record Ready (file : List ℕ) (n : ℕ) (buffer clear : List ℕ) : Type 0 where
+  pub file-in-limit : length file ≤ limit
+  pub count-in-limit : n ≤ limit
+  pub room : size n ≤ length buffer
+  pub is-cleared : clear ≡ cleared n buffer
 
-pub before-passed : (t : Bool) (r : Refusal) (o : Outcome) {after : List ℕ} → before t r o ≡ marked after → (t ≡ true) × (o ≡ marked after)
-unfolding before
-before-passed true r o e = (refl, e)
-before-passed false r o e = let z : _≡_ {A = ℕ} 0 1 = cc in absurd (omega arith)
+pub ready-back : (file : List ℕ) (n : ℕ) (buffer clear : List ℕ) → deletionsReady file n buffer ≡ ok clear → Ready file n buffer clear
+unfolding deletionsReady
+ready-back file n buffer clear e =
+    let l = check-ok (leb (length file) limit) Limit _ _ e in
+    let m = check-ok (leb n limit) Limit _ _ (l .1) in
+    let o = check-ok (leb (size n) (length buffer)) Room _ _ (m .1) in
+    record {
+      file-in-limit = leb-true _ _ (l .0);
+      count-in-limit = leb-true _ _ (m .0);
+      room = leb-true _ _ (o .0);
+      is-cleared = sym (ok-same _ _ (o .1));
+    }
 
-pub answer-marked : (n : ℕ) (o : Outcome) {k : ℕ} → answerOf n o ≡ Deleted k → (after : List ℕ) × (o ≡ marked after) × (k ≡ count after n)
-unfolding answerOf
-answer-marked n (untouched r) e = let z : _≡_ {A = ℕ} 0 1 = cc in absurd (omega arith)
-answer-marked n (zeroed r) e = let z : _≡_ {A = ℕ} 0 1 = cc in absurd (omega arith)
-answer-marked n (marked after) e = (after, refl, cc)
+pub deleted-back : (n : ℕ) (o : Out Refusal (List ℕ)) {k : ℕ} → deletionsBy n o ≡ Deleted k → (after : List ℕ) × (o ≡ ok after) × (k ≡ count after n)
+unfolding deletionsBy
+deleted-back n (refuse r) e = let z : _≡_ {A = ℕ} 0 1 = cc in absurd (omega arith)
+deleted-back n (ok after) e = (after, refl, cc)

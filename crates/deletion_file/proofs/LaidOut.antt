@@ -15,7 +15,7 @@ use Rattle.roaring.specs.Reading.{got, read, choose, fits, marking, fieldAfter}
 use Rattle.roaring.proofs.Theorems.{laid-out-is-read}
 use Rattle.deletion_file.specs.Layout.{Bin, magic, binOf, frames, Bins, none, more, DeletionFile, version-1, Framed, HasBin, has-bin}
 use Rattle.refusal.specs.Reading.{ok, check, andThen}
-use Rattle.deletion_file.specs.Reading.{asked, opened, bitmapOf, marked, markedBy, bitmapIn}
+use Rattle.deletion_file.specs.Reading.{binNumbered, binIn, afterMagic, bitmapIn, fieldBy, markBitmap}
 use Rattle.deletion_file.proofs.Frames.{holds, walk-passes}
 use Rattle.deletion_file.proofs.Fields.{below-any}
 use Rattle.deletion_file.proofs.Bytes.{bytes-bitmap, bytes-bin}
@@ -54,35 +54,35 @@ file-has-bin (version-1 bs) b h =
     let i = bin-at bs b h in
     holds (i .earlier) (i .later) (i .is-bitmap) (i .place) (rw (i .cut) at (bins-framed bs)) (ap (λ (ys : List Bin). 1 ∷ frames ys) (i .cut))
 
--- ---- the bin is found, and opened
+-- ---- the bin is found, with its magic and checksum
 
-asked-there : (earlier : List Bin) (x : Bin) (later : List Bin) → asked (length earlier) (earlier ++ (x ∷ later)) ≡ ok x
-unfolding asked
-asked-there [] x later = refl
-asked-there (y ∷ earlier) x later = asked-there earlier x later
+bin-there : (earlier : List Bin) (x : Bin) (later : List Bin) → binNumbered (length earlier) (earlier ++ (x ∷ later)) ≡ ok x
+unfolding binNumbered
+bin-there [] x later = refl
+bin-there (y ∷ earlier) x later = bin-there earlier x later
 
-opened-laid : (bitmap : List ℕ) → opened (binOf bitmap) ≡ ok bitmap
-unfolding opened check
-opened-laid bitmap = rw (eq-eqb (checksum (be 4 magic ++ bitmap)) (checksum (be 4 magic ++ bitmap)) refl)
+magic-laid : (bitmap : List ℕ) → afterMagic (binOf bitmap) ≡ ok bitmap
+unfolding afterMagic check
+magic-laid bitmap = rw (eq-eqb (checksum (be 4 magic ++ bitmap)) (checksum (be 4 magic ++ bitmap)) refl)
 
 pub record Laid (b : ℕ) (rows file : List ℕ) : Type 0 where
   pub bitmap : List ℕ
   pub is-bitmap : Bitmap rows bitmap
-  pub is-read : bitmapOf b file ≡ ok bitmap
+  pub is-read : bitmapIn b file ≡ ok bitmap
 
 pub bitmap-laid : {b : ℕ} {rows file : List ℕ} → HasBin b rows file → Laid b rows file
-unfolding bitmapOf check andThen
+unfolding bitmapIn binIn check andThen
 bitmap-laid (has-bin earlier later {bitmap = bitmap} m f) =
     let xs : List Bin = earlier ++ (binOf bitmap ∷ later) in
     let w = walk-passes xs (length (1 ∷ frames xs)) f (omega arith) in
     record {
       bitmap = bitmap;
       is-bitmap = m;
-      is-read = rw (le-leb 1 (length (1 ∷ frames xs)) (omega arith), w, asked-there earlier (binOf bitmap) later) (opened-laid bitmap);
+      is-read = rw (le-leb 1 (length (1 ∷ frames xs)) (omega arith), w, bin-there earlier (binOf bitmap) later) (magic-laid bitmap);
     }
 
-pub marked-laid : (n : ℕ) (field : List ℕ) {rows bitmap : List ℕ} → Bitmap rows bitmap → Below n rows → bitmapIn n field (ok bitmap) ≡ marked (markAll field rows)
-unfolding bitmapIn markedBy marking fieldAfter fits choose
+pub marked-laid : (n : ℕ) (field : List ℕ) {rows bitmap : List ℕ} → Bitmap rows bitmap → Below n rows → markBitmap bitmap n field ≡ ok (markAll field rows)
+unfolding markBitmap fieldBy marking fieldAfter fits choose
 marked-laid n field {rows} {bitmap} m b =
     let r : read bitmap ≡ got rows (length bitmap) [] = rw (append-nil bitmap) at (laid-out-is-read m []) in
     rw (r, eq-eqb (length bitmap) (length bitmap) refl, below-any n rows b)

@@ -13,10 +13,9 @@ use Rattle.refusal.specs.declared.Refusal.{Refusal}
 use Rattle.refusal.specs.declared.Refusal.the-variants.{Short, Magic, Version, Checksum}
 use Rattle.crc32.specs.Meaning.{checksum}
 use Rattle.refusal.specs.Reading.{refuse, ok, check, andThen}
-use Rattle.deletion_file.specs.Reading.{bins, asked, opened, bitmapOf}
-use Rattle.deletion_file.specs.Promises.{part, binFrom, binAt}
-use Rattle.deletion_file.specs.declared.Place.{Place}
-use Rattle.deletion_file.specs.declared.Place.the-variants.{Refused, At}
+use Rattle.deletion_file.specs.Layout.{Bin, magic}
+use Rattle.deletion_file.specs.Reading.{binIn, afterMagic, bitmapIn}
+use Rattle.deletion_file.specs.Promises.{part, binFrom}
 
 be-take : (w n : ℕ) (s : List ℕ) (at : ℕ) → at + w ≤ n → beAt w (take n s) at ≡ beAt w s at
 be-take zero n s at h = refl
@@ -39,37 +38,35 @@ module _ (s : List ℕ) (start end : ℕ) (h : start + 4 ≤ end) where
       let e : end - start - 4 ≡ end - (start + 4) = omega arith in
       drop-take 4 (end - start) (drop start s) ∙ rw (drop-drop 4 start s, e)
 
-  pub opened-magic : {m : ℕ} → m ≡ beAt 4 s start → m ≢ 1581511376 → opened (binFrom start end s) ≡ refuse Magic
-  unfolding opened check
-  opened-magic e n = rw (magic-at, ← e, ne-eqb _ _ n)
+  pub wrong-magic : {m : ℕ} → m ≡ beAt 4 s start → m ≢ magic → afterMagic (binFrom start end s) ≡ refuse Magic
+  unfolding afterMagic check
+  wrong-magic e n = rw (magic-at, ← e, ne-eqb _ _ n)
 
-  pub opened-checksum : {m sum stored : ℕ} → m ≡ beAt 4 s start → m ≡ 1581511376 → sum ≡ checksum (part start end s) → stored ≡ beAt 4 s end → sum ≢ stored
-      → opened (binFrom start end s) ≡ refuse Checksum
-  unfolding opened check
-  opened-checksum e m f g n = rw (magic-at, ← e, eq-eqb _ _ m, ← f, ← g, ne-eqb _ _ n)
+  module _ {m sum stored : ℕ} (e : m ≡ beAt 4 s start) (is : m ≡ magic) (f : sum ≡ checksum (part start end s)) (g : stored ≡ beAt 4 s end) where
+    pub wrong-checksum : sum ≢ stored → afterMagic (binFrom start end s) ≡ refuse Checksum
+    unfolding afterMagic check
+    wrong-checksum n = rw (magic-at, ← e, eq-eqb _ _ is, ← f, ← g, ne-eqb _ _ n)
 
-  pub opened-well : {m sum stored : ℕ} → m ≡ beAt 4 s start → m ≡ 1581511376 → sum ≡ checksum (part start end s) → stored ≡ beAt 4 s end → sum ≡ stored
-      → opened (binFrom start end s) ≡ ok (part (start + 4) end s)
-  unfolding opened check
-  opened-well e m f g n = rw (magic-at, ← e, eq-eqb _ _ m, ← f, ← g, eq-eqb _ _ n, behind-magic)
+    pub right-checksum : sum ≡ stored → afterMagic (binFrom start end s) ≡ ok (part (start + 4) end s)
+    unfolding afterMagic check
+    right-checksum n = rw (magic-at, ← e, eq-eqb _ _ is, ← f, ← g, eq-eqb _ _ n, behind-magic)
 
 -- ---- the stages before the bin
 
 module _ (b : ℕ) (file : List ℕ) where
-  pub bitmap-empty : length file ≡ 0 → bitmapOf b file ≡ refuse Short
-  unfolding bitmapOf check
-  bitmap-empty h = rw (lt-leb 1 (length file) (omega arith))
+  pub empty-file : length file ≡ 0 → bitmapIn b file ≡ refuse Short
+  unfolding bitmapIn check
+  empty-file h = rw (lt-leb 1 (length file) (omega arith))
 
-  pub bitmap-version : {v : ℕ} → 1 ≤ length file → v ≡ getD file 0 0 → v ≢ 1 → bitmapOf b file ≡ refuse Version
-  unfolding bitmapOf check
-  bitmap-version h e n = rw (le-leb 1 (length file) h, ← e, ne-eqb _ _ n)
+  pub wrong-version : {v : ℕ} → 1 ≤ length file → v ≡ getD file 0 0 → v ≢ 1 → bitmapIn b file ≡ refuse Version
+  unfolding bitmapIn check
+  wrong-version h e n = rw (le-leb 1 (length file) h, ← e, ne-eqb _ _ n)
 
-  module _ {v : ℕ} (h : 1 ≤ length file) (e : v ≡ getD file 0 0) (one : v ≡ 1) {place : Place}
-      (w : binAt place file ≡ andThen (bins (length file) (drop 1 file)) (asked b)) where
-    pub bitmap-refused : {r : Refusal} → place ≡ Refused r → bitmapOf b file ≡ refuse r
-    unfolding bitmapOf check andThen binAt
-    bitmap-refused p = rw (le-leb 1 (length file) h, ← e, eq-eqb _ _ one, ← w, p)
+  module _ {v : ℕ} (h : 1 ≤ length file) (e : v ≡ getD file 0 0) (one : v ≡ 1) where
+    pub no-bin : {r : Refusal} → binIn b file ≡ refuse r → bitmapIn b file ≡ refuse r
+    unfolding bitmapIn check andThen
+    no-bin w = rw (le-leb 1 (length file) h, ← e, eq-eqb _ _ one, w)
 
-    pub bitmap-opened : {start end : ℕ} → place ≡ At start end → bitmapOf b file ≡ opened (binFrom start end file)
-    unfolding bitmapOf check andThen binAt
-    bitmap-opened p = rw (le-leb 1 (length file) h, ← e, eq-eqb _ _ one, ← w, p)
+    pub the-bin : {x : Bin} → binIn b file ≡ ok x → bitmapIn b file ≡ afterMagic x
+    unfolding bitmapIn check andThen
+    the-bin w = rw (le-leb 1 (length file) h, ← e, eq-eqb _ _ one, w)

@@ -16,8 +16,8 @@ use Rattle.refusal.specs.declared.Refusal.{Refusal}
 use Rattle.refusal.specs.declared.Refusal.the-variants.{Short, NoBin}
 use Rattle.deletion_file.specs.Layout.{Bin}
 use Rattle.refusal.specs.Reading.{Out, refuse, ok, check, andThen}
-use Rattle.deletion_file.specs.Reading.{front, bins, asked}
-use Rattle.deletion_file.specs.Promises.{binFrom}
+use Rattle.deletion_file.specs.Reading.{front, bins, binNumbered, binIn}
+use Rattle.deletion_file.specs.Promises.{binFrom, BinFits}
 
 -- ---- one after the other
 
@@ -26,7 +26,7 @@ unfolding andThen
 then-then (refuse r) f g = refl
 then-then (ok a) f g = refl
 
-then-same : {A B : Type 0} (o : Out Refusal A) (f g : A → Out Refusal B) → ((a : A) → f a ≡ g a) → andThen o f ≡ andThen o g
+pub then-same : {A B : Type 0} (o : Out Refusal A) (f g : A → Out Refusal B) → ((a : A) → f a ≡ g a) → andThen o f ≡ andThen o g
 unfolding andThen
 then-same (refuse r) f g h = refl
 then-same (ok a) f g h = h a
@@ -74,20 +74,20 @@ module _ (m : ℕ) (s : List ℕ) (p : ℕ) (in-it : p < length s) where
       ∙ rw (le-leb 4 (beAt 4 s p) l, le-leb (beAt 4 s p + 4) (length (drop (p + 4) s)) q, drop-drop (beAt 4 s p + 4) (p + 4) s, e)
       (then-same (bins m (drop (p + 8 + beAt 4 s p) s)) _ _ (λ more. ap (λ (x : Bin). ok (x ∷ more)) (bin-at s p (beAt 4 s p)))))
 
--- ---- the asked bin, after some were passed
+-- ---- the bin sought, after some were passed
 
--- x, if the asked one was passed; else it is among those to come
+-- x, if the one sought was passed; else it is among those to come
 abbrev sought : ℕ → ℕ → Bin → List Bin → Out Refusal Bin
-sought b passed x more = cond (ltb b passed) (ok x) (asked (b - passed) more)
+sought b passed x more = cond (ltb b passed) (ok x) (binNumbered (b - passed) more)
 
-asked-later : (b k : ℕ) (y : Bin) (more : List Bin) → k < b → asked (b - k) (y ∷ more) ≡ asked (b - (k + 1)) more
-unfolding asked
-asked-later b k y more h =
+later-bin : (b k : ℕ) (y : Bin) (more : List Bin) → k < b → binNumbered (b - k) (y ∷ more) ≡ binNumbered (b - (k + 1)) more
+unfolding binNumbered
+later-bin b k y more h =
     let e : b - k ≡ suc (b - (k + 1)) = omega arith in
     rw e
 
 sought-this : (b k : ℕ) (x y : Bin) (more : List Bin) → k ≡ b → sought b k x (y ∷ more) ≡ sought b (k + 1) y more
-unfolding asked
+unfolding binNumbered
 sought-this b k x y more e =
     let z : b - k ≡ 0 = omega arith in
     rw (le-ltb b k (omega arith), lt-ltb b (k + 1) (omega arith), z)
@@ -96,7 +96,7 @@ sought-other-go : (b k : ℕ) (x y : Bin) (more : List Bin) → k ≢ b → Dec 
 sought-other-go b k x y more n (yes h) = rw (lt-ltb b k h, lt-ltb b (k + 1) (omega arith))
 sought-other-go b k x y more n (no h) =
     let l : k < b = omega arith in
-    rw (le-ltb b k (omega arith), le-ltb b (k + 1) (omega arith)) (asked-later b k y more l)
+    rw (le-ltb b k (omega arith), le-ltb b (k + 1) (omega arith)) (later-bin b k y more l)
 
 sought-other : (b k : ℕ) (x y : Bin) (more : List Bin) → k ≢ b → sought b k x (y ∷ more) ≡ sought b (k + 1) x more
 sought-other b k x y more n = sought-other-go b k x y more n (decLt b k)
@@ -106,9 +106,10 @@ pub record Walked (X : Out Refusal Bin) (s : List ℕ) (b next passed start end 
   pub steps : ℕ
   pub enough : length s - next ≤ steps
   pub so : X ≡ andThen (bins steps (drop next s)) (sought b passed (binFrom start end s))
-  pub inside : b < passed → (start + 4 ≤ end) × (end + 4 ≤ length s)
+  pub inside : b < passed → BinFits start end (length s)
 
-pub walked-first : (s : List ℕ) (b start end : ℕ) → Walked (andThen (bins (length s) (drop 1 s)) (asked b)) s b 1 0 start end
+pub walked-first : (s : List ℕ) (b start end : ℕ) → Walked (binIn b s) s b 1 0 start end
+unfolding binIn
 walked-first s b start end =
     let e : b - 0 ≡ b = omega arith in
     record {
@@ -127,7 +128,7 @@ module _ {X : Out Refusal Bin} {s : List ℕ} {b next passed start end : ℕ} (w
   walked-found h l = walked-over h ∙ rw (lt-ltb b passed l)
 
   pub walked-none : length s ≤ next → passed ≤ b → X ≡ refuse NoBin
-  unfolding asked
+  unfolding binNumbered
   walked-none h l = walked-over h ∙ rw (le-ltb b passed l)
 
   -- a turn: where bytes are left, so are steps
@@ -156,7 +157,7 @@ module _ {X : Out Refusal Bin} {s : List ℕ} {b next passed start end : ℕ} (w
   module _ {size : ℕ} (h : next < length s) (k : next + 4 ≤ length s) (e : size ≡ beAt 4 s next) (l : 4 ≤ size) (g : size + 8 ≤ length s - next) where
     step : (start′ end′ : ℕ)
         → ((more : List Bin) → sought b passed (binFrom start end s) (binFrom (next + 4) (next + 4 + size) s ∷ more) ≡ sought b (passed + 1) (binFrom start′ end′ s) more)
-        → (b < passed + 1 → (start′ + 4 ≤ end′) × (end′ + 4 ≤ length s)) → Walked X s b (next + 8 + size) (passed + 1) start′ end′
+        → (b < passed + 1 → BinFits start′ end′ (length s)) → Walked X s b (next + 8 + size) (passed + 1) start′ end′
     unfolding andThen
     step start′ end′ f i = go (w .steps) (w .enough) (w .so)
       where
@@ -172,7 +173,7 @@ module _ {X : Out Refusal Bin} {s : List ℕ} {b next passed start end : ℕ} (w
         }
 
     pub walked-this : passed ≡ b → Walked X s b (next + 8 + size) (passed + 1) (next + 4) (next + 4 + size)
-    walked-this p = step (next + 4) (next + 4 + size) (λ more. sought-this b passed (binFrom start end s) (binFrom (next + 4) (next + 4 + size) s) more p) (λ _. omega arith)
+    walked-this p = step (next + 4) (next + 4 + size) (λ more. sought-this b passed (binFrom start end s) (binFrom (next + 4) (next + 4 + size) s) more p) (λ _. record { magic-fits = omega arith; sum-fits = omega arith })
 
     pub walked-other : passed ≢ b → Walked X s b (next + 8 + size) (passed + 1) start end
     walked-other n = step start end (λ more. sought-other b passed (binFrom start end s) (binFrom (next + 4) (next + 4 + size) s) more n) (λ i. w .inside (omega arith))
