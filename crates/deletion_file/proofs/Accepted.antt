@@ -1,44 +1,39 @@
 -- What is accepted was laid out: the steps to it, from the answer back to the bytes.
-use Prim.Native.Nat.{ℕ, zero, suc, _+_, _≤_}
+use Prim.Native.Nat.{ℕ, zero, suc, _≤_}
 use mathlib.Core.Path.{_≡_, refl, sym, ap, _∙_}
-use mathlib.Core.Bool.{Bool, true, false}
 use mathlib.Core.List.{List, [], _∷_, _++_, append-nil}
 use native.Mathlib.Omega.{arith}
 use lib.Dec.{eqb, leb}
 use lib.ListN.{length, drop, getD, length-append}
+use lib.Seq.{take-append-seam, drop-append-seam}
 use borrow.Author.Tests.{leb-true, eqb-true}
 use Rattle.numbers.specs.Meaning.{be, beAt, big, All, Bytes}
-use Rattle.numbers.proofs.ByteLists.{bytes-drop}
+use Rattle.numbers.proofs.ByteLists.{bytes-take, bytes-drop}
 use Rattle.numbers.proofs.Laws.{numberAt-back}
 use Rattle.refusal.specs.Meaning.{limit}
 use Rattle.refusal.specs.declared.Refusal.{Refusal}
-use Rattle.refusal.specs.declared.Refusal.the-variants.{Short, Magic, Version, Bitmap, Range, Room, Limit, Checksum}
+use Rattle.refusal.specs.declared.Refusal.the-variants.{Short, Magic, Version, Room, Limit, Checksum}
 use Rattle.crc32.specs.Meaning.{checksum}
-use Rattle.row_field.specs.Meaning.{size, markAll, anySet, count, cleared}
-use Rattle.row_field.proofs.Marks.{Below}
+use Rattle.row_field.specs.Meaning.{size, markAll, count, cleared, Below}
 use Rattle.roaring.specs.declared.Extent.the-variants.{Exactly}
-use Rattle.roaring.specs.declared.Marked.the-variants.{Refused, Done}
-use Rattle.roaring.specs.Layout as roaring
-use Rattle.roaring.specs.Reading.{Read, refused, got, read, choose, anyFrom, fits, marking, fieldAfter}
+use Rattle.roaring.specs.Layout.{Bitmap}
+use Rattle.roaring.specs.Reading.{lengthIs, measured}
+use Rattle.roaring.proofs.Measured.{measured-back}
 use Rattle.roaring.proofs.Theorems.{read-was-laid-out}
 use Rattle.deletion_file.specs.declared.Deletions.the-variants.{Deleted}
 use Rattle.deletion_file.specs.Layout.{Bin, magic, binOf, frames, Framed}
 use Rattle.refusal.specs.Reading.{Out, refuse, ok, andThen}
-use Rattle.deletion_file.specs.Reading.{bins, binNumbered, binIn, afterMagic, bitmapIn, fieldBy, markBitmap, deletionsReady, deletionsBy}
+use Rattle.deletion_file.specs.Reading.{bins, binNumbered, binIn, afterMagic, bitmapIn, markBitmap, deletionsReady, deletionsBy}
 use Rattle.refusal.proofs.Laws.{not-ok, ok-same, check-ok, then-ok}
 use Rattle.deletion_file.proofs.Frames.{nothing, walk-passed}
-use Rattle.deletion_file.proofs.Fields.{any-below}
 
 -- ---- bytes of a part
 
 bytes-left : (x y : List ℕ) → Bytes (x ++ y) → Bytes x
-bytes-left [] y b i = omega arith
-bytes-left (a ∷ x) y b zero = b 0
-bytes-left (a ∷ x) y b (suc i) = bytes-left x y (λ j. b (suc j)) i
+bytes-left x y b = rw (take-append-seam x y) at (bytes-take (length x) (x ++ y) b)
 
 bytes-right : (x y : List ℕ) → Bytes (x ++ y) → Bytes y
-bytes-right [] y b = b
-bytes-right (a ∷ x) y b = bytes-right x y (λ j. b (suc j))
+bytes-right x y b = rw (drop-append-seam x y) at (bytes-drop (length x) (x ++ y) b)
 
 -- ---- a bin among the bins
 
@@ -131,38 +126,30 @@ bitmap-found file b bitmap t e =
 
 pub record Rows (n : ℕ) (field bytes after : List ℕ) : Type 0 where
   pub rows : List ℕ
-  pub is-bitmap : roaring.Bitmap rows bytes
+  pub is-bitmap : Bitmap rows bytes
   pub below : Below n rows
   pub field-is : after ≡ markAll field rows
 
--- what is as long as the whole is the whole
-all-of : (s x t : List ℕ) → s ≡ x ++ t → length s ≡ length x → s ≡ x
-all-of s x t e l =
+-- a bitmap that is as long as the bytes is all of them
+whole-bitmap : (rows s x t : List ℕ) → s ≡ x ++ t → length s ≡ length x → Bitmap rows x → Bitmap rows s
+whole-bitmap rows s x t e l m =
     let z : t ≡ [] = nothing t (omega (arith, simp length-append at (ap length e))) in
-    e ∙ rw (z, append-nil)
-
-filled : (n : ℕ) (field bytes after rows t : List ℕ) (long : ℕ) → Bytes bytes → read bytes ≡ got rows long t → long ≡ length bytes → anyFrom n rows ≡ false
-    → after ≡ markAll field rows → Rows n field bytes after
-filled n field bytes after rows t long b e l a f =
-    let r = read-was-laid-out bytes rows t long b e in
-    record { rows = rows; is-bitmap = rw (all-of bytes (r .0) t (r .3) (sym l ∙ r .2)) (r .1); below = any-below n rows a; field-is = f }
-
-bitmap-rows-go : (n : ℕ) (field bytes after : List ℕ) → Bytes bytes → (x : Read) → read bytes ≡ x
-    → fieldBy (marking (Exactly (length bytes)) n field x) (fieldAfter (Exactly (length bytes)) n field x) ≡ ok after → Rows n field bytes after
-unfolding fieldBy marking fieldAfter choose fits
-bitmap-rows-go n field bytes after b refused e m = absurd (not-ok m)
-bitmap-rows-go n field bytes after b (got rows long t) e m = go (fits (Exactly (length bytes)) long) refl (anyFrom n rows) refl m
-  where
-    go : (fit : Bool) → fits (Exactly (length bytes)) long ≡ fit → (any : Bool) → anyFrom n rows ≡ any
-        → fieldBy (choose fit (choose any (Refused Range) (Done long (anySet field rows))) (Refused Bitmap)) (choose fit (choose any field (markAll field rows)) field) ≡ ok after
-        → Rows n field bytes after
-    go true f true a g = absurd (not-ok g)
-    go true f false a g = filled n field bytes after rows t long b e (eqb-true long (length bytes) f) a (sym (ok-same _ _ g))
-    go false f any a g = absurd (not-ok g)
+    rw (e, z, append-nil) m
 
 pub bitmap-rows : (n : ℕ) (field bytes after : List ℕ) → Bytes bytes → markBitmap bytes n field ≡ ok after → Rows n field bytes after
-unfolding markBitmap
-bitmap-rows n field bytes after b m = bitmap-rows-go n field bytes after b (read bytes) refl m
+unfolding markBitmap lengthIs
+bitmap-rows n field bytes after b m =
+    let w = then-ok (measured (Exactly (length bytes)) n bytes) _ _ m in
+    let p = w .0 in
+    let q = measured-back (Exactly (length bytes)) n bytes p (w .1) in
+    let r = read-was-laid-out bytes p b (q .0) in
+    let whole : p .end ≡ length bytes = eqb-true _ _ (q .1) in
+    record {
+      rows = p .rows;
+      is-bitmap = whole-bitmap (p .rows) bytes (r .0) (p .behind) (r .3) (sym whole ∙ r .2) (r .1);
+      below = q .2;
+      field-is = sym (ok-same _ _ (w .2));
+    }
 
 -- ---- the call
 

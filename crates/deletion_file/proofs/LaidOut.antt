@@ -1,29 +1,29 @@
 -- What is laid out is read: the steps to it.
-use Prim.Native.Nat.{ℕ, zero, suc, _+_, _<_}
+use Prim.Native.Nat.{ℕ, zero, suc, _<_}
 use mathlib.Core.Path.{_≡_, refl, ap}
 use mathlib.Core.List.{List, [], _∷_, _++_, append-nil}
 use native.Mathlib.Omega.{arith}
 use lib.ListN.{length, getD}
 use borrow.Author.Tests.{le-leb, eq-eqb}
 use Rattle.numbers.specs.Meaning.{be, All}
+use Rattle.numbers.proofs.ByteLists.{bytes-append, bytes-be}
 use Rattle.crc32.specs.Meaning.{checksum}
 use Rattle.crc32.proofs.Laws.{checksum-lt}
-use Rattle.row_field.specs.Meaning.{markAll}
-use Rattle.row_field.proofs.Marks.{Below}
+use Rattle.row_field.specs.Meaning.{markAll, Below}
 use Rattle.roaring.specs.Layout.{Bitmap}
-use Rattle.roaring.specs.Reading.{got, read, choose, fits, marking, fieldAfter}
-use Rattle.roaring.proofs.Theorems.{laid-out-is-read}
-use Rattle.deletion_file.specs.Layout.{Bin, magic, binOf, frames, Bins, none, more, DeletionFile, version-1, Framed, HasBin, has-bin}
+use Rattle.roaring.specs.declared.Extent.the-variants.{Exactly}
+use Rattle.roaring.specs.Reading.{lengthIs}
+use Rattle.roaring.proofs.Measured.{measured-laid}
+use Rattle.roaring.proofs.BitmapBytes.{bytes-bitmap}
+use Rattle.deletion_file.specs.Layout.{Bin, magic, binBytes, binOf, frames, Bins, none, more, DeletionFile, version-1, Framed, HasBin, has-bin}
 use Rattle.refusal.specs.Reading.{ok, check, andThen}
-use Rattle.deletion_file.specs.Reading.{binNumbered, binIn, afterMagic, bitmapIn, fieldBy, markBitmap}
+use Rattle.deletion_file.specs.Reading.{binNumbered, binIn, afterMagic, bitmapIn, markBitmap}
 use Rattle.deletion_file.proofs.Frames.{holds, walk-passes}
-use Rattle.deletion_file.proofs.Fields.{below-any}
-use Rattle.deletion_file.proofs.Bytes.{bytes-bitmap, bytes-bin}
 
 bins-framed : {sets : List (List ℕ)} {xs : List Bin} → Bins sets xs → All Framed xs
 bins-framed none = tt
 bins-framed (more {bitmap = bitmap} m l bs) =
-    ((omega arith, l, checksum-lt (be 4 magic ++ bitmap) (bytes-bin magic bitmap (bytes-bitmap m))), bins-framed bs)
+    ((omega arith, l, checksum-lt (binBytes bitmap) (bytes-append (be 4 magic) bitmap (bytes-be 4 magic) (bytes-bitmap m))), bins-framed bs)
 
 -- the bin of set b, among the others
 record At (sets : List (List ℕ)) (xs : List Bin) (b : ℕ) : Type 0 where
@@ -63,7 +63,7 @@ bin-there (y ∷ earlier) x later = bin-there earlier x later
 
 magic-laid : (bitmap : List ℕ) → afterMagic (binOf bitmap) ≡ ok bitmap
 unfolding afterMagic check
-magic-laid bitmap = rw (eq-eqb (checksum (be 4 magic ++ bitmap)) (checksum (be 4 magic ++ bitmap)) refl)
+magic-laid bitmap = rw (eq-eqb (checksum (binBytes bitmap)) (checksum (binBytes bitmap)) refl)
 
 pub record Laid (b : ℕ) (rows file : List ℕ) : Type 0 where
   pub bitmap : List ℕ
@@ -82,7 +82,7 @@ bitmap-laid (has-bin earlier later {bitmap = bitmap} m f) =
     }
 
 pub marked-laid : (n : ℕ) (field : List ℕ) {rows bitmap : List ℕ} → Bitmap rows bitmap → Below n rows → markBitmap bitmap n field ≡ ok (markAll field rows)
-unfolding markBitmap fieldBy marking fieldAfter fits choose
+unfolding markBitmap andThen lengthIs
 marked-laid n field {rows} {bitmap} m b =
-    let r : read bitmap ≡ got rows (length bitmap) [] = rw (append-nil bitmap) at (laid-out-is-read m []) in
-    rw (r, eq-eqb (length bitmap) (length bitmap) refl, below-any n rows b)
+    let e = measured-laid (Exactly (length bitmap)) n m [] (eq-eqb (length bitmap) (length bitmap) refl) b in
+    rw (rw (append-nil bitmap) at e)

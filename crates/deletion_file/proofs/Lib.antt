@@ -2,8 +2,6 @@ pub mod Mark
 pub mod Open
 pub mod Walk
 pub mod Frames
-pub mod Fields
-pub mod Bytes
 pub mod LaidOut
 pub mod Accepted
 pub mod Theorems

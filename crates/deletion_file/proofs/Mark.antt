@@ -8,44 +8,52 @@ use lib.ListN.{length, length-take, length-drop}
 use borrow.Author.Tests.{le-leb, lt-leb}
 use Rattle.refusal.specs.Meaning.{limit}
 use Rattle.refusal.specs.declared.Refusal.{Refusal}
-use Rattle.refusal.specs.declared.Refusal.the-variants.{Bitmap, Range, Room, Limit}
+use Rattle.refusal.specs.declared.Refusal.the-variants.{Room, Limit}
 use Rattle.row_field.specs.Meaning.{markAll, anySet, count}
-use Rattle.roaring.specs.declared.Extent.{Extent}
 use Rattle.roaring.specs.declared.Extent.the-variants.{Exactly}
 use Rattle.roaring.specs.declared.Marked.{Marked}
 use Rattle.roaring.specs.declared.Marked.the-variants.{Refused, Done}
-use Rattle.roaring.specs.Reading.{Read, got, choose, anyFrom, fits, read, marking, fieldAfter}
+use Rattle.roaring.specs.Reading.{Parsed, Marks, measured, marking, markRows, markBuffer, markedBy}
+use Rattle.roaring.specs.Promises.{MarkPromise}
 use Rattle.deletion_file.specs.declared.Deletions.the-variants.{Deleted}
 use Rattle.deletion_file.specs.declared.Deletions.{Deletions}
 use Rattle.refusal.specs.Reading.{Out, refuse, ok, check, andThen, numbersOf}
-use Rattle.deletion_file.specs.Reading.{bitmapIn, fieldBy, markBitmap, markBin, deletionsReady, deletions, leftBy, deletionsBuffer, deletionsBy, deletionsOut}
-use Rattle.deletion_file.specs.Promises.{part, Marks, ClearsIfRoom, ReadsDeletions}
-
--- ---- a refused bitmap leaves the field as it was
-
-kept-go : (fit any : Bool) (field after : List ℕ) (length : ℕ) (twice : Bool) (r : Refusal)
-    → choose fit (choose any (Refused Range) (Done length twice)) (Refused Bitmap) ≡ Refused r → choose fit (choose any field after) field ≡ field
-unfolding choose
-kept-go true true field after length twice r e = refl
-kept-go true false field after length twice r e = let z : _≡_ {A = ℕ} 0 1 = cc in absurd (omega arith)
-kept-go false any field after length twice r e = refl
-
-kept : (extent : Extent) (n : ℕ) (field : List ℕ) (x : Read) {r : Refusal} → marking extent n field x ≡ Refused r → fieldAfter extent n field x ≡ field
-unfolding marking fieldAfter
-kept extent n field Read.refused e = refl
-kept extent n field (got rows length s) {r} e = kept-go (fits extent length) (anyFrom n rows) field (markAll field rows) length (anySet field rows) r e
+use Rattle.deletion_file.specs.Reading.{bitmapIn, markBitmap, markBin, deletionsReady, deletions, leftBy, deletionsBuffer, deletionsBy, deletionsOut}
+use Rattle.deletion_file.specs.Promises.{part, MarksRows, ClearsIfRoom, ReadsDeletions}
 
 -- ---- what was marked
 
-module _ (n : ℕ) (field bytes : List ℕ) {long : ℕ} (l : long ≡ length bytes) {m : Marked} {after : List ℕ}
-    (a : m ≡ marking (Exactly long) n field (read bytes)) (f : after ≡ fieldAfter (Exactly long) n field (read bytes)) where
-  pub refused-so : {r : Refusal} → m ≡ Refused r → Marks n (markBitmap bytes n) field after (Deletions.Refused r)
-  unfolding markBitmap fieldBy deletionsBy leftBy
-  refused-so e = record { answer = rw (← l, ← a, e); field = f ∙ kept (Exactly long) n field (read bytes) (sym a ∙ e) ∙ rw (← l, ← a, e) }
+abbrev marks : List ℕ → Parsed → Marks
+marks field p = record { length = p .end; twice = anySet field (p .rows) }
 
-  pub done-so : {k : ℕ} {twice : Bool} {ones : ℕ} → m ≡ Done k twice → ones ≡ count after n → Marks n (markBitmap bytes n) field after (Deleted ones)
-  unfolding markBitmap fieldBy deletionsBy leftBy
-  done-so e o = record { answer = rw (← l, ← a, e, ← f, o); field = rw (← l, ← a, e, ← f) }
+abbrev rowsIn : List ℕ → Out Refusal Parsed → Out Refusal (List ℕ)
+rowsIn field x = andThen x (λ p. ok (markAll field (p .rows)))
+
+-- by what was measured: a refused bitmap leaves the field as it was, any other has its rows marked there
+refused-go : (n : ℕ) (field after : List ℕ) (x : Out Refusal Parsed) {r : Refusal} → Refused r ≡ markedBy (andThen x (λ p. ok (marks field p))) → after ≡ markRows field x
+    → (Deletions.Refused r ≡ deletionsBy n (rowsIn field x)) × (after ≡ leftBy (rowsIn field x) field)
+unfolding markedBy markRows andThen deletionsBy leftBy
+refused-go n field after (refuse q) e f = (cc, f)
+refused-go n field after (ok p) e f = let z : _≡_ {A = ℕ} 0 1 = cc in absurd (omega arith)
+
+done-go : (n : ℕ) (field after : List ℕ) (x : Out Refusal Parsed) {k : ℕ} {twice : Bool} → Done k twice ≡ markedBy (andThen x (λ p. ok (marks field p)))
+    → after ≡ markRows field x → (Deleted (count after n) ≡ deletionsBy n (rowsIn field x)) × (after ≡ leftBy (rowsIn field x) field)
+unfolding markedBy markRows andThen deletionsBy leftBy
+done-go n field after (refuse q) e f = let z : _≡_ {A = ℕ} 0 1 = cc in absurd (omega arith)
+done-go n field after (ok p) e f = (ap (λ (g : List ℕ). Deleted (count g n)) f, f)
+
+module _ (n : ℕ) (field bytes : List ℕ) {long : ℕ} (l : long ≡ length bytes) {m : Marked} {after : List ℕ} (p : MarkPromise (Exactly long) n field bytes after m) where
+  pub refused-so : {r : Refusal} → m ≡ Refused r → MarksRows n (markBitmap bytes n) field after (Deletions.Refused r)
+  unfolding marking markBuffer markBitmap
+  refused-so e =
+      let s = refused-go n field after (measured (Exactly (length bytes)) n bytes) (sym e ∙ p .answer ∙ rw l) (p .buffer ∙ rw l) in
+      record { answer = s .0; field = s .1 }
+
+  pub done-so : {k : ℕ} {twice : Bool} {ones : ℕ} → m ≡ Done k twice → ones ≡ count after n → MarksRows n (markBitmap bytes n) field after (Deleted ones)
+  unfolding marking markBuffer markBitmap
+  done-so e o =
+      let s = done-go n field after (measured (Exactly (length bytes)) n bytes) (sym e ∙ p .answer ∙ rw l) (p .buffer ∙ rw l) in
+      record { answer = ap Deleted o ∙ s .0; field = s .1 }
 
 pub length-part : (s : List ℕ) (start end : ℕ) → end ≤ length s → end - start ≡ length (part start end s)
 length-part s start end h = simp (length-take, length-drop) (omega arith)
@@ -53,12 +61,12 @@ length-part s start end h = simp (length-take, length-drop) (omega arith)
 -- ---- the stages
 
 module _ (file : List ℕ) (b n : ℕ) (field : List ℕ) where
-  pub bin-refused : {r : Refusal} → bitmapIn b file ≡ refuse r → Marks n (markBin file b n) field field (Deletions.Refused r)
+  pub bin-refused : {r : Refusal} → bitmapIn b file ≡ refuse r → MarksRows n (markBin file b n) field field (Deletions.Refused r)
   unfolding markBin andThen deletionsBy leftBy
   bin-refused e = record { answer = rw e; field = rw e }
 
-  pub bin-marked : {bytes after : List ℕ} {answer : Deletions} → bitmapIn b file ≡ ok bytes → Marks n (markBitmap bytes n) field after answer
-      → Marks n (markBin file b n) field after answer
+  pub bin-marked : {bytes after : List ℕ} {answer : Deletions} → bitmapIn b file ≡ ok bytes → MarksRows n (markBitmap bytes n) field after answer
+      → MarksRows n (markBin file b n) field after answer
   unfolding markBin andThen
   bin-marked e m = record { answer = m .answer ∙ rw e; field = m .field ∙ rw e }
 
@@ -93,7 +101,7 @@ module _ (file : List ℕ) (b n : ℕ) (field : List ℕ) where
         let same : clear ≡ field = e .field ∙ rw t in
         rw same (refused (rw (le-leb (length file) limit h, le-leb n limit k, ← e .room, t)))
 
-    pub with-room : room ≡ true → {answer : Deletions} {after : List ℕ} → Marks n (markBin file b n) clear after answer → ReadsDeletions file b n field after answer
+    pub with-room : room ≡ true → {answer : Deletions} {after : List ℕ} → MarksRows n (markBin file b n) clear after answer → ReadsDeletions file b n field after answer
     unfolding deletionsReady deletions check andThen leftBy
     with-room t m =
         let i : deletionsReady file n field ≡ ok clear = rw (le-leb (length file) limit h, le-leb n limit k, ← e .room, t) (ap ok (sym (e .field ∙ rw t))) in

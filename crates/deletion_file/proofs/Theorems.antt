@@ -1,29 +1,34 @@
 -- The layout and the reading agree: a proof of each claim.
-use Prim.Native.Nat.{ℕ}
-use mathlib.Core.Path.{_≡_, refl, sym, ap, _∙_}
+use Prim.Native.Nat.{ℕ, _≤_}
+use mathlib.Core.Path.{_≡_, refl, ap, _∙_}
 use mathlib.Core.Bool.{Bool, true, false}
-use mathlib.Core.List.{List, [], _++_}
+use mathlib.Core.List.{List, []}
 use lib.Dec.{eqb, leb}
-use lib.ListN.{length, drop, getD}
+use lib.ListN.{length, getD}
 use borrow.Author.Tests.{le-leb, eqb-true, ne-eqb}
 use Rattle.refusal.specs.Meaning.{limit}
 use Rattle.refusal.specs.Reading.{Out, refuse, ok, check, andThen}
 use Rattle.refusal.specs.declared.Refusal.{Refusal}
 use Rattle.refusal.specs.declared.Refusal.the-variants.{Short, Version}
 use Rattle.refusal.proofs.Laws.{check-ok, then-ok}
-use Rattle.row_field.specs.Meaning.{size, markAll, fieldOf, cleared, count}
-use Rattle.roaring.proofs.Theorems.{rows-rising}
+use Rattle.row_field.specs.Meaning.{size, markAll, cleared, count, Below}
+use Rattle.row_field.proofs.RowLists.{rising-within}
+use Rattle.row_field.proofs.Fronts.{marked-field, marked-count}
+use Rattle.roaring.specs.Layout.{Bitmap}
+use Rattle.roaring.proofs.Theorems.{bitmap-rising}
 use Rattle.deletion_file.specs.declared.Deletions.the-variants.{Deleted}
-use Rattle.deletion_file.specs.Layout.{HasBin}
 use Rattle.deletion_file.specs.Reading.{bitmapIn, markBitmap, markBin, deletionsReady, deletions, leftBy, deletionsBuffer, deletionsBy}
-use Rattle.deletion_file.specs.Claims.{Allowed, AnswersRows, BinIsRead, LaidOutIsRead, Accepted, AcceptedWasLaidOut, OtherVersion, RowsHaveVersion1}
+use Rattle.deletion_file.specs.Claims.{Allowed, AnswersRows, BinIsRead, LaidOutIsRead, AcceptedWasLaidOut, OtherVersion, RowsHaveVersion1}
 use Rattle.deletion_file.proofs.Walk.{then-same}
 use Rattle.deletion_file.proofs.Frames.{holds}
-use Rattle.deletion_file.proofs.Fields.{marked-field, marked-count}
 use Rattle.deletion_file.proofs.LaidOut.{file-has-bin, bitmap-laid, marked-laid}
 use Rattle.deletion_file.proofs.Accepted.{bitmap-found, bitmap-rows, ready-back, deleted-back}
 
 -- ---- 1
+
+-- a bitmap's rows, marked in the cleared field, are as many as there are
+rows-counted : (n : ℕ) (buffer : List ℕ) {rows bitmap : List ℕ} → size n ≤ length buffer → Bitmap rows bitmap → Below n rows → count (markAll (cleared n buffer) rows) n ≡ length rows
+rows-counted n buffer {rows} h m b = marked-count n buffer rows h (rising-within 0 _ n rows (bitmap-rising m) b)
 
 -- where the rows were marked in the cleared field, they are the answer
 answers : (file : List ℕ) (b n : ℕ) (buffer rows : List ℕ) {after : List ℕ} → Allowed file n buffer rows → count after n ≡ length rows
@@ -38,7 +43,7 @@ bin-is-read file b n buffer rows d l =
     let e : deletions file b n buffer ≡ ok (markAll (cleared n buffer) rows) =
     rw (le-leb (length file) limit (l .file-in-limit), le-leb n limit (l .count-in-limit), le-leb (size n) (length buffer) (l .room), i .is-read)
     (marked-laid n (cleared n buffer) (i .is-bitmap) (l .below)) in
-    answers file b n buffer rows l (marked-count n buffer rows (l .room) (rows-rising (i .is-bitmap)) (l .below)) refl e
+    answers file b n buffer rows l (rows-counted n buffer (l .room) (i .is-bitmap) (l .below)) refl e
 
 pub laid-out-is-read : LaidOutIsRead
 laid-out-is-read file b n buffer sets d h l = bin-is-read file b n buffer (getD sets b []) (file-has-bin d b h) l
@@ -71,7 +76,7 @@ accepted-was-laid-out file b n buffer k t e =
     record { file-in-limit = l .file-in-limit; count-in-limit = l .count-in-limit; room = l .room; below = r .below } in
     let m : a .0 ≡ markAll (cleared n buffer) (r .rows) = r .field-is ∙ ap (λ (g : List ℕ). markAll g (r .rows)) (l .is-cleared) in
     let c : count (a .0) n ≡ length (r .rows) =
-    ap (λ (g : List ℕ). count g n) m ∙ marked-count n buffer (r .rows) (l .room) (rows-rising (r .is-bitmap)) (r .below) in
+    ap (λ (g : List ℕ). count g n) m ∙ rows-counted n buffer (l .room) (r .is-bitmap) (r .below) in
     record {
       rows = r .rows;
       laid-out = holds (f .earlier) (f .later) (r .is-bitmap) (f .place) (f .framed) (f .cut);

@@ -8,8 +8,7 @@ use Rattle.numbers.specs.Meaning.{Bytes}
 use Rattle.refusal.specs.Meaning.{limit}
 use Rattle.refusal.specs.Reading.{refuse, check, andThen}
 use Rattle.refusal.specs.declared.Refusal.the-variants.{Short, Version}
-use Rattle.row_field.specs.Meaning.{size, fieldOf}
-use Rattle.row_field.proofs.Marks.{Below}
+use Rattle.row_field.specs.Meaning.{size, fieldOf, Below}
 use Rattle.deletion_file.specs.declared.Deletions.the-variants.{Deleted}
 use Rattle.deletion_file.specs.Layout.{DeletionFile, HasBin}
 use Rattle.deletion_file.specs.Reading.{deletionsReady, deletions, deletionsBuffer, deletionsBy}

@@ -55,7 +55,7 @@ FindsBitmap b s r = FindsPart (bitmapIn b s) s r
 -- ---- the field
 
 -- `mark_bitmap`, `mark_bin`: the answer of a reading that marks rows in a field of n rows, which is left as it was where that refuses
-pub record Marks (n : ℕ) (reading : List ℕ → Out Refusal (List ℕ)) (before after : List ℕ) (r : Deletions) : Type 0 where
+pub record MarksRows (n : ℕ) (reading : List ℕ → Out Refusal (List ℕ)) (before after : List ℕ) (r : Deletions) : Type 0 where
   pub answer : r ≡ deletionsBy n (reading before)
   pub field : after ≡ leftBy (reading before) before
 

@@ -11,11 +11,9 @@ use Rattle.refusal.specs.Reading.{Out, refuse, ok, check, andThen}
 use Rattle.refusal.specs.declared.Refusal.{Refusal}
 use Rattle.refusal.specs.declared.Refusal.the-variants.{Short, Magic, Version, Room, Limit, Checksum, NoBin}
 use Rattle.crc32.specs.Meaning.{checksum}
-use Rattle.row_field.specs.Meaning.{size, count, cleared}
+use Rattle.row_field.specs.Meaning.{size, markAll, count, cleared}
 use Rattle.roaring.specs.declared.Extent.the-variants.{Exactly}
-use Rattle.roaring.specs.declared.Marked.{Marked}
-use Rattle.roaring.specs.declared.Marked.the-variants.{Refused, Done}
-use Rattle.roaring.specs.Reading.{read, marking, fieldAfter}
+use Rattle.roaring.specs.Reading.{measured}
 use Rattle.deletion_file.specs.declared.Deletions.{Deletions}
 use Rattle.deletion_file.specs.declared.Deletions.the-variants.{Deleted}
 use Rattle.deletion_file.specs.Layout.{Bin, numberSize, magic}
@@ -61,15 +59,9 @@ bitmapIn b file =
 
 -- ---- the rows
 
--- what marking answers, as a bin takes it: the field that it leaves. No row is set in a clear field, so nothing is asked of `twice`
-unfoldable pub fieldBy : Marked → List ℕ → Out Refusal (List ℕ)
-fieldBy (Refused r) after = refuse r
-fieldBy (Done long twice) after = ok after
-
 -- a field of n rows with a bitmap's rows marked, "one bitmap filling the rest" of its bin: BITMAP, RANGE
 unfoldable pub markBitmap : List ℕ → ℕ → List ℕ → Out Refusal (List ℕ)
-markBitmap bytes n field =
-    fieldBy (marking (Exactly (length bytes)) n field (read bytes)) (fieldAfter (Exactly (length bytes)) n field (read bytes))
+markBitmap bytes n field = andThen (measured (Exactly (length bytes)) n bytes) (λ p. ok (markAll field (p .rows)))
 
 -- a clear field of n rows with the rows of bin b marked
 unfoldable pub markBin : List ℕ → ℕ → ℕ → List ℕ → Out Refusal (List ℕ)

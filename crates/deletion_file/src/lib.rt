@@ -2,7 +2,7 @@
 ghost use Prim.Native.Nat.{_≤_};
 ghost use lib.ListN.{length};
 ghost use Rattle.deletion_file.specs.Reading.{markBitmap, markBin};
-ghost use Rattle.deletion_file.specs.Promises.{part, BinFits, PartFits, FindsBin, OpensBin, FindsBitmap, Marks, ClearsIfRoom, ReadsDeletions};
+ghost use Rattle.deletion_file.specs.Promises.{part, BinFits, PartFits, FindsBin, OpensBin, FindsBitmap, MarksRows, ClearsIfRoom, ReadsDeletions};
 use numbers::Position;
 use refusal::LIMIT;
 use refusal::Refusal;
@@ -113,7 +113,7 @@ fn mark_bitmap(
     field: &mut [u8],
 ) -> Deletions
     requires { ⌜ PartFits (start .0) (end .0) (length (now file)) ⌝ }
-    ensures { λ r. ⌜ Marks rows (markBitmap (part (start .0) (end .0) (now (file .entry))) rows) (now (field .entry)) (now (field .exit)) r ⌝ }
+    ensures { λ r. ⌜ MarksRows rows (markBitmap (part (start .0) (end .0) (now (file .entry))) rows) (now (field .entry)) (now (field .exit)) r ⌝ }
 {
     let from = start.0;
     let to = end.0;
@@ -129,7 +129,7 @@ fn mark_bitmap(
 
 // Marks the rows of the asked bin in a field for `rows` rows that is clear, and counts them.
 fn mark_bin(file: &[u8], bin: u64, rows: u64, field: &mut [u8]) -> Deletions
-    ensures { λ r. ⌜ Marks rows (markBin (now (file .entry)) bin rows) (now (field .entry)) (now (field .exit)) r ⌝ }
+    ensures { λ r. ⌜ MarksRows rows (markBin (now (file .entry)) bin rows) (now (field .entry)) (now (field .exit)) r ⌝ }
 {
     let place = find_bitmap(file, bin);
     match place {
