@@ -7,12 +7,12 @@ use lib.Dec.{eqb, leb}
 use lib.ListN.{length, drop, getD, length-append}
 use lib.Seq.{take-append-seam, drop-append-seam}
 use borrow.Author.Tests.{leb-true, eqb-true}
-use Rattle.numbers.specs.Meaning.{be, beAt, big, All, Bytes}
+use Rattle.numbers.specs.Meaning.{be, big, All, Bytes}
 use Rattle.numbers.proofs.ByteLists.{bytes-take, bytes-drop}
 use Rattle.numbers.proofs.Laws.{numberAt-back}
 use Rattle.refusal.specs.Meaning.{limit}
 use Rattle.refusal.specs.declared.Refusal.{Refusal}
-use Rattle.refusal.specs.declared.Refusal.the-variants.{Short, Magic, Version, Room, Limit, Checksum}
+use Rattle.refusal.specs.declared.Refusal.the-variants.{Short, Version, Room, Limit}
 use Rattle.crc32.specs.Meaning.{checksum}
 use Rattle.row_field.specs.Meaning.{size, markAll, count, cleared, Below}
 use Rattle.roaring.specs.declared.Extent.the-variants.{Exactly}
@@ -21,10 +21,11 @@ use Rattle.roaring.specs.Reading.{lengthIs, measured}
 use Rattle.roaring.proofs.Measured.{measured-back}
 use Rattle.roaring.proofs.Theorems.{read-was-laid-out}
 use Rattle.deletion_file.specs.declared.Deletions.the-variants.{Deleted}
-use Rattle.deletion_file.specs.Layout.{Bin, magic, binOf, frames, Framed}
+use Rattle.deletion_file.specs.Layout.{Bin, binBytes, binOf, frames, Framed}
 use Rattle.refusal.specs.Reading.{Out, refuse, ok, andThen}
 use Rattle.deletion_file.specs.Reading.{bins, binNumbered, binIn, afterMagic, bitmapIn, markBitmap, deletionsReady, deletionsBy}
 use Rattle.refusal.proofs.Laws.{not-ok, ok-same, check-ok, then-ok}
+use Rattle.deletion_file.proofs.BinSteps.{magic-back}
 use Rattle.deletion_file.proofs.Frames.{nothing, walk-passed}
 
 -- ---- bytes of a part
@@ -72,15 +73,10 @@ bin-same : (x : Bin) (bytes : List ℕ) (sum : ℕ) → x .bytes ≡ bytes → x
 bin-same x bytes sum e f = rw (← e, ← f)
 
 bin-back : (x : Bin) (bitmap : List ℕ) → Bytes (x .bytes) → 4 ≤ length (x .bytes) → afterMagic x ≡ ok bitmap → (x ≡ binOf bitmap) × (bitmap ≡ drop 4 (x .bytes))
-unfolding afterMagic
 bin-back x bitmap b h e =
-    let m = check-ok (eqb (beAt 4 (x .bytes) 0) magic) Magic _ _ e in
-    let c = check-ok (eqb (checksum (x .bytes)) (x .sum)) Checksum _ _ (m .1) in
-    let d : drop 4 (x .bytes) ≡ bitmap = cc in
-    let v : beAt 4 (x .bytes) 0 ≡ magic = eqb-true _ _ (m .0) in
-    let s : checksum (x .bytes) ≡ x .sum = eqb-true _ _ (c .0) in
-    let w : x .bytes ≡ be 4 magic ++ bitmap = numberAt-back big 4 (x .bytes) b h ∙ rw (v, d) in
-    (bin-same x (be 4 magic ++ bitmap) (checksum (be 4 magic ++ bitmap)) w (sym s ∙ ap checksum w), sym d)
+    let m = magic-back x bitmap e in
+    let w : x .bytes ≡ binBytes bitmap = numberAt-back big 4 (x .bytes) b h ∙ rw (m .0, m .2) in
+    (bin-same x (binBytes bitmap) (checksum (binBytes bitmap)) w (sym (m .1) ∙ ap checksum w), sym (m .2))
 
 -- ---- the file
 

@@ -1,6 +1,6 @@
-pub mod Mark
-pub mod Open
-pub mod Walk
+pub mod WalkSteps
+pub mod BinSteps
+pub mod CallSteps
 pub mod Frames
 pub mod LaidOut
 pub mod Accepted

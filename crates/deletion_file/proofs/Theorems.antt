@@ -19,7 +19,7 @@ use Rattle.roaring.proofs.Theorems.{bitmap-rising}
 use Rattle.deletion_file.specs.declared.Deletions.the-variants.{Deleted}
 use Rattle.deletion_file.specs.Reading.{bitmapIn, markBitmap, markBin, deletionsReady, deletions, leftBy, deletionsBuffer, deletionsBy}
 use Rattle.deletion_file.specs.Claims.{Allowed, AnswersRows, BinIsRead, LaidOutIsRead, AcceptedWasLaidOut, OtherVersion, RowsHaveVersion1}
-use Rattle.deletion_file.proofs.Walk.{then-same}
+use Rattle.deletion_file.proofs.WalkSteps.{then-same}
 use Rattle.deletion_file.proofs.Frames.{holds}
 use Rattle.deletion_file.proofs.LaidOut.{file-has-bin, bitmap-laid, marked-laid}
 use Rattle.deletion_file.proofs.Accepted.{bitmap-found, bitmap-rows, ready-back, deleted-back}

@@ -5,7 +5,7 @@ use mathlib.Core.Logic.{⊎-elim}
 use native.Mathlib.Omega.{arith}
 use lib.ListN.{length}
 use Rattle.deletion_file.specs.Reading.{binIn}
-use Rattle.deletion_file.proofs.Walk.{Walked, walked-first, walked-cut, walked-small, walked-long, walked-this, walked-other, walked-found, walked-none}
+use Rattle.deletion_file.proofs.WalkSteps.{Walked, walked-first, walked-cut, walked-small, walked-long, walked-this, walked-other, walked-found, walked-none}
 use Rattle.deletion_file.proofs.find_bin.Statement.{statement}
 use Rattle.deletion_file.proofs.find_bin.Tie as tie
 

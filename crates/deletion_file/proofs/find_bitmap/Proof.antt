@@ -1,7 +1,7 @@
 -- The stages before the bitmap, in the reading's order: what `find_bin` and `open_bin` ensure is put into it.
 use borrow.Author.Needs.{needs}
 use native.Mathlib.Omega.{arith}
-use Rattle.deletion_file.proofs.Open.{empty-file, wrong-version, no-bin, the-bin}
+use Rattle.deletion_file.proofs.BinSteps.{empty-file, wrong-version, no-bin, the-bin}
 use Rattle.deletion_file.proofs.find_bitmap.Statement.{statement}
 use Rattle.deletion_file.proofs.find_bitmap.Tie as tie
 

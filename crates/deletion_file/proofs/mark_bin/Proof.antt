@@ -1,6 +1,6 @@
 -- The place that `find_bitmap` gives is the bitmap's bytes, or the refusal, of the reading.
 use borrow.Author.Needs.{needs}
-use Rattle.deletion_file.proofs.Mark.{bin-refused, bin-marked}
+use Rattle.deletion_file.proofs.CallSteps.{bin-refused, bin-marked}
 use Rattle.deletion_file.proofs.mark_bin.Statement.{statement}
 use Rattle.deletion_file.proofs.mark_bin.Tie as tie
 

@@ -1,6 +1,6 @@
 -- What `roaring::mark` ensures, put into the reading: a refusal leaves the field as it was, and what was marked is counted.
 use borrow.Author.Needs.{needs}
-use Rattle.deletion_file.proofs.Mark.{refused-so, done-so, length-part}
+use Rattle.deletion_file.proofs.CallSteps.{refused-so, done-so, length-part}
 use Rattle.deletion_file.proofs.mark_bitmap.Statement.{statement}
 use Rattle.deletion_file.proofs.mark_bitmap.Tie as tie
 

@@ -1,7 +1,7 @@
 -- A bin's magic and checksum: the reading's tests of the bin, said of the file at the bin's place.
 use borrow.Author.Needs.{needs}
 use native.Mathlib.Omega.{arith}
-use Rattle.deletion_file.proofs.Open.{wrong-magic, wrong-checksum, right-checksum}
+use Rattle.deletion_file.proofs.BinSteps.{wrong-magic, wrong-checksum, right-checksum}
 use Rattle.deletion_file.proofs.open_bin.Statement.{statement}
 use Rattle.deletion_file.proofs.open_bin.Tie as tie
 

@@ -6,13 +6,15 @@ use mathlib.Core.List.{List, [], _∷_}
 use native.Mathlib.Omega.{arith}
 use lib.ListN.{length, take, drop, getD}
 use lib.Seq.{getD-take, drop-drop, take-nil}
-use borrow.Author.Tests.{le-leb, lt-leb, eq-eqb, ne-eqb}
+use lib.Dec.{eqb}
+use borrow.Author.Tests.{le-leb, lt-leb, eq-eqb, ne-eqb, eqb-true}
 use Rattle.numbers.specs.Meaning.{beAt, big}
 use Rattle.numbers.proofs.Laws.{numberAt-drop}
 use Rattle.refusal.specs.declared.Refusal.{Refusal}
 use Rattle.refusal.specs.declared.Refusal.the-variants.{Short, Magic, Version, Checksum}
 use Rattle.crc32.specs.Meaning.{checksum}
 use Rattle.refusal.specs.Reading.{refuse, ok, check, andThen}
+use Rattle.refusal.proofs.Laws.{ok-same, check-ok}
 use Rattle.deletion_file.specs.Layout.{Bin, magic}
 use Rattle.deletion_file.specs.Reading.{binIn, afterMagic, bitmapIn}
 use Rattle.deletion_file.specs.Promises.{part, binFrom}
@@ -50,6 +52,14 @@ module _ (s : List ℕ) (start end : ℕ) (h : start + 4 ≤ end) where
     pub right-checksum : sum ≡ stored → afterMagic (binFrom start end s) ≡ ok (part (start + 4) end s)
     unfolding afterMagic check
     right-checksum n = rw (magic-at, ← e, eq-eqb _ _ is, ← f, ← g, eq-eqb _ _ n, behind-magic)
+
+-- the same taken apart: what passed both tests
+pub magic-back : (x : Bin) (bitmap : List ℕ) → afterMagic x ≡ ok bitmap → (beAt 4 (x .bytes) 0 ≡ magic) × (checksum (x .bytes) ≡ x .sum) × (drop 4 (x .bytes) ≡ bitmap)
+unfolding afterMagic
+magic-back x bitmap e =
+    let m = check-ok (eqb (beAt 4 (x .bytes) 0) magic) Magic _ _ e in
+    let c = check-ok (eqb (checksum (x .bytes)) (x .sum)) Checksum _ _ (m .1) in
+    (eqb-true _ _ (m .0), eqb-true _ _ (c .0), ok-same _ _ (c .1))
 
 -- ---- the stages before the bin
 
