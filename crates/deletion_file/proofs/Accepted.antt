@@ -38,21 +38,21 @@ bytes-right x y b = rw (drop-append-seam x y) at (bytes-drop (length x) (x ++ y)
 
 -- ---- a bin among the bins
 
-pub record Placed (xs : List Bin) (b : ℕ) (x : Bin) : Type 0 where
+pub record Between (xs : List Bin) (b : ℕ) (x : Bin) : Type 0 where
   pub earlier : List Bin
   pub later : List Bin
-  pub place : length earlier ≡ b
+  pub number : length earlier ≡ b
   pub cut : xs ≡ earlier ++ (x ∷ later)
 
-numbered-placed : (b : ℕ) (xs : List Bin) {x : Bin} → binNumbered b xs ≡ ok x → Placed xs b x
+bin-between : (b : ℕ) (xs : List Bin) {x : Bin} → binNumbered b xs ≡ ok x → Between xs b x
 unfolding binNumbered
-numbered-placed b [] e = absurd (not-ok e)
-numbered-placed zero (y ∷ ys) {x} e =
+bin-between b [] e = absurd (not-ok e)
+bin-between zero (y ∷ ys) {x} e =
     let f : y ≡ x = cc in
-    record { earlier = []; later = ys; place = refl; cut = rw f }
-numbered-placed (suc b) (y ∷ ys) e =
-    let i = numbered-placed b ys e in
-    record { earlier = y ∷ i .earlier; later = i .later; place = ap suc (i .place); cut = ap (λ (zs : List Bin). y ∷ zs) (i .cut) }
+    record { earlier = []; later = ys; number = refl; cut = rw f }
+bin-between (suc b) (y ∷ ys) e =
+    let i = bin-between b ys e in
+    record { earlier = y ∷ i .earlier; later = i .later; number = ap suc (i .number); cut = ap (λ (zs : List Bin). y ∷ zs) (i .cut) }
 
 framed-at : (ys : List Bin) (x : Bin) (zs : List Bin) → All Framed (ys ++ (x ∷ zs)) → 4 ≤ length (x .bytes)
 framed-at [] x zs f = f .0 .0
@@ -80,10 +80,10 @@ bin-back x bitmap b h e =
 
 -- ---- the file
 
-pub record Found (file : List ℕ) (b : ℕ) (bitmap : List ℕ) : Type 0 where
+pub record FileCut (file : List ℕ) (b : ℕ) (bitmap : List ℕ) : Type 0 where
   pub earlier : List Bin
   pub later : List Bin
-  pub place : length earlier ≡ b
+  pub number : length earlier ≡ b
   pub framed : All Framed (earlier ++ (binOf bitmap ∷ later))
   pub cut : file ≡ 1 ∷ frames (earlier ++ (binOf bitmap ∷ later))
   pub are-bytes : Bytes bitmap
@@ -92,9 +92,9 @@ first-byte : (file : List ℕ) → 1 ≤ length file → getD file 0 0 ≡ 1 →
 first-byte [] h e = absurd (omega arith)
 first-byte (v ∷ s) h e = rw e
 
-found-at : (file : List ℕ) (b : ℕ) (bitmap : List ℕ) (xs : List Bin) (x : Bin) → Placed xs b x → Bytes file → file ≡ 1 ∷ drop 1 file
-    → All Framed xs → drop 1 file ≡ frames xs → afterMagic x ≡ ok bitmap → Found file b bitmap
-found-at file b bitmap xs x p t w g h e =
+file-cut : (file : List ℕ) (b : ℕ) (bitmap : List ℕ) (xs : List Bin) (x : Bin) → Between xs b x → Bytes file → file ≡ 1 ∷ drop 1 file
+    → All Framed xs → drop 1 file ≡ frames xs → afterMagic x ≡ ok bitmap → FileCut file b bitmap
+file-cut file b bitmap xs x p t w g h e =
     let f : All Framed (p .earlier ++ (x ∷ p .later)) = rw (p .cut) at g in
     let s : drop 1 file ≡ frames (p .earlier ++ (x ∷ p .later)) = rw (p .cut) at h in
     let y = bytes-at (p .earlier) x (p .later) (rw s at (bytes-drop 1 file t)) in
@@ -102,25 +102,25 @@ found-at file b bitmap xs x p t w g h e =
     record {
       earlier = p .earlier;
       later = p .later;
-      place = p .place;
+      number = p .number;
       framed = rw (o .0) at f;
       cut = w ∙ ap (λ (r : List ℕ). 1 ∷ r) (rw (o .0) at s);
       are-bytes = rw (o .1) (bytes-drop 4 (x .bytes) y);
     }
 
-pub bitmap-found : (file : List ℕ) (b : ℕ) (bitmap : List ℕ) → Bytes file → bitmapIn b file ≡ ok bitmap → Found file b bitmap
+pub bitmap-cut : (file : List ℕ) (b : ℕ) (bitmap : List ℕ) → Bytes file → bitmapIn b file ≡ ok bitmap → FileCut file b bitmap
 unfolding bitmapIn binIn
-bitmap-found file b bitmap t e =
+bitmap-cut file b bitmap t e =
     let c = check-ok (leb 1 (length file)) Short _ _ e in
     let d = check-ok (eqb (getD file 0 0) 1) Version _ _ (c .1) in
     let w = then-ok (andThen (bins (length file) (drop 1 file)) (binNumbered b)) afterMagic _ (d .1) in
     let v = then-ok (bins (length file) (drop 1 file)) (binNumbered b) _ (w .1) in
     let p = walk-passed (length file) (drop 1 file) (v .0) (bytes-drop 1 file t) (v .1) in
-    found-at file b bitmap (v .0) (w .0) (numbered-placed b (v .0) (v .2)) t (first-byte file (leb-true _ _ (c .0)) (eqb-true _ _ (d .0))) (p .0) (p .1) (w .2)
+    file-cut file b bitmap (v .0) (w .0) (bin-between b (v .0) (v .2)) t (first-byte file (leb-true _ _ (c .0)) (eqb-true _ _ (d .0))) (p .0) (p .1) (w .2)
 
 -- ---- the bitmap
 
-pub record Rows (n : ℕ) (field bytes after : List ℕ) : Type 0 where
+pub record RowsMarked (n : ℕ) (field bytes after : List ℕ) : Type 0 where
   pub rows : List ℕ
   pub is-bitmap : Bitmap rows bytes
   pub below : Below n rows
@@ -132,7 +132,7 @@ whole-bitmap rows s x t e l m =
     let z : t ≡ [] = nothing t (omega (arith, simp length-append at (ap length e))) in
     rw (e, z, append-nil) m
 
-pub bitmap-rows : (n : ℕ) (field bytes after : List ℕ) → Bytes bytes → markBitmap bytes n field ≡ ok after → Rows n field bytes after
+pub bitmap-rows : (n : ℕ) (field bytes after : List ℕ) → Bytes bytes → markBitmap bytes n field ≡ ok after → RowsMarked n field bytes after
 unfolding markBitmap lengthIs
 bitmap-rows n field bytes after b m =
     let w = then-ok (measured (Exactly (length bytes)) n bytes) _ _ m in

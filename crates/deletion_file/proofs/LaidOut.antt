@@ -26,33 +26,33 @@ bins-framed (more {bitmap = bitmap} m l bs) =
     ((omega arith, l, checksum-lt (binBytes bitmap) (bytes-append (be 4 magic) bitmap (bytes-be 4 magic) (bytes-bitmap m))), bins-framed bs)
 
 -- the bin of set b, among the others
-record At (sets : List (List ℕ)) (xs : List Bin) (b : ℕ) : Type 0 where
+record SetBin (sets : List (List ℕ)) (xs : List Bin) (b : ℕ) : Type 0 where
   bitmap : List ℕ
   earlier : List Bin
   later : List Bin
   is-bitmap : Bitmap (getD sets b []) bitmap
-  place : length earlier ≡ b
+  number : length earlier ≡ b
   cut : xs ≡ earlier ++ (binOf bitmap ∷ later)
 
-bin-at : {sets : List (List ℕ)} {xs : List Bin} → Bins sets xs → (b : ℕ) → b < length sets → At sets xs b
-bin-at none b h = absurd (omega arith)
-bin-at (more {bitmap = bitmap} {xs = xs} m l bs) zero h =
-    record { bitmap = bitmap; earlier = []; later = xs; is-bitmap = m; place = refl; cut = refl }
-bin-at (more {bitmap = bitmap} m l bs) (suc b) h =
-    let i = bin-at bs b (omega arith) in
+set-bin : {sets : List (List ℕ)} {xs : List Bin} → Bins sets xs → (b : ℕ) → b < length sets → SetBin sets xs b
+set-bin none b h = absurd (omega arith)
+set-bin (more {bitmap = bitmap} {xs = xs} m l bs) zero h =
+    record { bitmap = bitmap; earlier = []; later = xs; is-bitmap = m; number = refl; cut = refl }
+set-bin (more {bitmap = bitmap} m l bs) (suc b) h =
+    let i = set-bin bs b (omega arith) in
     record {
       bitmap = i .bitmap;
       earlier = binOf bitmap ∷ i .earlier;
       later = i .later;
       is-bitmap = i .is-bitmap;
-      place = ap suc (i .place);
+      number = ap suc (i .number);
       cut = ap (λ (ys : List Bin). binOf bitmap ∷ ys) (i .cut);
     }
 
 pub file-has-bin : {sets : List (List ℕ)} {file : List ℕ} → DeletionFile sets file → (b : ℕ) → b < length sets → HasBin b (getD sets b []) file
 file-has-bin (version-1 bs) b h =
-    let i = bin-at bs b h in
-    holds (i .earlier) (i .later) (i .is-bitmap) (i .place) (rw (i .cut) at (bins-framed bs)) (ap (λ (ys : List Bin). 1 ∷ frames ys) (i .cut))
+    let i = set-bin bs b h in
+    holds (i .earlier) (i .later) (i .is-bitmap) (i .number) (rw (i .cut) at (bins-framed bs)) (ap (λ (ys : List Bin). 1 ∷ frames ys) (i .cut))
 
 -- ---- the bin is found, with its magic and checksum
 
@@ -65,12 +65,12 @@ magic-laid : (bitmap : List ℕ) → afterMagic (binOf bitmap) ≡ ok bitmap
 unfolding afterMagic check
 magic-laid bitmap = rw (eq-eqb (checksum (binBytes bitmap)) (checksum (binBytes bitmap)) refl)
 
-pub record Laid (b : ℕ) (rows file : List ℕ) : Type 0 where
+pub record LaidBitmap (b : ℕ) (rows file : List ℕ) : Type 0 where
   pub bitmap : List ℕ
   pub is-bitmap : Bitmap rows bitmap
   pub is-read : bitmapIn b file ≡ ok bitmap
 
-pub bitmap-laid : {b : ℕ} {rows file : List ℕ} → HasBin b rows file → Laid b rows file
+pub bitmap-laid : {b : ℕ} {rows file : List ℕ} → HasBin b rows file → LaidBitmap b rows file
 unfolding bitmapIn binIn check andThen
 bitmap-laid (has-bin earlier later {bitmap = bitmap} m f) =
     let xs : List Bin = earlier ++ (binOf bitmap ∷ later) in

@@ -22,7 +22,7 @@ use Rattle.deletion_file.specs.Claims.{Allowed, AnswersRows, BinIsRead, 
 use Rattle.deletion_file.proofs.WalkSteps.{then-same}
 use Rattle.deletion_file.proofs.Frames.{holds}
 use Rattle.deletion_file.proofs.LaidOut.{file-has-bin, bitmap-laid, marked-laid}
-use Rattle.deletion_file.proofs.Accepted.{bitmap-found, bitmap-rows, ready-back, deleted-back}
+use Rattle.deletion_file.proofs.Accepted.{bitmap-cut, bitmap-rows, ready-back, deleted-back}
 
 -- ---- 1
 
@@ -70,7 +70,7 @@ accepted-was-laid-out file b n buffer k t e =
     let a = deleted-back n (deletions file b n buffer) e in
     let s = stages file b n buffer (a .0) (a .1) in
     let l = ready-back file n buffer (s .clear) (s .is-ready) in
-    let f = bitmap-found file b (s .bytes) t (s .is-bitmap) in
+    let f = bitmap-cut file b (s .bytes) t (s .is-bitmap) in
     let r = bitmap-rows n (s .clear) (s .bytes) (a .0) (f .are-bytes) (s .is-marked) in
     let w : Allowed file n buffer (r .rows) =
     record { file-in-limit = l .file-in-limit; count-in-limit = l .count-in-limit; room = l .room; below = r .below } in
@@ -79,7 +79,7 @@ accepted-was-laid-out file b n buffer k t e =
     ap (λ (g : List ℕ). count g n) m ∙ rows-counted n buffer (l .room) (r .is-bitmap) (r .below) in
     record {
       rows = r .rows;
-      laid-out = holds (f .earlier) (f .later) (r .is-bitmap) (f .place) (f .framed) (f .cut);
+      laid-out = holds (f .earlier) (f .later) (r .is-bitmap) (f .number) (f .framed) (f .cut);
       allowed = w;
       counted = a .2 ∙ c;
       answers = answers file b n buffer (r .rows) w c m (a .1);
