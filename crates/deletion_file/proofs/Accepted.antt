@@ -26,7 +26,7 @@ use Rattle.refusal.specs.Reading.{Out, refuse, ok, andThen}
 use Rattle.deletion_file.specs.Reading.{bins, binNumbered, binIn, afterMagic, bitmapIn, markBitmap, deletionsReady, deletionsBy}
 use Rattle.refusal.proofs.Laws.{not-ok, ok-same, check-ok, then-ok}
 use Rattle.deletion_file.proofs.BinSteps.{magic-back}
-use Rattle.deletion_file.proofs.Frames.{nothing, walk-passed}
+use Rattle.deletion_file.proofs.Frames.{Between, between-first, between-next, nothing, walk-passed}
 
 -- ---- bytes of a part
 
@@ -38,21 +38,11 @@ bytes-right x y b = rw (drop-append-seam x y) at (bytes-drop (length x) (x ++ y)
 
 -- ---- a bin among the bins
 
-pub record Between (xs : List Bin) (b : ℕ) (x : Bin) : Type 0 where
-  pub earlier : List Bin
-  pub later : List Bin
-  pub number : length earlier ≡ b
-  pub cut : xs ≡ earlier ++ (x ∷ later)
-
 bin-between : (b : ℕ) (xs : List Bin) {x : Bin} → binNumbered b xs ≡ ok x → Between xs b x
 unfolding binNumbered
 bin-between b [] e = absurd (not-ok e)
-bin-between zero (y ∷ ys) {x} e =
-    let f : y ≡ x = cc in
-    record { earlier = []; later = ys; number = refl; cut = rw f }
-bin-between (suc b) (y ∷ ys) e =
-    let i = bin-between b ys e in
-    record { earlier = y ∷ i .earlier; later = i .later; number = ap suc (i .number); cut = ap (λ (zs : List Bin). y ∷ zs) (i .cut) }
+bin-between zero (y ∷ ys) e = rw (← ok-same _ _ e) (between-first y ys)
+bin-between (suc b) (y ∷ ys) e = between-next y (bin-between b ys e)
 
 framed-at : (ys : List Bin) (x : Bin) (zs : List Bin) → All Framed (ys ++ (x ∷ zs)) → 4 ≤ length (x .bytes)
 framed-at [] x zs f = f .0 .0
@@ -81,11 +71,10 @@ bin-back x bitmap b h e =
 -- ---- the file
 
 pub record FileCut (file : List ℕ) (b : ℕ) (bitmap : List ℕ) : Type 0 where
-  pub earlier : List Bin
-  pub later : List Bin
-  pub number : length earlier ≡ b
-  pub framed : All Framed (earlier ++ (binOf bitmap ∷ later))
-  pub cut : file ≡ 1 ∷ frames (earlier ++ (binOf bitmap ∷ later))
+  pub cut-bins : List Bin
+  pub between : Between cut-bins b (binOf bitmap)
+  pub framed : All Framed cut-bins
+  pub cut : file ≡ 1 ∷ frames cut-bins
   pub are-bytes : Bytes bitmap
 
 first-byte : (file : List ℕ) → 1 ≤ length file → getD file 0 0 ≡ 1 → file ≡ 1 ∷ drop 1 file
@@ -94,17 +83,14 @@ first-byte (v ∷ s) h e = rw e
 
 file-cut : (file : List ℕ) (b : ℕ) (bitmap : List ℕ) (xs : List Bin) (x : Bin) → Between xs b x → Bytes file → file ≡ 1 ∷ drop 1 file
     → All Framed xs → drop 1 file ≡ frames xs → afterMagic x ≡ ok bitmap → FileCut file b bitmap
-file-cut file b bitmap xs x p t w g h e =
-    let f : All Framed (p .earlier ++ (x ∷ p .later)) = rw (p .cut) at g in
-    let s : drop 1 file ≡ frames (p .earlier ++ (x ∷ p .later)) = rw (p .cut) at h in
-    let y = bytes-at (p .earlier) x (p .later) (rw s at (bytes-drop 1 file t)) in
-    let o = bin-back x bitmap y (framed-at (p .earlier) x (p .later) f) e in
+file-cut file b bitmap xs x p t w f s e =
+    let y = bytes-at (p .earlier) x (p .later) (rw (s, p .cut) at (bytes-drop 1 file t)) in
+    let o = bin-back x bitmap y (framed-at (p .earlier) x (p .later) (rw (p .cut) at f)) e in
     record {
-      earlier = p .earlier;
-      later = p .later;
-      number = p .number;
-      framed = rw (o .0) at f;
-      cut = w ∙ ap (λ (r : List ℕ). 1 ∷ r) (rw (o .0) at s);
+      cut-bins = xs;
+      between = rw (o .0) at p;
+      framed = f;
+      cut = w ∙ ap (λ (r : List ℕ). 1 ∷ r) s;
       are-bytes = rw (o .1) (bytes-drop 4 (x .bytes) y);
     }
 

@@ -1,6 +1,6 @@
 -- What is laid out is read: the steps to it.
 use Prim.Native.Nat.{ℕ, zero, suc, _<_}
-use mathlib.Core.Path.{_≡_, refl, ap}
+use mathlib.Core.Path.{_≡_, refl}
 use mathlib.Core.List.{List, [], _∷_, _++_, append-nil}
 use native.Mathlib.Omega.{arith}
 use lib.ListN.{length, getD}
@@ -18,7 +18,7 @@ use Rattle.roaring.proofs.BitmapBytes.{bytes-bitmap}
 use Rattle.deletion_file.specs.Layout.{Bin, magic, binBytes, binOf, frames, Bins, none, more, DeletionFile, version-1, Framed, HasBin, has-bin}
 use Rattle.refusal.specs.Reading.{ok, check, andThen}
 use Rattle.deletion_file.specs.Reading.{binNumbered, binIn, afterMagic, bitmapIn, markBitmap}
-use Rattle.deletion_file.proofs.Frames.{holds, walk-passes}
+use Rattle.deletion_file.proofs.Frames.{Between, between-first, between-next, file-has-bin, walk-passes}
 
 bins-framed : {sets : List (List ℕ)} {xs : List Bin} → Bins sets xs → All Framed xs
 bins-framed none = tt
@@ -28,31 +28,20 @@ bins-framed (more {bitmap = bitmap} m l bs) =
 -- the bin of set b, among the others
 record SetBin (sets : List (List ℕ)) (xs : List Bin) (b : ℕ) : Type 0 where
   bitmap : List ℕ
-  earlier : List Bin
-  later : List Bin
   is-bitmap : Bitmap (getD sets b []) bitmap
-  number : length earlier ≡ b
-  cut : xs ≡ earlier ++ (binOf bitmap ∷ later)
+  between : Between xs b (binOf bitmap)
 
 set-bin : {sets : List (List ℕ)} {xs : List Bin} → Bins sets xs → (b : ℕ) → b < length sets → SetBin sets xs b
 set-bin none b h = absurd (omega arith)
-set-bin (more {bitmap = bitmap} {xs = xs} m l bs) zero h =
-    record { bitmap = bitmap; earlier = []; later = xs; is-bitmap = m; number = refl; cut = refl }
+set-bin (more {bitmap = bitmap} {xs = xs} m l bs) zero h = record { bitmap = bitmap; is-bitmap = m; between = between-first (binOf bitmap) xs }
 set-bin (more {bitmap = bitmap} m l bs) (suc b) h =
     let i = set-bin bs b (omega arith) in
-    record {
-      bitmap = i .bitmap;
-      earlier = binOf bitmap ∷ i .earlier;
-      later = i .later;
-      is-bitmap = i .is-bitmap;
-      number = ap suc (i .number);
-      cut = ap (λ (ys : List Bin). binOf bitmap ∷ ys) (i .cut);
-    }
+    record { bitmap = i .bitmap; is-bitmap = i .is-bitmap; between = between-next (binOf bitmap) (i .between) }
 
-pub file-has-bin : {sets : List (List ℕ)} {file : List ℕ} → DeletionFile sets file → (b : ℕ) → b < length sets → HasBin b (getD sets b []) file
-file-has-bin (version-1 bs) b h =
+pub set-has-bin : {sets : List (List ℕ)} {file : List ℕ} → DeletionFile sets file → (b : ℕ) → b < length sets → HasBin b (getD sets b []) file
+set-has-bin (version-1 bs) b h =
     let i = set-bin bs b h in
-    holds (i .earlier) (i .later) (i .is-bitmap) (i .number) (rw (i .cut) at (bins-framed bs)) (ap (λ (ys : List Bin). 1 ∷ frames ys) (i .cut))
+    file-has-bin (i .between) (i .is-bitmap) (bins-framed bs) refl
 
 -- ---- the bin is found, with its magic and checksum
 

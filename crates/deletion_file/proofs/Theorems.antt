@@ -20,8 +20,8 @@ use Rattle.deletion_file.specs.declared.Deletions.the-variants.{Deleted}
 use Rattle.deletion_file.specs.Reading.{bitmapIn, markBitmap, markBin, deletionsReady, deletions, leftBy, deletionsBuffer, deletionsBy}
 use Rattle.deletion_file.specs.Claims.{Allowed, AnswersRows, BinIsRead, LaidOutIsRead, AcceptedWasLaidOut, OtherVersion, RowsHaveVersion1}
 use Rattle.deletion_file.proofs.WalkSteps.{then-same}
-use Rattle.deletion_file.proofs.Frames.{holds}
-use Rattle.deletion_file.proofs.LaidOut.{file-has-bin, bitmap-laid, marked-laid}
+use Rattle.deletion_file.proofs.Frames.{file-has-bin}
+use Rattle.deletion_file.proofs.LaidOut.{set-has-bin, bitmap-laid, marked-laid}
 use Rattle.deletion_file.proofs.Accepted.{bitmap-cut, bitmap-rows, ready-back, deleted-back}
 
 -- ---- 1
@@ -46,7 +46,7 @@ bin-is-read file b n buffer rows d l =
     answers file b n buffer rows l (rows-counted n buffer (l .room) (i .is-bitmap) (l .below)) refl e
 
 pub laid-out-is-read : LaidOutIsRead
-laid-out-is-read file b n buffer sets d h l = bin-is-read file b n buffer (getD sets b []) (file-has-bin d b h) l
+laid-out-is-read file b n buffer sets d h l = bin-is-read file b n buffer (getD sets b []) (set-has-bin d b h) l
 
 -- ---- 2
 
@@ -79,7 +79,7 @@ accepted-was-laid-out file b n buffer k t e =
     ap (λ (g : List ℕ). count g n) m ∙ rows-counted n buffer (l .room) (r .is-bitmap) (r .below) in
     record {
       rows = r .rows;
-      laid-out = holds (f .earlier) (f .later) (r .is-bitmap) (f .number) (f .framed) (f .cut);
+      laid-out = file-has-bin (f .between) (r .is-bitmap) (f .framed) (f .cut);
       allowed = w;
       counted = a .2 ∙ c;
       answers = answers file b n buffer (r .rows) w c m (a .1);
