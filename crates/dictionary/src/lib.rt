@@ -575,10 +575,13 @@ fn entries(body: &[u8], t: u32, version2: bool, n: u64, at: Position) -> AllEntr
     entries_one(body, t, n, at)
 }
 
-// A body's dictionary of either version, every rule tested in byte order.
+// A body's dictionary of either version, as a column of type t: an unknown type is LITERAL, then every rule is tested in byte order.
 pub fn read(body: &[u8], t: u32) -> Checked
     ensures { λ r. ⌜ ReadsDictionary t (now (body .entry)) r ⌝ }
 {
+    if stored_value::TYPES <= t {
+        return Checked::Refused(Refusal::Literal);
+    }
     match fixed_fields(body) {
         Fixed::Refused(r) => {
             return Checked::Refused(r);
