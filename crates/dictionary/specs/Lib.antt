@@ -2,4 +2,4 @@
 pub mod Layout
 pub mod Reading
 pub mod Promises
-pub mod Answers
+pub mod Claims
