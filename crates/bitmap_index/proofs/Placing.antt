@@ -1,7 +1,7 @@
 -- Placing rows: what marking answers, put into the reading, and that no byte behind a field of n rows changes.
 use Prim.Native.Nat.{ℕ, zero, suc, _-_, _/_, _<_, _≤_}
 use mathlib.Core.Path.{_≡_, refl, sym, ap, _∙_}
-use mathlib.Core.Bool.{Bool, true, false, _||_}
+use mathlib.Core.Bool.{Bool, true, false}
 use mathlib.Core.List.{List, [], _∷_}
 use native.Mathlib.Omega.{arith}
 use lib.Dec.{leb}
@@ -13,6 +13,7 @@ use mir.Syntax.{w32}
 use mir.Val.{SFits, toZ, ofZ}
 use borrow.Author.Tests.{lt-ltb, le-ltb, leb-false, eq-eqb, ne-eqb}
 use Rattle.numbers.specs.Meaning.{number}
+use Rattle.numbers.proofs.Booleans.{or-neither}
 use Rattle.refusal.specs.declared.Refusal.{Refusal}
 use Rattle.refusal.specs.declared.Refusal.the-variants.{Bitmap, Range, Twice}
 use Rattle.row_field.specs.Meaning.{bit, mark, markAll, zeroed, cleared, size}
@@ -40,20 +41,12 @@ pub cleared-mark : (n : ℕ) (f : List ℕ) (r : ℕ) → r < n → cleared n (m
 unfolding mark
 cleared-mark n f r h = zeroed-set (size n) f (r / 8) _ (omega arith)
 
-none-first : (a b : Bool) → a || b ≡ false → a ≡ false
-none-first true b e = e
-none-first false b e = refl
-
-none-rest : (a b : Bool) → a || b ≡ false → b ≡ false
-none-rest true b e = absurd (let w : _≡_ {A = ℕ} 0 1 = cc in omega arith)
-none-rest false b e = e
-
 cleared-marks : (n : ℕ) (f rs : List ℕ) → anyFrom n rs ≡ false → cleared n (markAll f rs) ≡ cleared n f
 unfolding markAll anyFrom
 cleared-marks n f [] e = refl
 cleared-marks n f (r ∷ rs) e =
-    let h : r < n = leb-false n r (none-first (leb n r) (anyFrom n rs) e) in
-    cleared-marks n (mark f r) rs (none-rest (leb n r) (anyFrom n rs) e) ∙ cleared-mark n f r h
+    let h = or-neither (leb n r) (anyFrom n rs) e in
+    cleared-marks n (mark f r) rs (h .1) ∙ cleared-mark n f r (leb-false n r (h .0))
 
 after-go : (n : ℕ) (f rs : List ℕ) (fit any : Bool) → anyFrom n rs ≡ any → cleared n (choose fit (choose any f (markAll f rs)) f) ≡ cleared n f
 unfolding choose

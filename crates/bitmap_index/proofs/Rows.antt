@@ -9,7 +9,7 @@ use native.Mathlib.Omega.{arith}
 use borrow.Author.Tests.{eq-eqb, ne-eqb}
 use lib.ListN.{length, drop, replicate, length-replicate, List·getD-append}
 use lib.Seq.{set-append-left}
-use Rattle.numbers.specs.Meaning.{Bytes}
+use Rattle.numbers.specs.Meaning.{All, Bytes}
 use Rattle.row_field.specs.Meaning.{size, bit, mark, markAll, anySet, fieldOf, cleared, rowsFrom, count}
 use Rattle.row_field.proofs.Laws.{length-mark}
 use Rattle.row_field.proofs.Marks.{Below, below-more, member, member-append, member-before, Rising, length-markAll, bytes-markAll, markAll-append, bit-markAll, field-ext}
@@ -33,16 +33,11 @@ pub rows-with : (c : Cell) (a : ℕ) (cells : List Cell) → rowsWith c a cells 
 rows-with c a [] = refl
 rows-with c a (d ∷ cells) = rw (rows-with c (a + 1) cells)
 
--- every cell of the column has the property P
-abbrev pub Each : (Cell → Type 0) → List Cell → Type 0
-Each P [] = Unit {0}
-Each P (c ∷ cells) = P c × Each P cells
+pub all-cells : (P : Cell → Type 0) (cells : List Cell) → ((c : Cell) → P c) → All P cells
+all-cells P [] h = tt
+all-cells P (c ∷ cells) h = (h c, all-cells P cells h)
 
-pub each-cell : (P : Cell → Type 0) (cells : List Cell) → ((c : Cell) → P c) → Each P cells
-each-cell P [] h = tt
-each-cell P (c ∷ cells) h = (h c, each-cell P cells h)
-
-pub rows-ext : (p q : Cell → Bool) (a : ℕ) (cells : List Cell) → Each (λ c. p c ≡ q c) cells → rowsWhere p a cells ≡ rowsWhere q a cells
+pub rows-ext : (p q : Cell → Bool) (a : ℕ) (cells : List Cell) → All (λ c. p c ≡ q c) cells → rowsWhere p a cells ≡ rowsWhere q a cells
 rows-ext p q a [] h = refl
 rows-ext p q a (c ∷ cells) h = rw (h .0, rows-ext p q (a + 1) cells (h .1))
 
@@ -50,7 +45,7 @@ pub rows-none : (a : ℕ) (cells : List Cell) → rowsWhere (λ c. false) a cell
 rows-none a [] = refl
 rows-none a (c ∷ cells) = rows-none (a + 1) cells
 
-pub rows-all : (p : Cell → Bool) (a : ℕ) (cells : List Cell) → Each (λ c. p c ≡ true) cells → length (rowsWhere p a cells) ≡ length cells
+pub rows-all : (p : Cell → Bool) (a : ℕ) (cells : List Cell) → All (λ c. p c ≡ true) cells → length (rowsWhere p a cells) ≡ length cells
 rows-all p a [] h = refl
 rows-all p a (c ∷ cells) h = rw (h .0) (ap suc (rows-all p (a + 1) cells (h .1)))
 

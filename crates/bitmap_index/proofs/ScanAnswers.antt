@@ -11,7 +11,8 @@ use borrow.Author.Tests.{eq-eqb, ne-eqb, lt-ltb, le-ltb, lt-leb}
 use lib.IntN.{ℤ, pos, negsuc}
 use lib.ListN.{length, drop, replicate, length-append}
 use lib.Seq.{drop-at}
-use Rattle.numbers.specs.Meaning.{signed32, Bytes, minusOne}
+use Rattle.numbers.specs.Meaning.{All, signed32, Bytes, minusOne}
+use Rattle.numbers.proofs.Booleans.{or-neither}
 use Rattle.row_field.specs.Meaning.{size, bit, mark, markAll, anySet, fieldOf, cleared, count}
 use Rattle.row_field.proofs.Marks.{Below}
 use Rattle.roaring.specs.declared.Extent.{Extent}
@@ -24,9 +25,9 @@ use Rattle.stored_value.proofs.Laws.{sameCell→eq, sameCell-sym}
 use Rattle.dictionary.specs.Layout.{Entry, someHas}
 use Rattle.dictionary.proofs.Theorems.{Once}
 use Rattle.bitmap_index.specs.Meaning.{chosen, scan, scanFrom}
-use Rattle.bitmap_index.specs.Layout.{rowsWith, Placed, single, bitmap, AllPlaced, Covers}
+use Rattle.bitmap_index.specs.Layout.{rowsWith, EntryRows, single, bitmap, ExactRows, Covers}
 use Rattle.bitmap_index.specs.Reading.{extentOf, once, placeBitmap, placeAt, place, placeAll, audited, chosenOf, answered}
-use Rattle.bitmap_index.proofs.Rows.{rowsWhere, rows-with, Each, each-cell, rows-ext, rows-none, rows-all, rows-below, Apart, rows-join, Free, rows-free, cleared-free, rows-marked, rows-counted}
+use Rattle.bitmap_index.proofs.Rows.{rowsWhere, rows-with, all-cells, rows-ext, rows-none, rows-all, rows-below, Apart, rows-join, Free, rows-free, cleared-free, rows-marked, rows-counted}
 
 -- ---- one entry: its rows are marked
 
@@ -34,10 +35,6 @@ below-anyFrom : (n : ℕ) (rs : List ℕ) → Below n rs → anyFrom n rs ≡ fa
 unfolding anyFrom
 below-anyFrom n [] b = refl
 below-anyFrom n (r ∷ rs) b = rw (lt-leb n r (b .0)) (below-anyFrom n rs (b .1))
-
-or-none : (a b : Bool) → a || b ≡ false → (a ≡ false) × (b ≡ false)
-or-none true b e = absurd (let z : _≡_ {A = ℕ} 0 1 = cc in omega arith)
-or-none false b e = (refl, e)
 
 -- a negative offset is the single row -1 less it
 signed-single : (r : ℕ) → r < 2147483648 → signed32 (minusOne - r) ≡ negsuc r
@@ -70,11 +67,11 @@ module _ (n : ℕ) (region f : List ℕ) (e : Entry) where
   unfolding place
   place-at x h = ap (λ (y : ℤ). placeAt y (e .extent) n region f) h
 
-  pub place-one : (rows : List ℕ) → length region ≤ 2147483647 → Placed region rows e → Below n rows → anySet f rows ≡ false → place n region f e ≡ ok (markAll f rows)
+  pub place-one : (rows : List ℕ) → length region ≤ 2147483647 → EntryRows region rows e → Below n rows → anySet f rows ≡ false → place n region f e ≡ ok (markAll f rows)
   unfolding markAll anySet
   place-one rows l (single r q h o x) b s =
       let c = rw q at b in
-      let d = or-none (bit f r) false (rw q at s) in
+      let d = or-neither (bit f r) false (rw q at s) in
       rw q (place-at (negsuc r) (ap signed32 o ∙ signed-single r h) ∙ place-single n region f (e .extent) r (c .0) (d .0))
   place-one rows l (bitmap before bytes behind q m o x) b s =
       let k = simp length-append at (ap length q) in
@@ -100,7 +97,7 @@ other-cell c d es n y = go (sameCell d c) refl
 
 module _ (region : List ℕ) (cells : List Cell) (z : List ℕ) (short : length region ≤ 2147483647) (f : Free (length cells) z) where
   -- one entry more: its rows are marked besides
-  placed-one : (p : Cell → Bool) (e : Entry) → Placed region (rowsWith (e .cell) 0 cells) e → Apart p (sameCell (e .cell))
+  placed-one : (p : Cell → Bool) (e : Entry) → EntryRows region (rowsWith (e .cell) 0 cells) e → Apart p (sameCell (e .cell))
       → place (length cells) region (markAll z (rowsWhere p 0 cells)) e ≡ ok (markAll z (rowsWhere (λ c. p c || sameCell (e .cell) c) 0 cells))
   placed-one p e a h =
       let q : Cell → Bool = sameCell (e .cell) in
@@ -109,19 +106,19 @@ module _ (region : List ℕ) (cells : List Cell) (z : List ℕ) (short : length 
       ∙ ap ok (rows-join z p q cells (f .bytes))
 
   -- with the rows of cells that pass p marked, the rows of entries whose cells do not pass it are marked besides
-  placed-besides : (p : Cell → Bool) (es : List Entry) → AllPlaced region cells es → Once es → Apart p (λ c. someHas c es)
+  placed-besides : (p : Cell → Bool) (es : List Entry) → ExactRows region cells es → Once es → Apart p (λ c. someHas c es)
       → placeAll (length cells) region es (markAll z (rowsWhere p 0 cells)) ≡ ok (markAll z (rowsWhere (λ c. p c || someHas c es) 0 cells))
   unfolding placeAll andThen
   placed-besides p [] a o h =
-      ap (λ (rs : List ℕ). ok (markAll z rs)) (rows-ext p (λ c. p c || false) 0 cells (each-cell (λ c. p c ≡ p c || false) cells (λ c. sym (or-false (p c)))))
+      ap (λ (rs : List ℕ). ok (markAll z rs)) (rows-ext p (λ c. p c || false) 0 cells (all-cells (λ c. p c ≡ p c || false) cells (λ c. sym (or-false (p c)))))
   placed-besides p (e ∷ es) a o h =
       let q : Cell → Bool = λ c. p c || sameCell (e .cell) c in
       ap (λ (x : Out Refusal (List ℕ)). andThen x (placeAll (length cells) region es)) (placed-one p e (a .0) (λ c x. h c (rw (sameCell-sym c (e .cell), x))))
       ∙ placed-besides q es (a .1) (o .1) (λ c x. rw (h c (rw x (or-true (sameCell c (e .cell)))), other-cell c (e .cell) es (o .0) x))
       ∙ ap (λ (rs : List ℕ). ok (markAll z rs)) (rows-ext (λ c. q c || someHas c es) (λ c. p c || someHas c (e ∷ es)) 0 cells
-      (each-cell (λ c. q c || someHas c es ≡ p c || someHas c (e ∷ es)) cells (λ c. or-assoc (p c) (sameCell (e .cell) c) (someHas c es) ∙ rw (sameCell-sym c (e .cell)))))
+      (all-cells (λ c. q c || someHas c es ≡ p c || someHas c (e ∷ es)) cells (λ c. or-assoc (p c) (sameCell (e .cell) c) (someHas c es) ∙ rw (sameCell-sym c (e .cell)))))
 
-  pub placed-all : (es : List Entry) → AllPlaced region cells es → Once es → placeAll (length cells) region es z ≡ ok (markAll z (rowsWhere (λ c. someHas c es) 0 cells))
+  pub placed-all : (es : List Entry) → ExactRows region cells es → Once es → placeAll (length cells) region es z ≡ ok (markAll z (rowsWhere (λ c. someHas c es) 0 cells))
   unfolding markAll
   placed-all es a o = rw (rows-none 0 cells) at (placed-besides (λ c. false) es a o (λ c x. refl))
 
@@ -129,12 +126,12 @@ module _ (region : List ℕ) (cells : List Cell) (z : List ℕ) (short : length 
 
 -- what a body of the column says behind its dictionary
 pub record Whole (cells : List Cell) (es : List Entry) (region : List ℕ) : Type 0 where
-  pub placed : AllPlaced region cells es
+  pub placed : ExactRows region cells es
   pub once : Once es
   pub covers : Covers es cells
   pub short : length region ≤ 2147483647
 
-covers-each : (es : List Entry) (cells : List Cell) → Covers es cells → Each (λ c. someHas c es ≡ true) cells
+covers-each : (es : List Entry) (cells : List Cell) → Covers es cells → All (λ c. someHas c es ≡ true) cells
 covers-each es [] h = tt
 covers-each es (c ∷ cells) h = (h .0, covers-each es cells (h .1))
 
@@ -166,12 +163,12 @@ module _ (q : ℕ) (ls : List (List ℕ)) where
       go false true x y i = rw x i
       go false false x y i = i
 
-  chosen-placed : (region : List ℕ) (cells : List Cell) (es : List Entry) → AllPlaced region cells es → AllPlaced region cells (chosenOf q ls es)
+  chosen-placed : (region : List ℕ) (cells : List Cell) (es : List Entry) → ExactRows region cells es → ExactRows region cells (chosenOf q ls es)
   unfolding chosenOf
   chosen-placed region cells [] a = tt
   chosen-placed region cells (e ∷ es) a = go (chosen q ls (e .cell)) (chosen-placed region cells es (a .1))
     where
-      go : (b : Bool) → AllPlaced region cells (chosenOf q ls es) → AllPlaced region cells (cond b (e ∷ chosenOf q ls es) (chosenOf q ls es))
+      go : (b : Bool) → ExactRows region cells (chosenOf q ls es) → ExactRows region cells (cond b (e ∷ chosenOf q ls es) (chosenOf q ls es))
       go true i = (a .0, i)
       go false i = i
 
@@ -184,7 +181,7 @@ module _ (q : ℕ) (ls : List (List ℕ)) where
       go true i = (chosen-has (e .cell) es ∙ rw (o .0) (and-false (chosen q ls (e .cell))), i)
       go false i = i
 
-  chosen-covers : (es : List Entry) (cells : List Cell) → Covers es cells → Each (λ c. someHas c (chosenOf q ls es) ≡ chosen q ls c) cells
+  chosen-covers : (es : List Entry) (cells : List Cell) → Covers es cells → All (λ c. someHas c (chosenOf q ls es) ≡ chosen q ls c) cells
   chosen-covers es [] h = tt
   chosen-covers es (c ∷ cells) h = (chosen-has c es ∙ rw (h .0) (and-true (chosen q ls c)), chosen-covers es cells (h .1))
 

@@ -13,7 +13,7 @@ use Rattle.refusal.specs.Reading.{Out, refuse, ok, check, andThen}
 use Rattle.dictionary.specs.Reading.{Dictionary}
 use Rattle.dictionary.proofs.Theorems.{version-known}
 use Rattle.bitmap_index.specs.Reading.{prepared, audited, audit, auditBuffer, zeroedFrom, asked, answered, ask, askBuffer, bufferOf}
-use Rattle.bitmap_index.proofs.Taken.{asked-back}
+use Rattle.bitmap_index.proofs.AcceptedStages.{asked-back}
 
 -- a refusal is handed on
 handed-on : {A B : Type 0} (b c : Bool) (r r′ r″ : Refusal) (k : A → Out Refusal B) → andThen (check b r (check c r′ (refuse r″))) k ≡ check b r (check c r′ (refuse r″))

@@ -15,9 +15,9 @@ use Rattle.refusal.specs.declared.Refusal.{Refusal}
 use Rattle.refusal.specs.Reading.{Out, ok}
 use Rattle.numbers.proofs.SameBytes.{same-refl, same→eq}
 use Rattle.bitmap_index.specs.Meaning.{Cells, Column, chosen, takes, Question, scan}
+use Rattle.bitmap_index.specs.Claims.{AnswersAsScan}
 use Rattle.bitmap_index.proofs.Rows.{rowsWhere, passes, member-rows}
 use Rattle.bitmap_index.proofs.ScanAnswers.{scanned}
-use Rattle.bitmap_index.proofs.Theorems.{AnswersAsScan}
 
 -- the cell of row r; null past the end
 abbrev pub cellAt : List Cell → ℕ → Cell

@@ -3,7 +3,7 @@
 use Prim.Native.Nat.{ℕ, _-_, _<_, _≤_}
 use mathlib.Core.Path.{_≡_, refl, sym, ap, _∙_}
 use mathlib.Core.Logic.{_⊎_, inl, inr}
-use mathlib.Core.Bool.{Bool, true, false, not, _&&_, _||_, cond}
+use mathlib.Core.Bool.{Bool, true, false, cond}
 use mathlib.Core.List.{List, [], _∷_, _++_}
 use native.Mathlib.Omega.{arith}
 use borrow.Author.Tests.{ltb-true, ltb-false, eqb-true, leb-false, leb-true}
@@ -12,6 +12,7 @@ use lib.IntN.{ℤ, pos, negsuc}
 use lib.ListN.{length, take, drop, length-append, length-drop, take-append-drop}
 use lib.Seq.{length-take-le}
 use Rattle.numbers.specs.Meaning.{signed32, Bytes, minusOne}
+use Rattle.numbers.proofs.Booleans.{and-both, or-neither, not-true}
 use Rattle.numbers.proofs.ByteLists.{bytes-drop}
 use Rattle.refusal.specs.Meaning.{limit}
 use Rattle.refusal.specs.declared.Refusal.{Refusal}
@@ -30,17 +31,13 @@ use Rattle.stored_value.specs.Reading.{literals}
 use Rattle.dictionary.specs.Layout.{Entry}
 use Rattle.dictionary.specs.Reading.{Dictionary, dictionary}
 use Rattle.bitmap_index.specs.Meaning.{takes}
-use Rattle.bitmap_index.specs.Layout.{Placed, single, bitmap}
+use Rattle.bitmap_index.specs.Layout.{EntryRows, single, bitmap}
 use Rattle.bitmap_index.specs.Reading.{extentOf, once, placeBitmap, placeAt, place, placeAll, roomFor, prepared, audited, audit, asked, Answer, ask}
 
 -- ---- what an accepted reading says of its parts
 
 never : {A X : Type 0} (r : Refusal) (a : A) → refuse r ≡ ok a → X
 never r a e = absurd (let z : _≡_ {A = ℕ} 0 1 = cc in omega arith)
-
-not-true : (b : Bool) → not b ≡ true → b ≡ false
-not-true true e = sym e
-not-true false e = refl
 
 -- ---- an entry's rows, read at its place: the single row of a negative offset, or those of the bitmap there
 
@@ -58,8 +55,8 @@ rowsAt region e = rowsFor (signed32 (e .offset)) region
 -- ---- a place that was accepted
 
 -- the rows of an entry that was placed in the field f
-pub record Taken (n : ℕ) (region f rows : List ℕ) (e : Entry) : Type 0 where
-  pub placed : Placed region rows e
+pub record EntryPlaced (n : ℕ) (region f rows : List ℕ) (e : Entry) : Type 0 where
+  pub placed : EntryRows region rows e
   pub rising : Rising 0 rows
   pub below : Below n rows
   pub free : anySet f rows ≡ false
@@ -80,16 +77,12 @@ signed-positive x o e = go (ltb x 2147483648) e
     go true q = cc
     go false q = absurd (let z : _≡_ {A = ℕ} 0 1 = cc in omega arith)
 
-pub or-none : (a b : Bool) → a || b ≡ false → (a ≡ false) × (b ≡ false)
-or-none true b e = absurd (let z : _≡_ {A = ℕ} 0 1 = cc in omega arith)
-or-none false b e = (refl, e)
-
 -- a row that is none of those from n on is below n
 below-back : (n : ℕ) (rs : List ℕ) → anyFrom n rs ≡ false → Below n rs
 unfolding anyFrom
 below-back n [] e = tt
 below-back n (r ∷ rs) e =
-    let h = or-none (leb n r) (anyFrom n rs) e in
+    let h = or-neither (leb n r) (anyFrom n rs) e in
     (leb-false n r (h .0), below-back n rs (h .1))
 
 extent-back : (extent long : ℕ) → fits (extentOf extent) long ≡ true → (extent ≡ minusOne) ⊎ (extent ≡ long)
@@ -121,9 +114,9 @@ bitmap-back extent n (got rows long rest) f f′ e = go (fits extent long) (anyF
     go false c s x y z e = never Bitmap f′ e
 
 module _ (n : ℕ) (region f f′ : List ℕ) (e : Entry) (b : Bytes region) (p : e .offset < 4294967296) (x : e .extent < 4294967296) where
-  single-taken : (r : ℕ) → signed32 (e .offset) ≡ negsuc r → placeAt (negsuc r) (e .extent) n region f ≡ ok f′ → Taken n region f (r ∷ []) e × (f′ ≡ markAll f (r ∷ []))
+  single-is-placed : (r : ℕ) → signed32 (e .offset) ≡ negsuc r → placeAt (negsuc r) (e .extent) n region f ≡ ok f′ → EntryPlaced n region f (r ∷ []) e × (f′ ≡ markAll f (r ∷ []))
   unfolding placeAt anySet markAll
-  single-taken r s q =
+  single-is-placed r s q =
       let h = check-ok _ _ _ f′ q in
       let k = check-ok _ _ _ f′ (h .1) in
       let m = signed-negative (e .offset) r p s in
@@ -138,16 +131,16 @@ module _ (n : ℕ) (region f f′ : List ℕ) (e : Entry) (b : Bytes region) (p 
       )
 
   bitmap-placed : (o : ℕ) (rows bytes rest : List ℕ) → e .offset ≡ o → drop o region ≡ bytes ++ rest → roaring.Bitmap rows bytes
-      → fits (extentOf (e .extent)) (length bytes) ≡ true → Placed region rows e
+      → fits (extentOf (e .extent)) (length bytes) ≡ true → EntryRows region rows e
   bitmap-placed o rows bytes rest s d m g =
       let k = simp (length-drop, length-append) at (ap length d) in
       let i : o ≤ length region = omega (arith, bitmap-some m) in
       bitmap (take o region) bytes rest (sym (take-append-drop o region) ∙ ap (λ (y : List ℕ). take o region ++ y) d) m
       (s ∙ sym (length-take-le o region i)) (extent-back (e .extent) (length bytes) g)
 
-  bitmap-taken : (o : ℕ) → signed32 (e .offset) ≡ pos o → placeAt (pos o) (e .extent) n region f ≡ ok f′ → Taken n region f (rowsFor (pos o) region) e × (f′ ≡ markAll f (rowsFor (pos o) region))
+  bitmap-is-placed : (o : ℕ) → signed32 (e .offset) ≡ pos o → placeAt (pos o) (e .extent) n region f ≡ ok f′ → EntryPlaced n region f (rowsFor (pos o) region) e × (f′ ≡ markAll f (rowsFor (pos o) region))
   unfolding placeAt rowsFor rowsGot
-  bitmap-taken o s q =
+  bitmap-is-placed o s q =
       let (rows, long, rest, found, fit, below, free, marked) = bitmap-back (extentOf (e .extent)) n (read (drop o region)) f f′ q in
       let (bytes, m, l, d) = read-was-laid-out (drop o region) rows rest long (bytes-drop o region b) found in
       rw found (
@@ -160,33 +153,33 @@ module _ (n : ℕ) (region f f′ : List ℕ) (e : Entry) (b : Bytes region) (p 
         marked,
       )
 
-  taken-at : (z : ℤ) → signed32 (e .offset) ≡ z → placeAt z (e .extent) n region f ≡ ok f′ → Taken n region f (rowsFor z region) e × (f′ ≡ markAll f (rowsFor z region))
+  placed-at : (z : ℤ) → signed32 (e .offset) ≡ z → placeAt z (e .extent) n region f ≡ ok f′ → EntryPlaced n region f (rowsFor z region) e × (f′ ≡ markAll f (rowsFor z region))
   unfolding rowsFor
-  taken-at (negsuc r) s q = single-taken r s q
-  taken-at (pos o) s q = bitmap-taken o s q
+  placed-at (negsuc r) s q = single-is-placed r s q
+  placed-at (pos o) s q = bitmap-is-placed o s q
 
-  pub place-taken : place n region f e ≡ ok f′ → Taken n region f (rowsAt region e) e × (f′ ≡ markAll f (rowsAt region e))
+  pub entry-placed : place n region f e ≡ ok f′ → EntryPlaced n region f (rowsAt region e) e × (f′ ≡ markAll f (rowsAt region e))
   unfolding place rowsAt
-  place-taken q = taken-at (signed32 (e .offset)) refl q
+  entry-placed q = placed-at (signed32 (e .offset)) refl q
 
 -- ---- the audit, taken apart
 
 -- what is said of entries that were read and placed, with every row of n set in the end
-pub record Filled (field : List ℕ) (d : Dictionary) : Type 0 where
+pub record AllRowsPlaced (field : List ℕ) (d : Dictionary) : Type 0 where
   pub room : size (d .rows) ≤ length field
   pub full : List ℕ
   pub placed : placeAll (d .rows) (d .region) (d .entries) (cleared (d .rows) field) ≡ ok full
   pub counted : count full (d .rows) ≡ d .rows
 
-pub record Passed (t : ℕ) (body field : List ℕ) (n : ℕ) : Type 0 where
+pub record AuditPassed (t : ℕ) (body field : List ℕ) (n : ℕ) : Type 0 where
   pub known : t < 12
   pub short : length body ≤ 2147483647
   pub read : Dictionary
   pub is : dictionary t body ≡ ok read
-  pub filled : Filled field read
+  pub filled : AllRowsPlaced field read
   pub rows : read .rows ≡ n
 
-audited-back : (field : List ℕ) (d : Dictionary) (n : ℕ) → audited field d ≡ ok n → size (d .rows) ≤ length field → Filled field d × (d .rows ≡ n)
+audited-back : (field : List ℕ) (d : Dictionary) (n : ℕ) → audited field d ≡ ok n → size (d .rows) ≤ length field → AllRowsPlaced field d × (d .rows ≡ n)
 unfolding audited
 audited-back field d n e h =
     let (full, placed, rest) = then-ok _ _ n e in
@@ -204,7 +197,7 @@ prepared-back t body field d e =
     let q : x ≡ d = cc in
     (ltb-true t 12 known, leb-true (length body) limit short, is ∙ ap ok q, rw q at (leb-true (size (x .rows)) (length field) fits))
 
-pub audit-passed : (t : ℕ) (body field : List ℕ) (n : ℕ) → audit t body field ≡ ok n → Passed t body field n
+pub audit-passed : (t : ℕ) (body field : List ℕ) (n : ℕ) → audit t body field ≡ ok n → AuditPassed t body field n
 unfolding audit
 audit-passed t body field n e =
     let (d, first, last) = then-ok (prepared t body field) (audited field) n e in
@@ -213,10 +206,6 @@ audit-passed t body field n e =
     record { known = known; short = short; read = d; is = is; filled = filled; rows = rows }
 
 -- ---- a question that was answered, taken apart
-
-and-both : (a b : Bool) → a && b ≡ true → (a ≡ true) × (b ≡ true)
-and-both true b e = (refl, e)
-and-both false b e = absurd (let z : _≡_ {A = ℕ} 0 1 = cc in omega arith)
 
 pub asked-back : (t q : ℕ) (literal body : List ℕ) (ls : List (List ℕ)) → asked t q literal body ≡ ok ls
     → (length body ≤ 2147483647) × (t < 12) × (q < 6) × (literals t 1024 [] literal ≡ ok ls) × (takes q (length ls) ≡ true)
