@@ -27,7 +27,7 @@ use Rattle.dictionary.proofs.Theorems.{WasLaidOut, in-one, in-two, read-was-lai
 use Rattle.bitmap_index.specs.Meaning.{Cells}
 use Rattle.bitmap_index.specs.Layout.{rowsWith, ExactRows, Covers, ColumnEntries, ColumnBody, version1, version2}
 use Rattle.bitmap_index.specs.Claims.{times, RowsOfEach, OnePlaceEach}
-use Rattle.bitmap_index.specs.Reading.{place, placeAll}
+use Rattle.bitmap_index.specs.Reading.{placeEntry, placeEntries}
 use Rattle.bitmap_index.proofs.Rows.{rowsWhere, rows-with, rows-rise, rows-below, member-rows, markAll-same}
 use Rattle.bitmap_index.proofs.SameColumn.{cellAt, passes-at, Typed}
 use Rattle.refusal.proofs.Laws.{then-ok}
@@ -120,11 +120,11 @@ times-rising r lo (q ∷ rs) s = go (eqb r q) refl (times-rising r (q + 1) rs (s
     go false e i = omega arith
 
 module _ (n : ℕ) (region full : List ℕ) where
-  each-placed : (f : List ℕ) (es : List Entry) → Bytes region → Patterns es → placeAll n region es f ≡ ok full → AllPlaced n region full f es
-  unfolding placeAll
+  each-placed : (f : List ℕ) (es : List Entry) → Bytes region → Patterns es → placeEntries n region es f ≡ ok full → AllPlaced n region full f es
+  unfolding placeEntries
   each-placed f [] b p q = cc
   each-placed f (e ∷ es) b p q =
-      let (f′, here, there) = then-ok (place n region f e) (placeAll n region es) full q in
+      let (f′, here, there) = then-ok (placeEntry n region f e) (placeEntries n region es) full q in
       let (taken, marked) = entry-placed n region f f′ e b (p .0) (p .1) here in
       (taken, each-placed (markAll f (rowsAt region e)) es b (p .2) (rw marked at there))
 

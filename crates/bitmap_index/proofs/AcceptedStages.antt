@@ -32,7 +32,7 @@ use Rattle.dictionary.specs.Layout.{Entry}
 use Rattle.dictionary.specs.Reading.{Dictionary, dictionary}
 use Rattle.bitmap_index.specs.Meaning.{takes}
 use Rattle.bitmap_index.specs.Layout.{EntryRows, single, bitmap}
-use Rattle.bitmap_index.specs.Reading.{extentOf, once, placeBitmap, placeAt, place, placeAll, roomFor, prepared, audited, audit, asked, Answer, ask}
+use Rattle.bitmap_index.specs.Reading.{extentOf, once, placeBitmap, placeAt, placeEntry, placeEntries, roomFor, prepared, audited, audit, wellFormed, Answer, auditedAnswer, ask}
 
 -- ---- what an accepted reading says of its parts
 
@@ -158,8 +158,8 @@ module _ (n : ℕ) (region f f′ : List ℕ) (e : Entry) (b : Bytes region) (p 
   placed-at (negsuc r) s q = single-is-placed r s q
   placed-at (pos o) s q = bitmap-is-placed o s q
 
-  pub entry-placed : place n region f e ≡ ok f′ → EntryPlaced n region f (rowsAt region e) e × (f′ ≡ markAll f (rowsAt region e))
-  unfolding place rowsAt
+  pub entry-placed : placeEntry n region f e ≡ ok f′ → EntryPlaced n region f (rowsAt region e) e × (f′ ≡ markAll f (rowsAt region e))
+  unfolding placeEntry rowsAt
   entry-placed q = placed-at (signed32 (e .offset)) refl q
 
 -- ---- the audit, taken apart
@@ -168,7 +168,7 @@ module _ (n : ℕ) (region f f′ : List ℕ) (e : Entry) (b : Bytes region) (p 
 pub record AllRowsPlaced (field : List ℕ) (d : Dictionary) : Type 0 where
   pub room : size (d .rows) ≤ length field
   pub full : List ℕ
-  pub placed : placeAll (d .rows) (d .region) (d .entries) (cleared (d .rows) field) ≡ ok full
+  pub placed : placeEntries (d .rows) (d .region) (d .entries) (cleared (d .rows) field) ≡ ok full
   pub counted : count full (d .rows) ≡ d .rows
 
 pub record AuditPassed (t : ℕ) (body field : List ℕ) (n : ℕ) : Type 0 where
@@ -179,7 +179,7 @@ pub record AuditPassed (t : ℕ) (body field : List ℕ) (n : ℕ) : Type 0 wher
   pub filled : AllRowsPlaced field read
   pub rows : read .rows ≡ n
 
-audited-back : (field : List ℕ) (d : Dictionary) (n : ℕ) → audited field d ≡ ok n → size (d .rows) ≤ length field → AllRowsPlaced field d × (d .rows ≡ n)
+audited-back : (field : List ℕ) (d : Dictionary) (n : ℕ) → audited d (cleared (d .rows) field) ≡ ok n → size (d .rows) ≤ length field → AllRowsPlaced field d × (d .rows ≡ n)
 unfolding audited
 audited-back field d n e h =
     let (full, placed, rest) = then-ok _ _ n e in
@@ -200,16 +200,16 @@ prepared-back t body field d e =
 pub audit-passed : (t : ℕ) (body field : List ℕ) (n : ℕ) → audit t body field ≡ ok n → AuditPassed t body field n
 unfolding audit
 audit-passed t body field n e =
-    let (d, first, last) = then-ok (prepared t body field) (audited field) n e in
+    let (d, first, last) = then-ok (prepared t body field) (λ d. audited d (cleared (d .rows) field)) n e in
     let (known, short, is, room) = prepared-back t body field d first in
     let (filled, rows) = audited-back field d n last room in
     record { known = known; short = short; read = d; is = is; filled = filled; rows = rows }
 
 -- ---- a question that was answered, taken apart
 
-pub asked-back : (t q : ℕ) (literal body : List ℕ) (ls : List (List ℕ)) → asked t q literal body ≡ ok ls
+pub asked-back : (t q : ℕ) (literal body : List ℕ) (ls : List (List ℕ)) → wellFormed t q literal body ≡ ok ls
     → (length body ≤ 2147483647) × (t < 12) × (q < 6) × (literals t 1024 [] literal ≡ ok ls) × (takes q (length ls) ≡ true)
-unfolding asked
+unfolding wellFormed
 asked-back t q literal body ls e =
     let (short, names) = check-ok _ _ _ ls e in
     let (known, both) = check-ok _ _ _ ls names in
@@ -220,15 +220,15 @@ asked-back t q literal body ls e =
     let k = and-both _ _ known in
     (leb-true (length body) limit (s .0), ltb-true t 12 (k .0), ltb-true q 6 (k .1), read ∙ ap ok i, rw i at takes)
 
-audit-joined : (t : ℕ) (body field : List ℕ) (d : Dictionary) (n : ℕ) → prepared t body field ≡ ok d → audited field d ≡ ok n → audit t body field ≡ ok n
+audit-joined : (t : ℕ) (body field : List ℕ) (d : Dictionary) (n : ℕ) → prepared t body field ≡ ok d → audited d (cleared (d .rows) field) ≡ ok n → audit t body field ≡ ok n
 unfolding audit andThen
 audit-joined t body field d n x y = rw x y
 
 pub ask-parts : (t q : ℕ) (literal body field : List ℕ) (a : Answer) → ask t q literal body field ≡ ok a
-    → (ls : List (List ℕ)) × (n : ℕ) × (asked t q literal body ≡ ok ls) × (audit t body field ≡ ok n)
-unfolding ask
+    → (ls : List (List ℕ)) × (n : ℕ) × (wellFormed t q literal body ≡ ok ls) × (audit t body field ≡ ok n)
+unfolding ask auditedAnswer
 ask-parts t q literal body field a e =
-    let (ls, first, rest) = then-ok (asked t q literal body) _ a e in
+    let (ls, first, rest) = then-ok (wellFormed t q literal body) _ a e in
     let (d, second, more) = then-ok (prepared t body field) _ a rest in
-    let (n, third, last) = then-ok (audited field d) _ a more in
+    let (n, third, last) = then-ok (audited d (cleared (d .rows) field)) _ a more in
     (ls, n, first, audit-joined t body field d n second third)

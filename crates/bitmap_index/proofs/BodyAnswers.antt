@@ -18,7 +18,7 @@ use Rattle.dictionary.specs.Layout.{Entry, entries1, null1, body1, blocks, dire
 use Rattle.dictionary.specs.Reading.{dictionary}
 use Rattle.bitmap_index.specs.Meaning.{Question}
 use Rattle.bitmap_index.specs.Layout.{EntryRows, single, bitmap, ExactRows}
-use Rattle.bitmap_index.specs.Reading.{roomFor, prepared, audit, zeroedFrom, auditBuffer, asked, ask, bufferOf, askBuffer}
+use Rattle.bitmap_index.specs.Reading.{roomFor, prepared, audit, zeroedFrom, auditBuffer, wellFormed, ask, answerBuffer, askBuffer, auditedAnswer}
 use Rattle.bitmap_index.specs.Claims.{scanAnswer, AnswersAsScan}
 use Rattle.bitmap_index.proofs.ScanAnswers.{Whole, audited-whole, answered-whole}
 
@@ -47,8 +47,8 @@ literals-at-most t (l ∷ ls) h = simp length-append (omega (arith, value-at-mos
 
 -- ---- a body whose dictionary is read as the column's
 
-asked-well : (t q : ℕ) (ls : List (List ℕ)) (body : List ℕ) → length body ≤ limit → Question t q ls → asked t q (joined ls) body ≡ ok ls
-unfolding asked check andThen
+asked-well : (t q : ℕ) (ls : List (List ℕ)) (body : List ℕ) → length body ≤ limit → Question t q ls → wellFormed t q (joined ls) body ≡ ok ls
+unfolding wellFormed check andThen
 asked-well t q ls body h w =
     let l : length (joined ls) ≤ limit = omega (arith, literals-at-most t ls (w .3), w .2) in
     rw (le-leb (length body) limit h, le-leb (length (joined ls)) limit l, lt-ltb t 12 (w .0), lt-ltb q 6 (w .1), literals-laid t ls (w .3) (w .0) (w .2), w .4)
@@ -69,11 +69,11 @@ module _ (t : ℕ) (cells : List Cell) (es : List Entry) (region body field : Li
 
   module _ (q : ℕ) (ls : List (List ℕ)) (g : Question t q ls) where
     ask-well : ask t q (joined ls) body field ≡ ok (scanAnswer q ls cells field)
-    unfolding ask andThen
+    unfolding ask auditedAnswer andThen
     ask-well = rw (asked-well t q ls body s g, prepared-well, audited-whole cells es region field w b h) (answered-whole q ls cells es region field w b h)
 
     ask-buffer : askBuffer t q (joined ls) body field ≡ scanAnswer q ls cells field .buffer
-    unfolding askBuffer bufferOf
+    unfolding askBuffer answerBuffer
     ask-buffer = rw ask-well
 
   pub answers-as-scan : AnswersAsScan t cells body field

@@ -1,8 +1,8 @@
 -- Laws that the proofs of the functions cite, and the proofs of the claims.
 pub mod Offsets
-pub mod Placing
+pub mod PlacingRows
 pub mod Choosing
-pub mod Entries
+pub mod PlacingEntries
 pub mod Walking
 pub mod Auditing
 pub mod Asking

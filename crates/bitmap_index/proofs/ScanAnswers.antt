@@ -26,7 +26,7 @@ use Rattle.dictionary.specs.Layout.{Entry, someHas}
 use Rattle.dictionary.proofs.Theorems.{Once}
 use Rattle.bitmap_index.specs.Meaning.{chosen, scan, scanFrom}
 use Rattle.bitmap_index.specs.Layout.{rowsWith, EntryRows, single, bitmap, ExactRows, Covers}
-use Rattle.bitmap_index.specs.Reading.{extentOf, once, placeBitmap, placeAt, place, placeAll, audited, chosenOf, answered}
+use Rattle.bitmap_index.specs.Reading.{extentOf, once, placeBitmap, placeAt, placeEntry, placeEntries, audited, chosenOf, answered}
 use Rattle.bitmap_index.proofs.Rows.{rowsWhere, rows-with, all-cells, rows-ext, rows-none, rows-all, rows-below, Apart, rows-join, Free, rows-free, cleared-free, rows-marked, rows-counted}
 
 -- ---- one entry: its rows are marked
@@ -63,11 +63,11 @@ unfolding placeBitmap marking fieldAfter choose once
 place-bitmap extent n rows f t long e b s = rw (e, below-anyFrom n rows b, s)
 
 module _ (n : ℕ) (region f : List ℕ) (e : Entry) where
-  place-at : (x : ℤ) → signed32 (e .offset) ≡ x → place n region f e ≡ placeAt x (e .extent) n region f
-  unfolding place
+  place-at : (x : ℤ) → signed32 (e .offset) ≡ x → placeEntry n region f e ≡ placeAt x (e .extent) n region f
+  unfolding placeEntry
   place-at x h = ap (λ (y : ℤ). placeAt y (e .extent) n region f) h
 
-  pub place-one : (rows : List ℕ) → length region ≤ 2147483647 → EntryRows region rows e → Below n rows → anySet f rows ≡ false → place n region f e ≡ ok (markAll f rows)
+  pub place-one : (rows : List ℕ) → length region ≤ 2147483647 → EntryRows region rows e → Below n rows → anySet f rows ≡ false → placeEntry n region f e ≡ ok (markAll f rows)
   unfolding markAll anySet
   place-one rows l (single r q h o x) b s =
       let c = rw q at b in
@@ -98,7 +98,7 @@ other-cell c d es n y = go (sameCell d c) refl
 module _ (region : List ℕ) (cells : List Cell) (z : List ℕ) (short : length region ≤ 2147483647) (f : Free (length cells) z) where
   -- one entry more: its rows are marked besides
   placed-one : (p : Cell → Bool) (e : Entry) → EntryRows region (rowsWith (e .cell) 0 cells) e → Apart p (sameCell (e .cell))
-      → place (length cells) region (markAll z (rowsWhere p 0 cells)) e ≡ ok (markAll z (rowsWhere (λ c. p c || sameCell (e .cell) c) 0 cells))
+      → placeEntry (length cells) region (markAll z (rowsWhere p 0 cells)) e ≡ ok (markAll z (rowsWhere (λ c. p c || sameCell (e .cell) c) 0 cells))
   placed-one p e a h =
       let q : Cell → Bool = sameCell (e .cell) in
       place-one (length cells) region (markAll z (rowsWhere p 0 cells)) e (rowsWhere q 0 cells) short (rw (rows-with (e .cell) 0 cells) at a)
@@ -107,18 +107,18 @@ module _ (region : List ℕ) (cells : List Cell) (z : List ℕ) (short : length 
 
   -- with the rows of cells that pass p marked, the rows of entries whose cells do not pass it are marked besides
   placed-besides : (p : Cell → Bool) (es : List Entry) → ExactRows region cells es → Once es → Apart p (λ c. someHas c es)
-      → placeAll (length cells) region es (markAll z (rowsWhere p 0 cells)) ≡ ok (markAll z (rowsWhere (λ c. p c || someHas c es) 0 cells))
-  unfolding placeAll andThen
+      → placeEntries (length cells) region es (markAll z (rowsWhere p 0 cells)) ≡ ok (markAll z (rowsWhere (λ c. p c || someHas c es) 0 cells))
+  unfolding placeEntries andThen
   placed-besides p [] a o h =
       ap (λ (rs : List ℕ). ok (markAll z rs)) (rows-ext p (λ c. p c || false) 0 cells (all-cells (λ c. p c ≡ p c || false) cells (λ c. sym (or-false (p c)))))
   placed-besides p (e ∷ es) a o h =
       let q : Cell → Bool = λ c. p c || sameCell (e .cell) c in
-      ap (λ (x : Out Refusal (List ℕ)). andThen x (placeAll (length cells) region es)) (placed-one p e (a .0) (λ c x. h c (rw (sameCell-sym c (e .cell), x))))
+      ap (λ (x : Out Refusal (List ℕ)). andThen x (placeEntries (length cells) region es)) (placed-one p e (a .0) (λ c x. h c (rw (sameCell-sym c (e .cell), x))))
       ∙ placed-besides q es (a .1) (o .1) (λ c x. rw (h c (rw x (or-true (sameCell c (e .cell)))), other-cell c (e .cell) es (o .0) x))
       ∙ ap (λ (rs : List ℕ). ok (markAll z rs)) (rows-ext (λ c. q c || someHas c es) (λ c. p c || someHas c (e ∷ es)) 0 cells
       (all-cells (λ c. q c || someHas c es ≡ p c || someHas c (e ∷ es)) cells (λ c. or-assoc (p c) (sameCell (e .cell) c) (someHas c es) ∙ rw (sameCell-sym c (e .cell)))))
 
-  pub placed-all : (es : List Entry) → ExactRows region cells es → Once es → placeAll (length cells) region es z ≡ ok (markAll z (rowsWhere (λ c. someHas c es) 0 cells))
+  pub placed-all : (es : List Entry) → ExactRows region cells es → Once es → placeEntries (length cells) region es z ≡ ok (markAll z (rowsWhere (λ c. someHas c es) 0 cells))
   unfolding markAll
   placed-all es a o = rw (rows-none 0 cells) at (placed-besides (λ c. false) es a o (λ c x. refl))
 
@@ -136,7 +136,7 @@ covers-each es [] h = tt
 covers-each es (c ∷ cells) h = (h .0, covers-each es cells (h .1))
 
 module _ (cells : List Cell) (es : List Entry) (region field : List ℕ) (w : Whole cells es region) (b : Bytes field) (h : size (length cells) ≤ length field) where
-  pub audited-whole : audited field (record { rows = length cells; entries = es; region = region }) ≡ ok (length cells)
+  pub audited-whole : audited (record { rows = length cells; entries = es; region = region }) (cleared (length cells) field) ≡ ok (length cells)
   unfolding audited andThen check
   audited-whole =
       let p : Cell → Bool = λ c. someHas c es in
@@ -209,7 +209,7 @@ module _ (q : ℕ) (ls : List (List ℕ)) where
   scanned cells = rw zero-add at (scan-from 0 (replicate (size (length cells)) 0) 0 cells)
 
   module _ (cells : List Cell) (es : List Entry) (region field : List ℕ) (w : Whole cells es region) (b : Bytes field) (h : size (length cells) ≤ length field) where
-    pub answered-whole : answered q ls field (record { rows = length cells; entries = es; region = region })
+    pub answered-whole : answered q ls (record { rows = length cells; entries = es; region = region }) (cleared (length cells) field)
         ≡ ok (record { buffer = scan q ls cells .field ++ drop (size (length cells)) field; matched = scan q ls cells .matched })
     unfolding answered andThen
     answered-whole =

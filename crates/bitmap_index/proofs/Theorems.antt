@@ -17,7 +17,7 @@ use Rattle.stored_value.proofs.Laws.{literals-back}
 use Rattle.dictionary.specs.Reading.{Dictionary}
 use Rattle.bitmap_index.specs.Meaning.{Column, Question}
 use Rattle.bitmap_index.specs.Layout.{ColumnBody, version1, version2}
-use Rattle.bitmap_index.specs.Reading.{roomFor, prepared, audit, asked, ask}
+use Rattle.bitmap_index.specs.Reading.{roomFor, prepared, audit, ask}
 use Rattle.bitmap_index.specs.Claims.{ColumnIsAnswered, AcceptedIsAColumn, OneColumn, EachRowHasOnePlace, AcceptedIsAnswered, AnsweredAsTheScan, ShortOfRoom, RefusedForRoom, RefusedIsNoColumn, AcceptedAreTheColumns, UnknownVersionIsRefused, UnknownVersionYieldsNothing}
 use Rattle.bitmap_index.proofs.ScanAnswers.{Whole}
 use Rattle.bitmap_index.proofs.BodyAnswers.{answers-as-scan, all-patterns, region1, region2}

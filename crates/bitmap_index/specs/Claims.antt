@@ -19,7 +19,7 @@ use Rattle.dictionary.specs.Reading.{Dictionary, dictionary}
 use Rattle.dictionary.proofs.Theorems.{Once}
 use Rattle.bitmap_index.specs.Meaning.{Question, scan}
 use Rattle.bitmap_index.specs.Layout.{EntryRows, ColumnBody}
-use Rattle.bitmap_index.specs.Reading.{audit, auditBuffer, asked, Answer, ask, askBuffer}
+use Rattle.bitmap_index.specs.Reading.{audit, auditBuffer, wellFormed, Answer, ask, askBuffer}
 
 -- ---- Demand 3, from a body to its answers. A reading that refuses everything does not have it
 
@@ -129,7 +129,7 @@ AcceptedAreTheColumns =
 pub record RefusesVersion (t q : ℕ) (literal body field : List ℕ) : Type 0 where
   pub audited : audit t body field ≡ check (leb (length body) limit) Limit (check (ltb t 12) Literal (refuse Version))
   pub audited-buffer : auditBuffer t body field ≡ field
-  pub answered : ask t q literal body field ≡ andThen (asked t q literal body) (λ ls. refuse Version)
+  pub answered : ask t q literal body field ≡ andThen (wellFormed t q literal body) (λ ls. refuse Version)
   pub answered-buffer : askBuffer t q literal body field ≡ field
 
 abbrev pub UnknownVersionIsRefused : Type 0

@@ -1,5 +1,5 @@
 -- `place_bitmap` meets its contract: roaring's promise on the part that begins at the bitmap's place, put into the reading.
-use Rattle.bitmap_index.proofs.Placing.{to-end, behind-region, bitmap-refused, bitmap-twice, bitmap-done}
+use Rattle.bitmap_index.proofs.PlacingRows.{to-end, behind-region, bitmap-refused, bitmap-twice, bitmap-done}
 use borrow.Author.Needs.{needs}
 use Rattle.bitmap_index.proofs.place_bitmap.Statement.{statement}
 use Rattle.bitmap_index.proofs.place_bitmap.Tie as tie

@@ -12,7 +12,7 @@ use lib.Signed.{ltZ}
 use mir.Syntax.{w32}
 use mir.Val.{SFits, toZ, ofZ}
 use borrow.Author.Tests.{lt-ltb, le-ltb, leb-false, eq-eqb, ne-eqb}
-use Rattle.numbers.specs.Meaning.{number}
+use Rattle.numbers.specs.Meaning.{number, minusOne}
 use Rattle.numbers.proofs.Booleans.{or-neither}
 use Rattle.refusal.specs.declared.Refusal.{Refusal}
 use Rattle.refusal.specs.declared.Refusal.the-variants.{Bitmap, Range, Twice}
@@ -25,7 +25,7 @@ use Rattle.roaring.specs.Reading.{Read, refused, got, choose, fits, anyFrom, re
 use Rattle.refusal.specs.Reading.{ok, check}
 use Rattle.bitmap_index.specs.Reading.{extentOf, once, placeBitmap, placeAt}
 use Rattle.bitmap_index.specs.declared.Outcome.{Outcome}
-use Rattle.bitmap_index.specs.Promises.{Placing}
+use Rattle.bitmap_index.specs.Promises.{Places}
 use Rattle.bitmap_index.proofs.Offsets.{of, row-is, at, place-is}
 
 -- ---- no byte behind the field changes
@@ -62,18 +62,18 @@ cleared-after extent n f (got rows length s) = after-go n f rows (fits extent le
 -- ---- a single row
 
 module _ (r n : ℕ) (f : List ℕ) where
-  pub row-range : n ≤ r → Placing n (Outcome.Refused Range) (placeAt (negsuc r) 0 n [] f) f f
+  pub row-range : n ≤ r → Places n (placeAt (negsuc r) 0 n []) f f (Outcome.Refused Range)
   unfolding placeAt check
-  row-range h = record { so = rw (le-ltb r n h); kept = refl }
+  row-range h = record { outcome = rw (le-ltb r n h); behind = refl }
 
   module _ (h : r < n) {was : Bool} {after : List ℕ} (b : was ≡ bit f r) (m : after ≡ mark f r) where
-    pub row-twice : was ≡ true → Placing n (Outcome.Refused Twice) (placeAt (negsuc r) 0 n [] f) f after
+    pub row-twice : was ≡ true → Places n (placeAt (negsuc r) 0 n []) f after (Outcome.Refused Twice)
     unfolding placeAt check
-    row-twice t = record { so = rw (lt-ltb r n h, ← b, t); kept = rw m (cleared-mark n f r h) }
+    row-twice t = record { outcome = rw (lt-ltb r n h, ← b, t); behind = rw m (cleared-mark n f r h) }
 
-    pub row-done : was ≡ false → Placing n Outcome.Done (placeAt (negsuc r) 0 n [] f) f after
+    pub row-done : was ≡ false → Places n (placeAt (negsuc r) 0 n []) f after Outcome.Done
     unfolding placeAt check
-    row-done t = record { so = rw (lt-ltb r n h, ← b, t) (ap ok (sym m)); kept = rw m (cleared-mark n f r h) }
+    row-done t = record { outcome = rw (lt-ltb r n h, ← b, t) (ap ok (sym m)); behind = rw m (cleared-mark n f r h) }
 
 -- ---- a bitmap
 
@@ -81,45 +81,47 @@ module _ (r n : ℕ) (f : List ℕ) where
 pub to-end : (o : ℕ) (s : List ℕ) → take (length s - o) (drop o s) ≡ drop o s
 to-end o s = take-all (length s - o) (drop o s) (rw length-drop (omega arith))
 
-pub as-long : (extent : ℕ) → extent ≡ 4294967295 → AsLong ≡ extentOf extent
+pub as-long : (extent : ℕ) → extent ≡ minusOne → AsLong ≡ extentOf extent
 unfolding extentOf
-as-long extent h = rw (eq-eqb extent 4294967295 h)
+as-long extent h = rw (eq-eqb extent minusOne h)
 
-pub exactly : (extent : ℕ) → (extent ≡ 4294967295 → ⊥) → Exactly extent ≡ extentOf extent
+pub exactly : (extent : ℕ) → (extent ≡ minusOne → ⊥) → Exactly extent ≡ extentOf extent
 unfolding extentOf
-exactly extent h = rw (ne-eqb extent 4294967295 h)
+exactly extent h = rw (ne-eqb extent minusOne h)
 
 module _ (o e n : ℕ) (region f : List ℕ) where
-  pub behind-region : length region < o → Placing n (Outcome.Refused Bitmap) (placeAt (pos o) e n region f) f f
+  pub behind-region : length region < o → Places n (placeAt (pos o) e n region) f f (Outcome.Refused Bitmap)
   unfolding placeAt placeBitmap once read number marking
-  behind-region h = record { so = rw (drop-of-length-le region (let l : length region ≤ o = omega arith in l)); kept = refl }
+  behind-region h = record { outcome = rw (drop-of-length-le region (let l : length region ≤ o = omega arith in l)); behind = refl }
 
   module _ {bytes : List ℕ} {extent : Extent} {m : Marked} {after : List ℕ} (p : bytes ≡ drop o region) (x : extent ≡ extentOf e)
       (a : m ≡ marking extent n f (read bytes)) (g : after ≡ fieldAfter extent n f (read bytes)) where
-    behind : cleared n after ≡ cleared n f
-    behind = rw g (cleared-after extent n f (read bytes))
+    kept : cleared n after ≡ cleared n f
+    kept = rw g (cleared-after extent n f (read bytes))
 
-    pub bitmap-refused : {r : Refusal} → m ≡ Refused r → Placing n (Outcome.Refused r) (placeAt (pos o) e n region f) f after
+    pub bitmap-refused : {r : Refusal} → m ≡ Refused r → Places n (placeAt (pos o) e n region) f after (Outcome.Refused r)
     unfolding placeAt placeBitmap once
-    bitmap-refused t = record { so = rw (← p, ← x, ← a, t); kept = behind }
+    bitmap-refused t = record { outcome = rw (← p, ← x, ← a, t); behind = kept }
 
-    pub bitmap-twice : {long : ℕ} {twice : Bool} → m ≡ Done long twice → twice ≡ true → Placing n (Outcome.Refused Twice) (placeAt (pos o) e n region f) f after
+    pub bitmap-twice : {long : ℕ} {twice : Bool} → m ≡ Done long twice → twice ≡ true → Places n (placeAt (pos o) e n region) f after (Outcome.Refused Twice)
     unfolding placeAt placeBitmap once
-    bitmap-twice t w = record { so = rw (← p, ← x, ← a, t, w); kept = behind }
+    bitmap-twice t w = record { outcome = rw (← p, ← x, ← a, t, w); behind = kept }
 
-    pub bitmap-done : {long : ℕ} {twice : Bool} → m ≡ Done long twice → twice ≡ false → Placing n Outcome.Done (placeAt (pos o) e n region f) f after
+    pub bitmap-done : {long : ℕ} {twice : Bool} → m ≡ Done long twice → twice ≡ false → Places n (placeAt (pos o) e n region) f after Outcome.Done
     unfolding placeAt placeBitmap once
-    bitmap-done t w = record { so = rw (← p, ← x, ← a, t, w) (ap ok (sym g)); kept = behind }
+    bitmap-done t w = record { outcome = rw (← p, ← x, ← a, t, w) (ap ok (sym g)); behind = kept }
 
 -- ---- an entry's rows
 
 module _ (z : ℤ) (e n : ℕ) (region f : List ℕ) (k : SFits w32 z) {r : Outcome} {after : List ℕ} where
   pub as-row : (t : ltZ (toZ w32 (ofZ w32 z)) (pos 0) ≡ true)
-      → Placing n r (placeAt (negsuc (natAbs (toZ w32 (ofZ w32 (negsuc 0 -ℤ toZ w32 (ofZ w32 z)))))) 0 n [] f) f after
-      → Placing n r (placeAt z e n region f) f after
+      → Places n (placeAt (negsuc (natAbs (toZ w32 (ofZ w32 (negsuc 0 -ℤ toZ w32 (ofZ w32 z)))))) 0 n []) f after r
+      → Places n (placeAt z e n region) f after r
   unfolding placeAt
-  as-row t p = rw (of z k t .so) (rw (row-is z k t) at p)
+  as-row t p =
+      let w = rw (row-is z k t) at p in
+      record { outcome = rw (of z k t .so) (w .outcome); behind = w .behind }
 
-  pub as-place : (t : ltZ (toZ w32 (ofZ w32 z)) (pos 0) ≡ false) → Placing n r (placeAt (pos (natAbs (toZ w32 (ofZ w32 z)))) e n region f) f after
-      → Placing n r (placeAt z e n region f) f after
+  pub as-place : (t : ltZ (toZ w32 (ofZ w32 z)) (pos 0) ≡ false) → Places n (placeAt (pos (natAbs (toZ w32 (ofZ w32 z)))) e n region) f after r
+      → Places n (placeAt z e n region) f after r
   as-place t p = rw (at z k t .so) (rw (place-is z k t) at p)
