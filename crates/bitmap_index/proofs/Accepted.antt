@@ -13,9 +13,11 @@ use lib.ListN.{length, replicate}
 use Rattle.numbers.specs.Meaning.{All, joined, Bytes}
 use Rattle.numbers.proofs.Booleans.{or-neither}
 use Rattle.refusal.specs.Meaning.{limit}
-use Rattle.row_field.specs.Meaning.{size, bit, markAll, anySet, cleared, rowsOf}
-use Rattle.row_field.proofs.Marks.{Rising, Below, below-more, member, member-before, member-past, length-markAll, bit-markAll, bytes-zeros, rows-of-field}
-use Rattle.row_field.proofs.Counts.{tick, Rises, count-full, length-zeroed, bit-zeroed}
+use Rattle.row_field.specs.Meaning.{size, bit, markAll, anySet, cleared, rowsOf, Rising, Below}
+use Rattle.row_field.proofs.RowLists.{rising-more, rising-below}
+use Rattle.row_field.proofs.Marks.{member, member-before, member-past, length-markAll, bit-markAll, rows-of-field}
+use Rattle.row_field.proofs.Laws.{tick, bytes-zeros}
+use Rattle.row_field.proofs.Counts.{count-full, length-zeroed, bit-zeroed}
 use Rattle.stored_value.specs.Meaning.{Cell, null, value, sameCell}
 use Rattle.refusal.specs.Reading.{ok}
 use Rattle.stored_value.proofs.Laws.{sameCell-refl, sameCell→eq, sameCell-sym}
@@ -28,7 +30,7 @@ use Rattle.bitmap_index.specs.Meaning.{Cells}
 use Rattle.bitmap_index.specs.Layout.{rowsWith, ExactRows, Covers, ColumnEntries, ColumnBody, version1, version2}
 use Rattle.bitmap_index.specs.Claims.{times, RowsOfEach, OnePlaceEach}
 use Rattle.bitmap_index.specs.Reading.{placeEntry, placeEntries}
-use Rattle.bitmap_index.proofs.Rows.{rowsWhere, rows-with, rows-rise, rows-below, member-rows, markAll-same}
+use Rattle.bitmap_index.proofs.Rows.{rowsWhere, rows-with, rows-rising, rows-below, member-rows, markAll-same}
 use Rattle.bitmap_index.proofs.SameColumn.{cellAt, passes-at, Typed}
 use Rattle.refusal.proofs.Laws.{then-ok}
 use Rattle.bitmap_index.proofs.AcceptedStages.{rowsAt, EntryPlaced, entry-placed, AllRowsPlaced, AuditPassed}
@@ -108,14 +110,14 @@ times-append : (r : ℕ) (xs ys : List ℕ) → times r (xs ++ ys) ≡ times r x
 times-append r [] ys = sym (zero-add (times r ys))
 times-append r (x ∷ xs) ys = omega (arith, times-append r xs ys)
 
-times-rising : (r lo : ℕ) (rs : List ℕ) → Rising lo rs → times r rs ≡ tick (member r rs)
+times-rising : (r lo hi : ℕ) (rs : List ℕ) → Rising lo hi rs → times r rs ≡ tick (member r rs)
 unfolding member
-times-rising r lo [] s = refl
-times-rising r lo (q ∷ rs) s = go (eqb r q) refl (times-rising r (q + 1) rs (s .1))
+times-rising r lo hi [] s = refl
+times-rising r lo hi (q ∷ rs) s = go (eqb r q) refl (times-rising r (q + 1) hi rs (s .2))
   where
     go : (b : Bool) → eqb r q ≡ b → times r rs ≡ tick (member r rs) → cond b 1 0 + times r rs ≡ tick (b || member r rs)
     go true e i =
-        let n : member r rs ≡ false = member-before r (q + 1) rs (omega (arith, eqb-true r q e)) (s .1) in
+        let n : member r rs ≡ false = member-before r (q + 1) hi rs (omega (arith, eqb-true r q e)) (s .2) in
         rw (i, n)
     go false e i = omega arith
 
@@ -136,7 +138,7 @@ module _ (n : ℕ) (region full : List ℕ) where
   times-each r f [] a = refl
   times-each r f (e ∷ es) a =
       times-append r (rowsAt region e) (joined (eachRows region es))
-      ∙ rw (times-rising r 0 (rowsAt region e) (a .0 .rising), times-each r (markAll f (rowsAt region e)) es (a .1))
+      ∙ rw (times-rising r 0 n (rowsAt region e) (a .0 .rising), times-each r (markAll f (rowsAt region e)) es (a .1))
 
   -- a row that is set already is none of those that follow
   none-again : (r : ℕ) (f : List ℕ) (es : List Entry) → r / 8 < length f → bit f r ≡ true → AllPlaced n region full f es → All (λ e. member r (rowsAt region e) ≡ false) es
@@ -169,15 +171,11 @@ module _ (n : ℕ) (region full : List ℕ) where
 
 -- ---- rows in order are known by which they are
 
-rises-rising : (lo hi : ℕ) (rs : List ℕ) → Rises lo hi rs → Rising lo rs
-rises-rising lo hi [] s = tt
-rises-rising lo hi (r ∷ rs) s = (s .0, rises-rising (r + 1) hi rs (s .2))
-
-pub rising-same : (n : ℕ) (xs ys : List ℕ) → Rising 0 xs → Rising 0 ys → Below n xs → Below n ys → ((r : ℕ) → member r xs ≡ member r ys) → xs ≡ ys
-rising-same n xs ys s t b c h =
-    sym (rows-of-field n xs s (below-more n (n * 8) xs (omega arith) b))
+pub rising-same : (n : ℕ) (xs ys : List ℕ) → Rising 0 n xs → Rising 0 n ys → ((r : ℕ) → member r xs ≡ member r ys) → xs ≡ ys
+rising-same n xs ys s t h =
+    sym (rows-of-field n xs (rising-more 0 n 0 (n * 8) xs (omega arith) (omega arith) s))
     ∙ ap (λ (f : List ℕ). rowsOf f) (markAll-same (replicate n 0) xs ys (bytes-zeros n) h)
-    ∙ rows-of-field n ys t (below-more n (n * 8) ys (omega arith) c)
+    ∙ rows-of-field n ys (rising-more 0 n 0 (n * 8) ys (omega arith) (omega arith) t)
 
 -- ---- entries that fill a field with no row left over: the body of the column that they have
 
@@ -193,19 +191,19 @@ module _ (n : ℕ) (region : List ℕ) (c : ℕ → Cell) where
       let w : Below n (rowsWhere (sameCell (e .cell)) 0 (table c 0 n)) = rw length-table at (rows-below (sameCell (e .cell)) (table c 0 n)) in
       member-past r n _ (omega arith) w ∙ sym (member-past r n (rowsAt region e) (omega arith) b)
 
-  entry-rows : (e : Entry) → Rising 0 (rowsAt region e) → Below n (rowsAt region e) → ((r : ℕ) → r < n → Holds region (c r) r e)
+  entry-rows : (e : Entry) → Rising 0 n (rowsAt region e) → ((r : ℕ) → r < n → Holds region (c r) r e)
       → rowsWith (e .cell) 0 (table c 0 n) ≡ rowsAt region e
-  entry-rows e s b h =
+  entry-rows e s h =
       let p : Cell → Bool = sameCell (e .cell) in
       let rs : List ℕ = rowsWhere p 0 (table c 0 n) in
       rows-with (e .cell) 0 (table c 0 n)
-      ∙ rising-same n rs (rowsAt region e) (rises-rising 0 (0 + length (table c 0 n)) rs (rows-rise p 0 (table c 0 n))) s
-      (rw length-table at (rows-below p (table c 0 n))) b (λ r. member-go e b h r (decLt r n))
+      ∙ rising-same n rs (rowsAt region e) (rw length-table at (rows-rising p (table c 0 n))) s
+      (λ r. member-go e (rising-below 0 n (rowsAt region e) s) h r (decLt r n))
 
   all-placed : (full f : List ℕ) (es : List Entry) → AllPlaced n region full f es → ((r : ℕ) → r < n → All (Holds region (c r) r) es) → ExactRows region (table c 0 n) es
   all-placed full f [] a h = tt
   all-placed full f (e ∷ es) a h =
-      (rw (entry-rows e (a .0 .rising) (a .0 .below) (λ r l. h r l .0)) (a .0 .placed), all-placed full (markAll f (rowsAt region e)) es (a .1) (λ r l. h r l .1))
+      (rw (entry-rows e (a .0 .rising) (λ r l. h r l .0)) (a .0 .placed), all-placed full (markAll f (rowsAt region e)) es (a .1) (λ r l. h r l .1))
 
 covers-table : (es : List Entry) (c : ℕ → Cell) (a k : ℕ) → ((r : ℕ) → a ≤ r → r < a + k → someHas (c r) es ≡ true) → Covers es (table c a k)
 covers-table es c a zero h = tt
@@ -236,7 +234,7 @@ places-one region (e ∷ es) c r o h s = go (sameCell (e .cell) c) refl (places-
 places-past : (n : ℕ) (region full f : List ℕ) (es : List Entry) (r : ℕ) → n ≤ r → AllPlaced n region full f es → places region es r ≡ 0
 places-past n region full f [] r h a = refl
 places-past n region full f (e ∷ es) r h a =
-    rw (member-past r n (rowsAt region e) h (a .0 .below)) (omega (arith, places-past n region full (markAll f (rowsAt region e)) es r h (a .1)))
+    rw (member-past r n (rowsAt region e) h (rising-below 0 n (rowsAt region e) (a .0 .rising))) (omega (arith, places-past n region full (markAll f (rowsAt region e)) es r h (a .1)))
 
 module _ (n : ℕ) (es : List Entry) (region field : List ℕ) (b : Bytes region) (p : Patterns es) (o : Once es) (w : AllRowsPlaced field (record { rows = n; entries = es; region = region })) where
   filled-each : AllPlaced n region (w .full) (cleared n field) es

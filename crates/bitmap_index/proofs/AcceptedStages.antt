@@ -6,44 +6,39 @@ use mathlib.Core.Logic.{_⊎_, inl, inr}
 use mathlib.Core.Bool.{Bool, true, false, cond}
 use mathlib.Core.List.{List, [], _∷_, _++_}
 use native.Mathlib.Omega.{arith}
-use borrow.Author.Tests.{ltb-true, ltb-false, eqb-true, leb-false, leb-true}
-use lib.Dec.{eqb, ltb, leb}
+use borrow.Author.Tests.{ltb-true, ltb-false, eqb-true, leb-true}
+use lib.Dec.{eqb, ltb}
 use lib.IntN.{ℤ, pos, negsuc}
 use lib.ListN.{length, take, drop, length-append, length-drop, take-append-drop}
 use lib.Seq.{length-take-le}
-use Rattle.numbers.specs.Meaning.{signed32, Bytes, minusOne}
-use Rattle.numbers.proofs.Booleans.{and-both, or-neither, not-true}
+use Rattle.numbers.specs.Meaning.{signed32, Bytes, minusOne, signBit}
+use Rattle.numbers.proofs.Booleans.{and-both, not-true}
 use Rattle.numbers.proofs.ByteLists.{bytes-drop}
 use Rattle.refusal.specs.Meaning.{limit}
-use Rattle.refusal.specs.declared.Refusal.{Refusal}
-use Rattle.refusal.specs.declared.Refusal.the-variants.{Bitmap, Range, Twice}
-use Rattle.row_field.specs.Meaning.{bit, mark, markAll, anySet, size, cleared, count}
-use Rattle.row_field.proofs.Marks.{Rising, Below}
+use Rattle.refusal.specs.declared.Refusal.the-variants.{Bitmap}
+use Rattle.row_field.specs.Meaning.{bit, mark, markAll, anySet, size, cleared, count, Rising}
+use Rattle.row_field.proofs.RowLists.{rising-within}
 use Rattle.roaring.specs.declared.Extent.{Extent}
 use Rattle.roaring.specs.declared.Extent.the-variants.{AsLong, Exactly}
-use Rattle.roaring.specs.declared.Marked.the-variants.{Refused, Done}
 use Rattle.roaring.specs.Layout as roaring
-use Rattle.roaring.specs.Reading.{Read, refused, got, read, choose, anyFrom, fits, marking, fieldAfter}
-use Rattle.roaring.proofs.Theorems.{read-was-laid-out, rows-rising}
+use Rattle.roaring.specs.Layout.{fourBytes}
+use Rattle.roaring.specs.Reading.{Unsound, Parsed, read, lengthIs, measured}
+use Rattle.roaring.proofs.Measured.{measured-back}
+use Rattle.roaring.proofs.Theorems.{read-was-laid-out, bitmap-rising}
 use Rattle.refusal.proofs.Laws.{check-ok, then-ok}
-use Rattle.refusal.specs.Reading.{refuse, ok, andThen}
+use Rattle.refusal.specs.Reading.{Out, refuse, ok, andThen}
 use Rattle.stored_value.specs.Reading.{literals}
 use Rattle.dictionary.specs.Layout.{Entry}
 use Rattle.dictionary.specs.Reading.{Dictionary, dictionary}
 use Rattle.bitmap_index.specs.Meaning.{takes}
 use Rattle.bitmap_index.specs.Layout.{EntryRows, single, bitmap}
-use Rattle.bitmap_index.specs.Reading.{extentOf, once, placeBitmap, placeAt, placeEntry, placeEntries, roomFor, prepared, audited, audit, wellFormed, Answer, auditedAnswer, ask}
-
--- ---- what an accepted reading says of its parts
-
-never : {A X : Type 0} (r : Refusal) (a : A) → refuse r ≡ ok a → X
-never r a e = absurd (let z : _≡_ {A = ℕ} 0 1 = cc in omega arith)
+use Rattle.bitmap_index.specs.Reading.{extentOf, placeBitmap, placeAt, placeEntry, placeEntries, roomFor, prepared, audited, audit, wellFormed, Answer, auditedAnswer, ask}
 
 -- ---- an entry's rows, read at its place: the single row of a negative offset, or those of the bitmap there
 
-unfoldable pub rowsGot : Read → List ℕ
-rowsGot refused = []
-rowsGot (got rows long rest) = rows
+unfoldable pub rowsGot : Out Unsound Parsed → List ℕ
+rowsGot (refuse why) = []
+rowsGot (ok b) = b .rows
 
 unfoldable pub rowsFor : ℤ → List ℕ → List ℕ
 rowsFor (negsuc r) region = r ∷ []
@@ -57,39 +52,30 @@ rowsAt region e = rowsFor (signed32 (e .offset)) region
 -- the rows of an entry that was placed in the field f
 pub record EntryPlaced (n : ℕ) (region f rows : List ℕ) (e : Entry) : Type 0 where
   pub placed : EntryRows region rows e
-  pub rising : Rising 0 rows
-  pub below : Below n rows
+  pub rising : Rising 0 n rows
   pub free : anySet f rows ≡ false
 
-signed-negative : (x r : ℕ) → x < 4294967296 → signed32 x ≡ negsuc r → (r < 2147483648) × (x ≡ minusOne - r)
-signed-negative x r h e = go (ltb x 2147483648) refl e
+signed-negative : (x r : ℕ) → x < fourBytes → signed32 x ≡ negsuc r → (r < signBit) × (x ≡ minusOne - r)
+signed-negative x r h e = go (ltb x signBit) refl e
   where
-    go : (b : Bool) → ltb x 2147483648 ≡ b → cond b (pos x) (negsuc (4294967295 - x)) ≡ negsuc r → (r < 2147483648) × (x ≡ minusOne - r)
+    go : (b : Bool) → ltb x signBit ≡ b → cond b (pos x) (negsuc (minusOne - x)) ≡ negsuc r → (r < signBit) × (x ≡ minusOne - r)
     go true l q = absurd (let z : _≡_ {A = ℕ} 0 1 = cc in omega arith)
     go false l q =
-        let i : 4294967295 - x ≡ r = cc in
-        omega (arith, ltb-false x 2147483648 l)
+        let i : minusOne - x ≡ r = cc in
+        omega (arith, ltb-false x signBit l)
 
 signed-positive : (x o : ℕ) → signed32 x ≡ pos o → x ≡ o
-signed-positive x o e = go (ltb x 2147483648) e
+signed-positive x o e = go (ltb x signBit) e
   where
-    go : (b : Bool) → cond b (pos x) (negsuc (4294967295 - x)) ≡ pos o → x ≡ o
+    go : (b : Bool) → cond b (pos x) (negsuc (minusOne - x)) ≡ pos o → x ≡ o
     go true q = cc
     go false q = absurd (let z : _≡_ {A = ℕ} 0 1 = cc in omega arith)
 
--- a row that is none of those from n on is below n
-below-back : (n : ℕ) (rs : List ℕ) → anyFrom n rs ≡ false → Below n rs
-unfolding anyFrom
-below-back n [] e = tt
-below-back n (r ∷ rs) e =
-    let h = or-neither (leb n r) (anyFrom n rs) e in
-    (leb-false n r (h .0), below-back n rs (h .1))
-
-extent-back : (extent long : ℕ) → fits (extentOf extent) long ≡ true → (extent ≡ minusOne) ⊎ (extent ≡ long)
-unfolding extentOf fits
+extent-back : (extent long : ℕ) → lengthIs (extentOf extent) long ≡ true → (extent ≡ minusOne) ⊎ (extent ≡ long)
+unfolding extentOf lengthIs
 extent-back extent long e = go (eqb extent minusOne) refl e
   where
-    go : (b : Bool) → eqb extent minusOne ≡ b → fits (cond b AsLong (Exactly extent)) long ≡ true → (extent ≡ minusOne) ⊎ (extent ≡ long)
+    go : (b : Bool) → eqb extent minusOne ≡ b → lengthIs (cond b AsLong (Exactly extent)) long ≡ true → (extent ≡ minusOne) ⊎ (extent ≡ long)
     go true q f = inl (eqb-true extent minusOne q)
     go false q f = inr (sym (eqb-true long extent f))
 
@@ -97,23 +83,16 @@ bitmap-some : {rows bytes : List ℕ} → roaring.Bitmap rows bytes → 1 ≤ le
 bitmap-some (roaring.plain-bitmap cs h e f) = omega arith
 bitmap-some (roaring.flagged-bitmap cs h h′ f) = omega arith
 
--- a bitmap that was placed: it was read, its length and rows passed, and they are marked
-bitmap-back : (extent : Extent) (n : ℕ) (found : Read) (f f′ : List ℕ) → placeBitmap extent n found f ≡ ok f′
-    → (rows : List ℕ) × (long : ℕ) × (rest : List ℕ) × (found ≡ got rows long rest) × (fits extent long ≡ true) × Below n rows × (anySet f rows ≡ false) × (f′ ≡ markAll f rows)
-unfolding placeBitmap marking fieldAfter choose once
-bitmap-back extent n refused f f′ e = never Bitmap f′ e
-bitmap-back extent n (got rows long rest) f f′ e = go (fits extent long) (anyFrom n rows) (anySet f rows) refl refl refl e
-  where
-    go : (b c s : Bool) → fits extent long ≡ b → anyFrom n rows ≡ c → anySet f rows ≡ s
-        → once (choose b (choose c (Refused Range) (Done long s)) (Refused Bitmap)) (choose b (choose c f (markAll f rows)) f) ≡ ok f′
-        → (rows′ : List ℕ) × (long′ : ℕ) × (rest′ : List ℕ) × (got rows long rest ≡ got rows′ long′ rest′) × (fits extent long′ ≡ true) × Below n rows′ × (anySet f rows′ ≡ false)
-        × (f′ ≡ markAll f rows′)
-    go true true s x y z e = never Range f′ e
-    go true false true x y z e = never Twice f′ e
-    go true false false x y z e = (rows, long, rest, refl, x, below-back n rows y, z, cc)
-    go false c s x y z e = never Bitmap f′ e
+-- a bitmap that was placed: it was measured, none of its rows was set, and they are marked
+bitmap-back : (extent : Extent) (n : ℕ) (bytes f f′ : List ℕ) → placeBitmap extent n bytes f ≡ ok f′
+    → (b : Parsed) × (measured extent n bytes ≡ ok b) × (anySet f (b .rows) ≡ false) × (f′ ≡ markAll f (b .rows))
+unfolding placeBitmap
+bitmap-back extent n bytes f f′ e =
+    let (b, found, rest) = then-ok (measured extent n bytes) _ f′ e in
+    let (free, last) = check-ok _ _ _ f′ rest in
+    (b, found, not-true _ free, cc)
 
-module _ (n : ℕ) (region f f′ : List ℕ) (e : Entry) (b : Bytes region) (p : e .offset < 4294967296) (x : e .extent < 4294967296) where
+module _ (n : ℕ) (region f f′ : List ℕ) (e : Entry) (b : Bytes region) (p : e .offset < fourBytes) (x : e .extent < fourBytes) where
   single-is-placed : (r : ℕ) → signed32 (e .offset) ≡ negsuc r → placeAt (negsuc r) (e .extent) n region f ≡ ok f′ → EntryPlaced n region f (r ∷ []) e × (f′ ≡ markAll f (r ∷ []))
   unfolding placeAt anySet markAll
   single-is-placed r s q =
@@ -123,15 +102,14 @@ module _ (n : ℕ) (region f f′ : List ℕ) (e : Entry) (b : Bytes region) (p 
       let g : f′ ≡ mark f r = cc in (
         record {
           placed = single r refl (m .0) (m .1) x;
-          rising = (omega arith, tt);
-          below = (ltb-true r n (h .0), tt);
+          rising = (omega arith, ltb-true r n (h .0), tt);
           free = rw (not-true (bit f r) (k .0));
         },
         g,
       )
 
   bitmap-placed : (o : ℕ) (rows bytes rest : List ℕ) → e .offset ≡ o → drop o region ≡ bytes ++ rest → roaring.Bitmap rows bytes
-      → fits (extentOf (e .extent)) (length bytes) ≡ true → EntryRows region rows e
+      → lengthIs (extentOf (e .extent)) (length bytes) ≡ true → EntryRows region rows e
   bitmap-placed o rows bytes rest s d m g =
       let k = simp (length-drop, length-append) at (ap length d) in
       let i : o ≤ length region = omega (arith, bitmap-some m) in
@@ -141,13 +119,13 @@ module _ (n : ℕ) (region f f′ : List ℕ) (e : Entry) (b : Bytes region) (p 
   bitmap-is-placed : (o : ℕ) → signed32 (e .offset) ≡ pos o → placeAt (pos o) (e .extent) n region f ≡ ok f′ → EntryPlaced n region f (rowsFor (pos o) region) e × (f′ ≡ markAll f (rowsFor (pos o) region))
   unfolding placeAt rowsFor rowsGot
   bitmap-is-placed o s q =
-      let (rows, long, rest, found, fit, below, free, marked) = bitmap-back (extentOf (e .extent)) n (read (drop o region)) f f′ q in
-      let (bytes, m, l, d) = read-was-laid-out (drop o region) rows rest long (bytes-drop o region b) found in
+      let (b′, measured, free, marked) = bitmap-back (extentOf (e .extent)) n (drop o region) f f′ q in
+      let (found, fit, below) = measured-back (extentOf (e .extent)) n (drop o region) b′ measured in
+      let (bytes, m, l, d) = read-was-laid-out (drop o region) b′ (bytes-drop o region b) found in
       rw found (
         record {
-          placed = bitmap-placed o rows bytes rest (signed-positive (e .offset) o s) d m (rw l at fit);
-          rising = rows-rising m;
-          below = below;
+          placed = bitmap-placed o (b′ .rows) bytes (b′ .behind) (signed-positive (e .offset) o s) d m (rw l at fit);
+          rising = rising-within 0 fourBytes n (b′ .rows) (bitmap-rising m) below;
           free = free;
         },
         marked,
@@ -173,7 +151,7 @@ pub record AllRowsPlaced (field : List ℕ) (d : Dictionary) : Type 0 where
 
 pub record AuditPassed (t : ℕ) (body field : List ℕ) (n : ℕ) : Type 0 where
   pub known : t < 12
-  pub short : length body ≤ 2147483647
+  pub short : length body ≤ limit
   pub read : Dictionary
   pub is : dictionary t body ≡ ok read
   pub filled : AllRowsPlaced field read
@@ -187,7 +165,7 @@ audited-back field d n e h =
     (record { room = h; full = full; placed = placed; counted = eqb-true _ _ counted }, cc)
 
 prepared-back : (t : ℕ) (body field : List ℕ) (d : Dictionary) → prepared t body field ≡ ok d
-    → (t < 12) × (length body ≤ 2147483647) × (dictionary t body ≡ ok d) × (size (d .rows) ≤ length field)
+    → (t < 12) × (length body ≤ limit) × (dictionary t body ≡ ok d) × (size (d .rows) ≤ length field)
 unfolding prepared roomFor
 prepared-back t body field d e =
     let (short, typed) = check-ok _ _ _ d e in
@@ -208,7 +186,7 @@ audit-passed t body field n e =
 -- ---- a question that was answered, taken apart
 
 pub asked-back : (t q : ℕ) (literal body : List ℕ) (ls : List (List ℕ)) → wellFormed t q literal body ≡ ok ls
-    → (length body ≤ 2147483647) × (t < 12) × (q < 6) × (literals t 1024 [] literal ≡ ok ls) × (takes q (length ls) ≡ true)
+    → (length body ≤ limit) × (t < 12) × (q < 6) × (literals t 1024 [] literal ≡ ok ls) × (takes q (length ls) ≡ true)
 unfolding wellFormed
 asked-back t q literal body ls e =
     let (short, names) = check-ok _ _ _ ls e in

@@ -4,26 +4,25 @@ use mathlib.Core.Path.{_≡_, refl, sym, ap, _∙_}
 use mathlib.Core.Bool.{Bool, true, false}
 use mathlib.Core.List.{List, [], _∷_}
 use native.Mathlib.Omega.{arith}
-use lib.Dec.{leb}
 use lib.IntN.{ℤ, pos, negsuc, _-ℤ_, natAbs}
 use lib.ListN.{length, take, drop, set, length-drop, drop-of-length-le}
 use lib.Seq.{take-all}
 use lib.Signed.{ltZ}
 use mir.Syntax.{w32}
 use mir.Val.{SFits, toZ, ofZ}
-use borrow.Author.Tests.{lt-ltb, le-ltb, leb-false, eq-eqb, ne-eqb}
+use borrow.Author.Tests.{lt-ltb, le-ltb, eq-eqb, ne-eqb}
 use Rattle.numbers.specs.Meaning.{number, minusOne}
-use Rattle.numbers.proofs.Booleans.{or-neither}
 use Rattle.refusal.specs.declared.Refusal.{Refusal}
-use Rattle.refusal.specs.declared.Refusal.the-variants.{Bitmap, Range, Twice}
-use Rattle.row_field.specs.Meaning.{bit, mark, markAll, zeroed, cleared, size}
+use Rattle.row_field.specs.Meaning.{bit, mark, markAll, anySet, Below, zeroed, cleared, size}
 use Rattle.roaring.specs.declared.Extent.{Extent}
 use Rattle.roaring.specs.declared.Extent.the-variants.{AsLong, Exactly}
 use Rattle.roaring.specs.declared.Marked.{Marked}
 use Rattle.roaring.specs.declared.Marked.the-variants.{Refused, Done}
-use Rattle.roaring.specs.Reading.{Read, refused, got, choose, fits, anyFrom, read, marking, fieldAfter}
-use Rattle.refusal.specs.Reading.{ok, check}
-use Rattle.bitmap_index.specs.Reading.{extentOf, once, placeBitmap, placeAt}
+use Rattle.roaring.specs.Reading.{Parsed, read, formed, measured, marking, markRows, markBuffer, markedBy}
+use Rattle.roaring.specs.Promises.{MarkPromise}
+use Rattle.roaring.proofs.Measured.{measured-back}
+use Rattle.refusal.specs.Reading.{Out, refuse, ok, check, andThen}
+use Rattle.bitmap_index.specs.Reading.{extentOf, placeBitmap, placeAt}
 use Rattle.bitmap_index.specs.declared.Outcome.{Outcome}
 use Rattle.bitmap_index.specs.Promises.{Places}
 use Rattle.bitmap_index.proofs.Offsets.{of, row-is, at, place-is}
@@ -41,33 +40,28 @@ pub cleared-mark : (n : ℕ) (f : List ℕ) (r : ℕ) → r < n → cleared n (m
 unfolding mark
 cleared-mark n f r h = zeroed-set (size n) f (r / 8) _ (omega arith)
 
-cleared-marks : (n : ℕ) (f rs : List ℕ) → anyFrom n rs ≡ false → cleared n (markAll f rs) ≡ cleared n f
-unfolding markAll anyFrom
-cleared-marks n f [] e = refl
-cleared-marks n f (r ∷ rs) e =
-    let h = or-neither (leb n r) (anyFrom n rs) e in
-    cleared-marks n (mark f r) rs (h .1) ∙ cleared-mark n f r (leb-false n r (h .0))
+cleared-marks : (n : ℕ) (f rs : List ℕ) → Below n rs → cleared n (markAll f rs) ≡ cleared n f
+unfolding markAll
+cleared-marks n f [] b = refl
+cleared-marks n f (r ∷ rs) b = cleared-marks n (mark f r) rs (b .1) ∙ cleared-mark n f r (b .0)
 
-after-go : (n : ℕ) (f rs : List ℕ) (fit any : Bool) → anyFrom n rs ≡ any → cleared n (choose fit (choose any f (markAll f rs)) f) ≡ cleared n f
-unfolding choose
-after-go n f rs true true e = refl
-after-go n f rs true false e = cleared-marks n f rs e
-after-go n f rs false any e = refl
-
-cleared-after : (extent : Extent) (n : ℕ) (f : List ℕ) (x : Read) → cleared n (fieldAfter extent n f x) ≡ cleared n f
-unfolding fieldAfter
-cleared-after extent n f refused = refl
-cleared-after extent n f (got rows length s) = after-go n f rows (fits extent length) (anyFrom n rows) refl
+cleared-after : (extent : Extent) (n : ℕ) (f bytes : List ℕ) → cleared n (markBuffer extent n f bytes) ≡ cleared n f
+unfolding markBuffer markRows
+cleared-after extent n f bytes = go (measured extent n bytes) refl
+  where
+    go : (o : Out Refusal Parsed) → measured extent n bytes ≡ o → cleared n (markRows f o) ≡ cleared n f
+    go (refuse r) e = refl
+    go (ok b) e = cleared-marks n f (b .rows) (measured-back extent n bytes b e .2)
 
 -- ---- a single row
 
 module _ (r n : ℕ) (f : List ℕ) where
-  pub row-range : n ≤ r → Places n (placeAt (negsuc r) 0 n []) f f (Outcome.Refused Range)
+  pub row-range : n ≤ r → Places n (placeAt (negsuc r) 0 n []) f f (Outcome.Refused Refusal.Range)
   unfolding placeAt check
   row-range h = record { outcome = rw (le-ltb r n h); behind = refl }
 
   module _ (h : r < n) {was : Bool} {after : List ℕ} (b : was ≡ bit f r) (m : after ≡ mark f r) where
-    pub row-twice : was ≡ true → Places n (placeAt (negsuc r) 0 n []) f after (Outcome.Refused Twice)
+    pub row-twice : was ≡ true → Places n (placeAt (negsuc r) 0 n []) f after (Outcome.Refused Refusal.Twice)
     unfolding placeAt check
     row-twice t = record { outcome = rw (lt-ltb r n h, ← b, t); behind = rw m (cleared-mark n f r h) }
 
@@ -89,27 +83,52 @@ pub exactly : (extent : ℕ) → (extent ≡ minusOne → ⊥) → Exactly exten
 unfolding extentOf
 exactly extent h = rw (ne-eqb extent minusOne h)
 
+-- what roaring's answer says of the bitmap
+module _ (extent : Extent) (n : ℕ) (f bytes : List ℕ) {m : Marked} (a : m ≡ markedBy (marking extent n f bytes)) where
+  is-refused : {r : Refusal} → m ≡ Refused r → measured extent n bytes ≡ refuse r
+  unfolding marking markedBy andThen
+  is-refused {r} t = go (measured extent n bytes) (sym a ∙ t)
+    where
+      go : (o : Out Refusal Parsed) → markedBy (andThen o (λ b. ok (record { length = b .end; twice = anySet f (b .rows) }))) ≡ Refused r → o ≡ refuse r
+      go (refuse w) e = cc
+      go (ok b) e = absurd (let z : _≡_ {A = ℕ} 0 1 = cc in omega arith)
+
+  is-marked : {long : ℕ} {twice : Bool} → m ≡ Done long twice → (b : Parsed) × (measured extent n bytes ≡ ok b) × (twice ≡ anySet f (b .rows))
+  unfolding marking markedBy andThen
+  is-marked {long} {twice} t = go (measured extent n bytes) (sym a ∙ t)
+    where
+      go : (o : Out Refusal Parsed) → markedBy (andThen o (λ b. ok (record { length = b .end; twice = anySet f (b .rows) }))) ≡ Done long twice
+          → (b : Parsed) × (o ≡ ok b) × (twice ≡ anySet f (b .rows))
+      go (refuse w) e = absurd (let z : _≡_ {A = ℕ} 0 1 = cc in omega arith)
+      go (ok b) e = (b, refl, cc)
+
 module _ (o e n : ℕ) (region f : List ℕ) where
-  pub behind-region : length region < o → Places n (placeAt (pos o) e n region) f f (Outcome.Refused Bitmap)
-  unfolding placeAt placeBitmap once read number marking
+  pub behind-region : length region < o → Places n (placeAt (pos o) e n region) f f (Outcome.Refused Refusal.Bitmap)
+  unfolding placeAt placeBitmap read number measured formed andThen
   behind-region h = record { outcome = rw (drop-of-length-le region (let l : length region ≤ o = omega arith in l)); behind = refl }
 
-  module _ {bytes : List ℕ} {extent : Extent} {m : Marked} {after : List ℕ} (p : bytes ≡ drop o region) (x : extent ≡ extentOf e)
-      (a : m ≡ marking extent n f (read bytes)) (g : after ≡ fieldAfter extent n f (read bytes)) where
+  module _ {bytes : List ℕ} {extent : Extent} {m : Marked} {after : List ℕ} (p : bytes ≡ drop o region) (x : extent ≡ extentOf e) (a : MarkPromise extent n f bytes after m) where
     kept : cleared n after ≡ cleared n f
-    kept = rw g (cleared-after extent n f (read bytes))
+    kept = rw (a .buffer) (cleared-after extent n f bytes)
 
     pub bitmap-refused : {r : Refusal} → m ≡ Refused r → Places n (placeAt (pos o) e n region) f after (Outcome.Refused r)
-    unfolding placeAt placeBitmap once
-    bitmap-refused t = record { outcome = rw (← p, ← x, ← a, t); behind = kept }
+    unfolding placeAt placeBitmap andThen
+    bitmap-refused t = record { outcome = rw (← p, ← x, is-refused extent n f bytes (a .answer) t); behind = kept }
 
-    pub bitmap-twice : {long : ℕ} {twice : Bool} → m ≡ Done long twice → twice ≡ true → Places n (placeAt (pos o) e n region) f after (Outcome.Refused Twice)
-    unfolding placeAt placeBitmap once
-    bitmap-twice t w = record { outcome = rw (← p, ← x, ← a, t, w); behind = kept }
+    pub bitmap-twice : {long : ℕ} {twice : Bool} → m ≡ Done long twice → twice ≡ true → Places n (placeAt (pos o) e n region) f after (Outcome.Refused Refusal.Twice)
+    unfolding placeAt placeBitmap andThen check
+    bitmap-twice t w =
+        let (b, g, s) = is-marked extent n f bytes (a .answer) t in
+        let set : anySet f (b .rows) ≡ true = sym s ∙ w in
+        record { outcome = rw (← p, ← x, g, set); behind = kept }
 
     pub bitmap-done : {long : ℕ} {twice : Bool} → m ≡ Done long twice → twice ≡ false → Places n (placeAt (pos o) e n region) f after Outcome.Done
-    unfolding placeAt placeBitmap once
-    bitmap-done t w = record { outcome = rw (← p, ← x, ← a, t, w) (ap ok (sym g)); behind = kept }
+    unfolding placeAt placeBitmap andThen check markBuffer markRows
+    bitmap-done t w =
+        let (b, g, s) = is-marked extent n f bytes (a .answer) t in
+        let z : after ≡ markAll f (b .rows) = rw g at (a .buffer) in
+        let free : anySet f (b .rows) ≡ false = sym s ∙ w in
+        record { outcome = rw (← p, ← x, g, free) (ap ok (sym z)); behind = kept }
 
 -- ---- an entry's rows
 

@@ -8,7 +8,8 @@ use native.Mathlib.Omega.{arith}
 use lib.ListN.{length, getD, replicate, length-replicate, drop, take}
 use lib.Seq.{ext-getD, take-at}
 use Rattle.row_field.specs.Meaning.{size, bit}
-use Rattle.row_field.proofs.Marks.{length-markAll, bit-markAll, bit-zeros}
+use Rattle.row_field.proofs.Marks.{length-markAll, bit-markAll}
+use Rattle.row_field.proofs.Laws.{bit-zeros}
 use Rattle.numbers.specs.Meaning.{same}
 use Rattle.stored_value.specs.Meaning.{Cell, null, value, Value, listed}
 use Rattle.refusal.specs.declared.Refusal.{Refusal}

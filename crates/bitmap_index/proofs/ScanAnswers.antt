@@ -7,18 +7,19 @@ use mathlib.Core.Bool.{Bool, true, false, _&&_, _||_, cond, or-assoc, or-false, 
 use mathlib.Core.List.{List, [], _∷_, _++_}
 use native.Mathlib.Nat.{zero-add, add-zero}
 use native.Mathlib.Omega.{arith}
-use borrow.Author.Tests.{eq-eqb, ne-eqb, lt-ltb, le-ltb, lt-leb}
+use borrow.Author.Tests.{eq-eqb, ne-eqb, lt-ltb, le-ltb}
 use lib.IntN.{ℤ, pos, negsuc}
 use lib.ListN.{length, drop, replicate, length-append}
 use lib.Seq.{drop-at}
-use Rattle.numbers.specs.Meaning.{All, signed32, Bytes, minusOne}
+use Rattle.numbers.specs.Meaning.{All, signed32, Bytes, minusOne, signBit}
 use Rattle.numbers.proofs.Booleans.{or-neither}
-use Rattle.row_field.specs.Meaning.{size, bit, mark, markAll, anySet, fieldOf, cleared, count}
-use Rattle.row_field.proofs.Marks.{Below}
+use Rattle.row_field.specs.Meaning.{size, bit, mark, markAll, anySet, fieldOf, cleared, count, Below}
 use Rattle.roaring.specs.declared.Extent.{Extent}
-use Rattle.roaring.specs.Reading.{Read, got, read, choose, anyFrom, fits, marking, fieldAfter}
-use Rattle.roaring.proofs.Theorems.{laid-out-is-read}
+use Rattle.roaring.specs.Layout.{Bitmap}
+use Rattle.roaring.specs.Reading.{lengthIs}
+use Rattle.roaring.proofs.Measured.{measured-laid}
 use Rattle.stored_value.specs.Meaning.{Cell, sameCell}
+use Rattle.refusal.specs.Meaning.{limit}
 use Rattle.refusal.specs.declared.Refusal.{Refusal}
 use Rattle.refusal.specs.Reading.{Out, ok, check, andThen}
 use Rattle.stored_value.proofs.Laws.{sameCell→eq, sameCell-sym}
@@ -26,48 +27,43 @@ use Rattle.dictionary.specs.Layout.{Entry, someHas}
 use Rattle.dictionary.proofs.Theorems.{Once}
 use Rattle.bitmap_index.specs.Meaning.{chosen, scan, scanFrom}
 use Rattle.bitmap_index.specs.Layout.{rowsWith, EntryRows, single, bitmap, ExactRows, Covers}
-use Rattle.bitmap_index.specs.Reading.{extentOf, once, placeBitmap, placeAt, placeEntry, placeEntries, audited, chosenOf, answered}
+use Rattle.bitmap_index.specs.Reading.{extentOf, placeBitmap, placeAt, placeEntry, placeEntries, audited, chosenOf, answered}
 use Rattle.bitmap_index.proofs.Rows.{rowsWhere, rows-with, all-cells, rows-ext, rows-none, rows-all, rows-below, Apart, rows-join, Free, rows-free, cleared-free, rows-marked, rows-counted}
 
 -- ---- one entry: its rows are marked
 
-below-anyFrom : (n : ℕ) (rs : List ℕ) → Below n rs → anyFrom n rs ≡ false
-unfolding anyFrom
-below-anyFrom n [] b = refl
-below-anyFrom n (r ∷ rs) b = rw (lt-leb n r (b .0)) (below-anyFrom n rs (b .1))
-
 -- a negative offset is the single row -1 less it
-signed-single : (r : ℕ) → r < 2147483648 → signed32 (minusOne - r) ≡ negsuc r
+signed-single : (r : ℕ) → r < signBit → signed32 (minusOne - r) ≡ negsuc r
 signed-single r h =
-    let e : 4294967295 - (4294967295 - r) ≡ r = omega arith in
-    let l : 2147483648 ≤ 4294967295 - r = omega arith in
-    rw (le-ltb (4294967295 - r) 2147483648 l, e)
+    let e : minusOne - (minusOne - r) ≡ r = omega arith in
+    let l : signBit ≤ minusOne - r = omega arith in
+    rw (le-ltb (minusOne - r) signBit l, e)
 
 place-single : (n : ℕ) (region f : List ℕ) (extent r : ℕ) → r < n → bit f r ≡ false → placeAt (negsuc r) extent n region f ≡ ok (mark f r)
 unfolding placeAt check
 place-single n region f extent r h b = rw (lt-ltb r n h, b)
 
-placed-there : (n : ℕ) (region f : List ℕ) (extent o : ℕ) {found : Read} → read (drop o region) ≡ found
-    → placeAt (pos o) extent n region f ≡ placeBitmap (extentOf extent) n found f
+placed-there : (n : ℕ) (region f : List ℕ) (extent o : ℕ) {bytes : List ℕ} → drop o region ≡ bytes
+    → placeAt (pos o) extent n region f ≡ placeBitmap (extentOf extent) n bytes f
 unfolding placeAt
-placed-there n region f extent o h = ap (λ (r : Read). placeBitmap (extentOf extent) n r f) h
+placed-there n region f extent o h = ap (λ (s : List ℕ). placeBitmap (extentOf extent) n s f) h
 
-extent-fits : (extent long : ℕ) → long ≤ 2147483647 → (extent ≡ minusOne) ⊎ (extent ≡ long) → fits (extentOf extent) long ≡ true
-unfolding extentOf fits
+extent-fits : (extent long : ℕ) → long ≤ limit → (extent ≡ minusOne) ⊎ (extent ≡ long) → lengthIs (extentOf extent) long ≡ true
+unfolding extentOf lengthIs
 extent-fits extent long h (inl e) = rw (eq-eqb extent minusOne e)
 extent-fits extent long h (inr e) = rw (ne-eqb extent minusOne (omega arith)) (eq-eqb long extent (sym e))
 
-place-bitmap : (extent : Extent) (n : ℕ) (rows f t : List ℕ) (long : ℕ) → fits extent long ≡ true → Below n rows → anySet f rows ≡ false
-    → placeBitmap extent n (got rows long t) f ≡ ok (markAll f rows)
-unfolding placeBitmap marking fieldAfter choose once
-place-bitmap extent n rows f t long e b s = rw (e, below-anyFrom n rows b, s)
+place-bitmap : (extent : Extent) (n : ℕ) {rows bytes : List ℕ} (f t : List ℕ) → Bitmap rows bytes → lengthIs extent (length bytes) ≡ true → Below n rows → anySet f rows ≡ false
+    → placeBitmap extent n (bytes ++ t) f ≡ ok (markAll f rows)
+unfolding placeBitmap andThen check
+place-bitmap extent n f t m e b s = rw (measured-laid extent n m t e b, s)
 
 module _ (n : ℕ) (region f : List ℕ) (e : Entry) where
   place-at : (x : ℤ) → signed32 (e .offset) ≡ x → placeEntry n region f e ≡ placeAt x (e .extent) n region f
   unfolding placeEntry
   place-at x h = ap (λ (y : ℤ). placeAt y (e .extent) n region f) h
 
-  pub place-one : (rows : List ℕ) → length region ≤ 2147483647 → EntryRows region rows e → Below n rows → anySet f rows ≡ false → placeEntry n region f e ≡ ok (markAll f rows)
+  pub place-one : (rows : List ℕ) → length region ≤ limit → EntryRows region rows e → Below n rows → anySet f rows ≡ false → placeEntry n region f e ≡ ok (markAll f rows)
   unfolding markAll anySet
   place-one rows l (single r q h o x) b s =
       let c = rw q at b in
@@ -75,13 +71,12 @@ module _ (n : ℕ) (region f : List ℕ) (e : Entry) where
       rw q (place-at (negsuc r) (ap signed32 o ∙ signed-single r h) ∙ place-single n region f (e .extent) r (c .0) (d .0))
   place-one rows l (bitmap before bytes behind q m o x) b s =
       let k = simp length-append at (ap length q) in
-      let i : length before < 2147483648 = omega arith in
-      let a : signed32 (length before) ≡ pos (length before) = rw (lt-ltb (length before) 2147483648 i) in
+      let i : length before < signBit = omega arith in
+      let a : signed32 (length before) ≡ pos (length before) = rw (lt-ltb (length before) signBit i) in
       let d : drop (length before) region ≡ bytes ++ behind = rw q (drop-at before (bytes ++ behind) (length before) refl) in
-      let g = laid-out-is-read m behind in
       place-at (pos (length before)) (ap signed32 o ∙ a)
-      ∙ placed-there n region f (e .extent) (length before) (ap read d ∙ g)
-      ∙ place-bitmap (extentOf (e .extent)) n rows f behind (length bytes) (extent-fits (e .extent) (length bytes) (omega arith) x) b s
+      ∙ placed-there n region f (e .extent) (length before) d
+      ∙ place-bitmap (extentOf (e .extent)) n f behind m (extent-fits (e .extent) (length bytes) (omega arith) x) b s
 
 -- ---- the rows of many entries
 
@@ -95,7 +90,7 @@ other-cell c d es n y = go (sameCell d c) refl
         sym y ∙ ap (λ (x : Cell). someHas x es) (sym e) ∙ n
     go false s = refl
 
-module _ (region : List ℕ) (cells : List Cell) (z : List ℕ) (short : length region ≤ 2147483647) (f : Free (length cells) z) where
+module _ (region : List ℕ) (cells : List Cell) (z : List ℕ) (short : length region ≤ limit) (f : Free (length cells) z) where
   -- one entry more: its rows are marked besides
   placed-one : (p : Cell → Bool) (e : Entry) → EntryRows region (rowsWith (e .cell) 0 cells) e → Apart p (sameCell (e .cell))
       → placeEntry (length cells) region (markAll z (rowsWhere p 0 cells)) e ≡ ok (markAll z (rowsWhere (λ c. p c || sameCell (e .cell) c) 0 cells))
@@ -129,7 +124,7 @@ pub record Whole (cells : List Cell) (es : List Entry) (region : List ℕ) : Typ
   pub placed : ExactRows region cells es
   pub once : Once es
   pub covers : Covers es cells
-  pub short : length region ≤ 2147483647
+  pub short : length region ≤ limit
 
 covers-each : (es : List Entry) (cells : List Cell) → Covers es cells → All (λ c. someHas c es ≡ true) cells
 covers-each es [] h = tt

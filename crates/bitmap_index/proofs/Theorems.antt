@@ -10,7 +10,7 @@ use Rattle.numbers.specs.Meaning.{joined}
 use Rattle.refusal.specs.Meaning.{limit}
 use Rattle.refusal.specs.declared.Refusal.the-variants.{Room}
 use Rattle.row_field.specs.Meaning.{size}
-use Rattle.row_field.proofs.Marks.{bytes-zeros}
+use Rattle.row_field.proofs.Laws.{bytes-zeros}
 use Rattle.stored_value.specs.Meaning.{Cell}
 use Rattle.refusal.specs.Reading.{check, andThen}
 use Rattle.stored_value.proofs.Laws.{literals-back}

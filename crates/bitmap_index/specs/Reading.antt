@@ -1,6 +1,6 @@
 -- What Audit and Ask answer for any bytes (01, "Bitmap body" and "Questions"): their stages in 01's order, each begun only where the one before passed.
 use Prim.Native.Nat.{ℕ}
-use mathlib.Core.Bool.{true, false, not, _&&_, cond}
+use mathlib.Core.Bool.{not, _&&_, cond}
 use mathlib.Core.List.{List, [], _∷_}
 use lib.Dec.{eqb, ltb, leb}
 use lib.IntN.{ℤ, pos, negsuc}
@@ -9,12 +9,10 @@ use Rattle.numbers.specs.Meaning.{signed32, minusOne}
 use Rattle.refusal.specs.declared.Refusal.{Refusal}
 use Rattle.refusal.specs.Meaning.{limit, numberOf}
 use Rattle.refusal.specs.declared.Refusal.the-variants.{Range, Twice, Missing, Room, Literal, Limit}
-use Rattle.row_field.specs.Meaning.{size, bit, mark, count, cleared}
+use Rattle.row_field.specs.Meaning.{size, bit, mark, markAll, anySet, count, cleared}
 use Rattle.roaring.specs.declared.Extent.{Extent}
 use Rattle.roaring.specs.declared.Extent.the-variants.{AsLong, Exactly}
-use Rattle.roaring.specs.declared.Marked.{Marked}
-use Rattle.roaring.specs.declared.Marked.the-variants.{Refused, Done}
-use Rattle.roaring.specs.Reading.{Read, read, marking, fieldAfter}
+use Rattle.roaring.specs.Reading.{measured}
 use Rattle.refusal.specs.Reading.{Out, refuse, ok, check, andThen}
 use Rattle.stored_value.specs.Reading.{literals}
 use Rattle.dictionary.specs.Layout.{Entry}
@@ -30,20 +28,15 @@ use Rattle.bitmap_index.specs.Meaning.{chosen, takes, keeps}
 unfoldable pub extentOf : ℕ → Extent
 extentOf extent = cond (eqb extent minusOne) AsLong (Exactly extent)
 
--- what marking answers, as the audit takes it: a row that was set already is TWICE
-unfoldable pub once : Marked → List ℕ → Out Refusal (List ℕ)
-once (Refused r) field = refuse r
-once (Done long true) field = refuse Twice
-once (Done long false) field = ok field
-
--- a bitmap's rows placed in a field of n rows
-unfoldable pub placeBitmap : Extent → ℕ → Read → List ℕ → Out Refusal (List ℕ)
-placeBitmap extent n bitmap field = once (marking extent n field bitmap) (fieldAfter extent n field bitmap)
+-- a bitmap's rows placed in a field of n rows: BITMAP and RANGE as roaring has them, then TWICE
+unfoldable pub placeBitmap : Extent → ℕ → List ℕ → List ℕ → Out Refusal (List ℕ)
+placeBitmap extent n bytes field =
+    andThen (measured extent n bytes) (λ bitmap. check (not (anySet field (bitmap .rows))) Twice (ok (markAll field (bitmap .rows))))
 
 -- an entry's rows: the single row of a negative offset, or the bitmap at that place of the region
 unfoldable pub placeAt : ℤ → ℕ → ℕ → List ℕ → List ℕ → Out Refusal (List ℕ)
 placeAt (negsuc r) extent n region field = check (ltb r n) Range (check (not (bit field r)) Twice (ok (mark field r)))
-placeAt (pos o) extent n region field = placeBitmap (extentOf extent) n (read (drop o region)) field
+placeAt (pos o) extent n region field = placeBitmap (extentOf extent) n (drop o region) field
 
 unfoldable pub placeEntry : ℕ → List ℕ → List ℕ → Entry → Out Refusal (List ℕ)
 placeEntry n region field e = placeAt (signed32 (e .offset)) (e .extent) n region field

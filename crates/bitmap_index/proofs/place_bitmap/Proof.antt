@@ -13,19 +13,19 @@ returns-2 : tie.Need-returns-2
 returns-2 c =
     let a = c .before .before .before .before .before .before .before .before .before .before .before .before .before .args in
     let m = c .before .before .before .before .before .before .mark in
-    bitmap-twice (a .at .0) (a .extent) (a .rows) (a .region .now) (a .field .now) (to-end (a .at .0) (a .region .now)) (c .before .before .before .before .before .before .before .extent-of .ensures) (m .ensures .0) (m .ensures .1) (c .before .before .marked2 .given .1) (c .if2 .taken)
+    bitmap-twice (a .at .0) (a .extent) (a .rows) (a .region .now) (a .field .now) (to-end (a .at .0) (a .region .now)) (c .before .before .before .before .before .before .before .extent-of .ensures) (m .ensures) (c .before .before .marked2 .given .1) (c .if2 .taken)
 
 returns-3 : tie.Need-returns-3
 returns-3 c =
     let a = c .before .before .before .before .before .before .before .before .before .before .before .before .args in
     let m = c .before .before .before .before .before .mark in
-    bitmap-refused (a .at .0) (a .extent) (a .rows) (a .region .now) (a .field .now) (to-end (a .at .0) (a .region .now)) (c .before .before .before .before .before .before .extent-of .ensures) (m .ensures .0) (m .ensures .1) (c .before .marked .given .1)
+    bitmap-refused (a .at .0) (a .extent) (a .rows) (a .region .now) (a .field .now) (to-end (a .at .0) (a .region .now)) (c .before .before .before .before .before .before .extent-of .ensures) (m .ensures) (c .before .marked .given .1)
 
 returns-4 : tie.Need-returns-4
 returns-4 c =
     let a = c .before .before .before .before .before .before .before .before .before .before .before .before .before .args in
     let m = c .before .before .before .before .before .before .mark in
-    bitmap-done (a .at .0) (a .extent) (a .rows) (a .region .now) (a .field .now) (to-end (a .at .0) (a .region .now)) (c .before .before .before .before .before .before .before .extent-of .ensures) (m .ensures .0) (m .ensures .1) (c .before .before .marked2 .given .1) (c .if2 .left)
+    bitmap-done (a .at .0) (a .extent) (a .rows) (a .region .now) (a .field .now) (to-end (a .at .0) (a .region .now)) (c .before .before .before .before .before .before .before .extent-of .ensures) (m .ensures) (c .before .before .marked2 .given .1) (c .if2 .left)
 
 pub place-bitmap-spec : {M : Type 1} → statement M
 place-bitmap-spec =
