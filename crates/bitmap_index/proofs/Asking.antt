@@ -18,7 +18,7 @@ use Rattle.stored_value.specs.Promises.{countedBy}
 use Rattle.stored_value.specs.Reading.{literals}
 use Rattle.dictionary.specs.declared.Checked.{Checked}
 use Rattle.dictionary.specs.declared.Checked.the-variants.{Found}
-use Rattle.dictionary.specs.declared.Head.{Head}
+use Rattle.dictionary.specs.declared.Summary.{Summary}
 use Rattle.dictionary.specs.Reading.{Dictionary}
 use Rattle.bitmap_index.specs.Meaning.{takes, keeps}
 use Rattle.bitmap_index.specs.Reading.{placeEntries, prepared, audited, zeroedFrom, Answer, answered, auditedAnswer, wellFormed, ask, answerBuffer, askBuffer, auditedBy, answeredBy, askOut, askNumbers}
@@ -183,11 +183,11 @@ module _ (t q : ℕ) (s body f : List ℕ) where
         let d : prepared t body f ≡ refuse r = rw k at p in
         ask-says (rw (y .2, d)) (rw (y .2, d))
 
-    pub ask-found : {h : Head} → c ≡ Found h → Prepares t body f c → {r : Answered} {after : List ℕ}
+    pub ask-found : {h : Summary} → c ≡ Found h → Prepares t body f c → {r : Answered} {after : List ℕ}
         → ForDictionary t body h (λ d. AnswersField t q s d f after r) → AskPromise t q s body f after r
     unfolding ask askBuffer zeroedFrom andThen
     ask-found {h} k p g =
         let y : TestsQuestion t q s body Done = rw e at w in
         let d : Prepares t body f (Found h) = rw k at p in
-        let z = g (d .0) (d .2) (y .0) (y .1) in
+        let z = g (d .0 .entries) (d .0 .summary) (y .0) (y .1) in
         ask-says (rw (y .2, d .1) (z .answer)) (rw (y .2, d .1) (z .buffer))

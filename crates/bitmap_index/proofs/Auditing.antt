@@ -14,16 +14,16 @@ use Rattle.refusal.specs.Reading.{Out, refuse, ok, check, andThen, numbersOf}
 use Rattle.stored_value.specs.Reading.{literals}
 use Rattle.dictionary.specs.declared.Checked.{Checked}
 use Rattle.dictionary.specs.declared.Checked.the-variants.{Found}
-use Rattle.dictionary.specs.declared.Head.{Head}
+use Rattle.dictionary.specs.declared.Summary.{Summary}
 use Rattle.dictionary.specs.Reading.{Dictionary, dictionary}
-use Rattle.dictionary.specs.Promises.{Tells}
+use Rattle.dictionary.specs.Promises.{IsRead, ReadsDictionary}
 use Rattle.bitmap_index.specs.Reading.{placeEntries, roomFor, prepared, audited, audit, zeroedFrom, auditBuffer, auditedBy, auditOut, auditNumbers}
 use Rattle.bitmap_index.specs.declared.Audited.{Audited}
 use Rattle.bitmap_index.specs.declared.Audited.the-variants.{Rows}
 use Rattle.bitmap_index.specs.declared.Outcome.{Outcome}
 use Rattle.bitmap_index.specs.declared.Outcome.the-variants.{Done}
 use Rattle.bitmap_index.specs.declared.Entries.the-variants.{Every}
-use Rattle.bitmap_index.specs.Promises.{AuditPromise, HasEntries, ForDictionary, Prepares, ReadAs, Places, those, AuditsZero, AuditsField}
+use Rattle.bitmap_index.specs.Promises.{AuditPromise, ForDictionary, Prepares, ReadAs, Places, those, AuditsZero, AuditsField}
 
 -- an audit places the rows of every entry, whatever the literals
 pub no-literals : (t : ℕ) → ReadAs t [] []
@@ -79,27 +79,24 @@ module _ (t : ℕ) (s f : List ℕ) where
       unfolding prepared check
       in-dictionary = rw (le-leb (length s) limit l, lt-ltb t 12 k)
 
-      pub no-dictionary : {c : Checked} {r : Refusal} → c ≡ Checked.Refused r → Tells t s c → prepared t s f ≡ refuse r
+      pub no-dictionary : {c : Checked} {r : Refusal} → c ≡ Checked.Refused r → ReadsDictionary t s c → prepared t s f ≡ refuse r
       unfolding andThen
       no-dictionary {c} {r} e w =
-          let d : dictionary t s ≡ refuse r = rw e at w in
+          let d : dictionary t s ≡ refuse r = rw e at (w .so) in
           in-dictionary ∙ rw d
 
-      module _ {c : Checked} {h : Head} (e : c ≡ Found h) (w : Tells t s c) {has : Bool} (o : has ≡ leb (size (h .rows)) (length f)) where
-        pub no-room : has ≡ false → prepared t s f ≡ refuse Room
-        unfolding andThen roomFor check
-        no-room n =
-            let d : Tells t s (Found h) = rw e at w in
-            in-dictionary ∙ rw (d .1, ← o, n)
+      module _ {c : Checked} {h : Summary} (e : c ≡ Found h) (w : ReadsDictionary t s c) where
+        is-read : IsRead t s h
+        is-read = rw e at (w .so)
 
-        pub ready : has ≡ true → Prepares t s f (Found h)
-        unfolding andThen roomFor check
-        ready y =
-            let d : Tells t s (Found h) = rw e at w in (
-              d .0,
-              in-dictionary ∙ rw (d .1, ← o, y),
-              record { many = d .2; stand = d .3; region = d .5 },
-            )
+        module _ {has : Bool} (o : has ≡ leb (size (h .rows)) (length f)) where
+          pub no-room : has ≡ false → prepared t s f ≡ refuse Room
+          unfolding andThen roomFor check
+          no-room n = in-dictionary ∙ rw (is-read .so, ← o, n)
+
+          pub ready : has ≡ true → Prepares t s f (Found h)
+          unfolding andThen roomFor check
+          ready y = (is-read, in-dictionary ∙ rw (is-read .so, ← o, y))
 
 -- ---- the whole
 
@@ -114,10 +111,8 @@ module _ (t : ℕ) (s f : List ℕ) where
   audit-says e b = record { answer = e; buffer = b; numbers = rw e (audit-numbers (audit t s f)) }
 
   module _ {c : Checked} where
-    pub has-entries : {h : Head} → c ≡ Found h → Prepares t s f c → HasEntries t s h
-    has-entries {h} e w =
-        let d : Prepares t s f (Found h) = rw e at w in
-        record { entries = d .0; stand = d .2 }
+    pub is-dictionary : {h : Summary} → c ≡ Found h → Prepares t s f c → IsRead t s h
+    is-dictionary {h} e w = let d : Prepares t s f (Found h) = rw e at w in d .0
 
     pub audit-refused : {r : Refusal} → c ≡ Checked.Refused r → Prepares t s f c → AuditPromise t s f f (Audited.Refused r)
     unfolding audit auditBuffer zeroedFrom auditedBy andThen
@@ -125,9 +120,9 @@ module _ (t : ℕ) (s f : List ℕ) where
         let d : prepared t s f ≡ refuse r = rw e at w in
         audit-says (rw d) (rw d)
 
-    pub audit-found : {h : Head} → c ≡ Found h → Prepares t s f c → {r : Audited} {after : List ℕ} → ForDictionary t s h (λ d. AuditsField d f after r) → AuditPromise t s f after r
+    pub audit-found : {h : Summary} → c ≡ Found h → Prepares t s f c → {r : Audited} {after : List ℕ} → ForDictionary t s h (λ d. AuditsField d f after r) → AuditPromise t s f after r
     unfolding audit auditBuffer zeroedFrom andThen
     audit-found {h} e w g =
         let d : Prepares t s f (Found h) = rw e at w in
-        let z = g (d .0) (d .2) in
+        let z = g (d .0 .entries) (d .0 .summary) in
         audit-says (rw (d .1) (z .answer)) (rw (d .1) (z .buffer))

@@ -10,7 +10,7 @@ use Rattle.numbers.specs.Meaning.{signed32}
 use Rattle.refusal.specs.declared.Refusal.{Refusal}
 use Rattle.stored_value.specs.Meaning.{null}
 use Rattle.refusal.specs.Reading.{Out, refuse, ok, andThen}
-use Rattle.dictionary.specs.declared.Head.{Head}
+use Rattle.dictionary.specs.declared.Summary.{Summary}
 use Rattle.dictionary.specs.Promises.{pattern, nullsOf}
 use Rattle.dictionary.specs.Layout.{Entry}
 use Rattle.dictionary.proofs.Offsets.{read-signed}
@@ -48,10 +48,10 @@ module _ (n : ℕ) (region : List ℕ) where
 
 -- ---- null's entry, if there is one
 
-abbrev nullEntry : Head → Entry
+abbrev nullEntry : Summary → Entry
 nullEntry h = record { cell = null; offset = pattern (h .«null_offset»); extent = h .«null_extent» }
 
-module _ (h : Head) (body : List ℕ) (which : Entries) (ls : List (List ℕ)) (f : List ℕ) where
+module _ (h : Summary) (body : List ℕ) (which : Entries) (ls : List (List ℕ)) (f : List ℕ) where
   pub no-null : h .«has_null» ≡ false → Places (h .rows) (placeThose body h which ls (nullsOf h)) f f Done
   unfolding placeEntries
   no-null e = record { outcome = rw (e, those-none which ls); behind = refl }
@@ -89,7 +89,7 @@ module _ (n : ℕ) (region : List ℕ) (which : Entries) (ls : List (List ℕ)) 
   nulls-go e es f false = unfold placeEntries andThen in rw (those-none which ls)
 
 -- null's entry, then the values'
-module _ (h : Head) (body : List ℕ) (which : Entries) (ls : List (List ℕ)) (es : List Entry) (f : List ℕ) {r : Outcome} {mid : List ℕ}
+module _ (h : Summary) (body : List ℕ) (which : Entries) (ls : List (List ℕ)) (es : List Entry) (f : List ℕ) {r : Outcome} {mid : List ℕ}
     (p : Places (h .rows) (placeThose body h which ls (nullsOf h)) f mid r) where
   nulls-first : placeThose body h which ls (nullsOf h ++ es) f ≡ andThen (placeThose body h which ls (nullsOf h) f) (placeThose body h which ls es)
   nulls-first = nulls-go (h .rows) (drop (h .region .0) body) which ls _ es f (h .«has_null»)

@@ -12,8 +12,8 @@ use Rattle.stored_value.specs.Reading.{literals}
 use Rattle.dictionary.specs.declared.Checked.{Checked}
 use Rattle.dictionary.specs.declared.Checked.the-variants.{Found}
 use Rattle.dictionary.specs.declared.EntryAt.{EntryAt}
-use Rattle.dictionary.specs.declared.Head.{Head}
-use Rattle.dictionary.specs.Promises.{Stand, nullsOf, firstLeft, entryAt}
+use Rattle.dictionary.specs.declared.Summary.{Summary}
+use Rattle.dictionary.specs.Promises.{nullsOf, dictionaryOf, Summarizes, IsRead, entryAt}
 use Rattle.dictionary.specs.Layout.{Entry}
 use Rattle.dictionary.specs.Reading.{Dictionary}
 use Rattle.bitmap_index.specs.declared.Audited.{Audited}
@@ -39,32 +39,18 @@ pub record AskPromise (t q : ℕ) (literal body before after : List ℕ) (r : An
 
 -- ---- what comes before a byte of the field is written
 
--- the entries es stand in the body where the dictionary's head says
-pub record EntriesAt (t : ℕ) (body : List ℕ) (h : Head) (es : List Entry) : Type 0 where
-  pub many : length es ≡ h .count
-  pub stand : Stand t (h .two) (firstLeft h) (drop (h .entries .0) body) es
-  pub region : h .region .0 ≤ length body
+-- what holds of the values' entries, of which the dictionary's summary is true
+abbrev pub ForEntries : ℕ → List ℕ → Summary → (List Entry → Type 0) → Type 0
+ForEntries t body h P = (es : List Entry) → Summarizes t body h es → P es
 
--- there are such entries
-pub record HasEntries (t : ℕ) (body : List ℕ) (h : Head) : Type 0 where
-  pub entries : List Entry
-  pub stand : EntriesAt t body h entries
-
--- what holds of the entries that stand there, whichever they are
-abbrev pub ForEntries : ℕ → List ℕ → Head → (List Entry → Type 0) → Type 0
-ForEntries t body h P = (es : List Entry) → EntriesAt t body h es → P es
-
--- the dictionary with that head and those entries
-abbrev pub dictionaryOf : List ℕ → Head → List Entry → Dictionary
-dictionaryOf body h es = record { rows = h .rows; entries = nullsOf h ++ es; region = drop (h .region .0) body }
-
-abbrev pub ForDictionary : ℕ → List ℕ → Head → (Dictionary → Type 0) → Type 0
+-- what holds of the dictionary with that summary
+abbrev pub ForDictionary : ℕ → List ℕ → Summary → (Dictionary → Type 0) → Type 0
 ForDictionary t body h P = ForEntries t body h (λ es. P (dictionaryOf body h es))
 
--- `prepare`: the refusal, or the head of the dictionary that the reading has
+-- `prepare`: the refusal, or the summary of the dictionary that the reading has
 abbrev pub Prepares : ℕ → List ℕ → List ℕ → Checked → Type 0
 Prepares t body field (Checked.Refused r) = prepared t body field ≡ refuse r
-Prepares t body field (Found h) = (es : List Entry) × (prepared t body field ≡ ok (dictionaryOf body h es)) × EntriesAt t body h es
+Prepares t body field (Found h) = (is : IsRead t body h) × (prepared t body field ≡ ok (dictionaryOf body h (is .entries)))
 
 -- bytes are read as the literals ls
 abbrev pub ReadAs : ℕ → List ℕ → List (List ℕ) → Type 0
@@ -100,27 +86,27 @@ unfoldable pub those : Entries → List (List ℕ) → List Entry → List Entry
 those Every ls es = es
 those (Chosen q) ls es = chosenOf q ls es
 
-abbrev pub placeThose : List ℕ → Head → Entries → List (List ℕ) → List Entry → List ℕ → Out Refusal (List ℕ)
+abbrev pub placeThose : List ℕ → Summary → Entries → List (List ℕ) → List Entry → List ℕ → Out Refusal (List ℕ)
 placeThose body h which ls es = placeEntries (h .rows) (drop (h .region .0) body) (those which ls es)
 
 -- an entry's value and the region of bitmaps lie in the body
-pub record EntryInside (body : List ℕ) (h : Head) (e : EntryAt) : Type 0 where
+pub record EntryInside (body : List ℕ) (h : Summary) (e : EntryAt) : Type 0 where
   pub region : h .region .0 ≤ length body
   pub start : e .start .0 ≤ e .end .0
   pub end : e .end .0 ≤ length body
 
 -- the rows of one entry, of null's entry if there is one, of the values' entries, of all
-abbrev pub PlacesEntry : ℕ → List ℕ → Head → EntryAt → Entries → List ℕ → List ℕ → List ℕ → Outcome → Type 0
+abbrev pub PlacesEntry : ℕ → List ℕ → Summary → EntryAt → Entries → List ℕ → List ℕ → List ℕ → Outcome → Type 0
 PlacesEntry t body h e which literal before after r = ForLiterals t literal (λ ls. Places (h .rows) (placeThose body h which ls (entryAt body e ∷ [])) before after r)
 
-abbrev pub PlacesNull : List ℕ → Head → Entries → List ℕ → List ℕ → Outcome → Type 0
+abbrev pub PlacesNull : List ℕ → Summary → Entries → List ℕ → List ℕ → Outcome → Type 0
 PlacesNull body h which before after r = (ls : List (List ℕ)) → Places (h .rows) (placeThose body h which ls (nullsOf h)) before after r
 
-abbrev pub PlacesValues : ℕ → List ℕ → Head → Entries → List ℕ → List ℕ → List ℕ → Outcome → Type 0
+abbrev pub PlacesValues : ℕ → List ℕ → Summary → Entries → List ℕ → List ℕ → List ℕ → Outcome → Type 0
 PlacesValues t body h which literal before after r =
     ForEntries t body h (λ es. ForLiterals t literal (λ ls. Places (h .rows) (placeThose body h which ls es) before after r))
 
-abbrev pub PlacesEntries : ℕ → List ℕ → Head → Entries → List ℕ → List ℕ → List ℕ → Outcome → Type 0
+abbrev pub PlacesEntries : ℕ → List ℕ → Summary → Entries → List ℕ → List ℕ → List ℕ → Outcome → Type 0
 PlacesEntries t body h which literal before after r =
     ForEntries t body h (λ es. ForLiterals t literal (λ ls. Places (h .rows) (placeThose body h which ls (nullsOf h ++ es)) before after r))
 

@@ -5,14 +5,14 @@ ghost use Prim.Native.Nat.{ℕ, _<_, _≤_};
 ghost use lib.IntN.{pos, negsuc};
 ghost use lib.ListN.{length};
 ghost use Rattle.stored_value.specs.Meaning.{null, value};
-ghost use Rattle.dictionary.specs.Promises.{firstLeft};
+ghost use Rattle.dictionary.specs.Promises.{IsRead};
 ghost use Rattle.bitmap_index.specs.Meaning as meaning;
 ghost use Rattle.bitmap_index.specs.Reading.{extentOf, placeAt};
 ghost use Rattle.bitmap_index.specs.Promises as promises;
-ghost use Rattle.bitmap_index.specs.Promises.{AuditPromise, AskPromise, HasEntries, ForDictionary, Prepares, ForLiterals, TestsQuestion, Places, EntryInside, PlacesEntry, PlacesNull, PlacesValues, PlacesEntries, AuditsZero, AuditsField, AnswersZero, AnswersField};
+ghost use Rattle.bitmap_index.specs.Promises.{AuditPromise, AskPromise, ForDictionary, Prepares, ForLiterals, TestsQuestion, Places, EntryInside, PlacesEntry, PlacesNull, PlacesValues, PlacesEntries, AuditsZero, AuditsField, AnswersZero, AnswersField};
 use dictionary::Checked;
 use dictionary::EntryAt;
-use dictionary::Head;
+use dictionary::Summary;
 use numbers::Position;
 use numbers::Row;
 use refusal::Refusal;
@@ -147,62 +147,52 @@ fn null_among(which: Entries) -> bool
     }
 }
 
-// The entries left in the open block before the first entry: in version 2 a block's number is due.
-fn first_left(head: Head) -> u64
-    ensures { λ r. ⌜ r ≡ firstLeft head ⌝ }
-{
-    if head.two {
-        return 0;
-    }
-    head.count
-}
-
 // Places the rows of one entry, if they are to be placed.
 fn place_entry(
     field: &mut [u8],
     body: &[u8],
-    head: Head,
+    summary: Summary,
     entry: EntryAt,
     t: u32,
     which: Entries,
     literals: &[u8],
 ) -> Outcome
-    requires { ⌜ EntryInside (now body) head entry ⌝ }
-    ensures { λ r. ⌜ PlacesEntry t (now (body .entry)) head entry which (now (literals .entry)) (now (field .entry)) (now (field .exit)) r ⌝ }
+    requires { ⌜ EntryInside (now body) summary entry ⌝ }
+    ensures { λ r. ⌜ PlacesEntry t (now (body .entry)) summary entry which (now (literals .entry)) (now (field .entry)) (now (field .exit)) r ⌝ }
 {
     let start = entry.start.0;
     let end = entry.end.0;
     if !among(which, &body[start..end], literals, t) {
         return Outcome::Done;
     }
-    let region = head.region.0;
+    let region = summary.region.0;
     place_at(
         field,
         &body[region..],
         entry.offset,
         entry.extent,
-        head.rows,
+        summary.rows,
     )
 }
 
 // Places null's rows, if it has an entry and they are to be placed.
-fn place_null(field: &mut [u8], body: &[u8], head: Head, which: Entries) -> Outcome
-    requires { ⌜ head .region .0 ≤ length (now body) ⌝ }
-    ensures { λ r. ⌜ PlacesNull (now (body .entry)) head which (now (field .entry)) (now (field .exit)) r ⌝ }
+fn place_null(field: &mut [u8], body: &[u8], summary: Summary, which: Entries) -> Outcome
+    requires { ⌜ summary .region .0 ≤ length (now body) ⌝ }
+    ensures { λ r. ⌜ PlacesNull (now (body .entry)) summary which (now (field .entry)) (now (field .exit)) r ⌝ }
 {
-    if !head.has_null {
+    if !summary.has_null {
         return Outcome::Done;
     }
     if !null_among(which) {
         return Outcome::Done;
     }
-    let region = head.region.0;
+    let region = summary.region.0;
     place_at(
         field,
         &body[region..],
-        head.null_offset,
-        head.null_extent,
-        head.rows,
+        summary.null_offset,
+        summary.null_extent,
+        summary.rows,
     )
 }
 
@@ -210,25 +200,23 @@ fn place_null(field: &mut [u8], body: &[u8], head: Head, which: Entries) -> Outc
 fn place_values(
     field: &mut [u8],
     body: &[u8],
-    head: Head,
+    summary: Summary,
     t: u32,
     which: Entries,
     literals: &[u8],
 ) -> Outcome
-    requires { ⌜ HasEntries t (now body) head ⌝ }
-    ensures { λ r. ⌜ PlacesValues t (now (body .entry)) head which (now (literals .entry)) (now (field .entry)) (now (field .exit)) r ⌝ }
+    requires { ⌜ IsRead t (now body) summary ⌝ }
+    ensures { λ r. ⌜ PlacesValues t (now (body .entry)) summary which (now (literals .entry)) (now (field .entry)) (now (field .exit)) r ⌝ }
 {
-    let mut at = head.entries;
-    let mut left = first_left(head);
+    let mut cursor = summary.first;
     let mut i: u64 = 0;
-    while i < head.count {
-        let entry = dictionary::next(body, t, head.two, at, left);
-        let placed = place_entry(field, body, head, entry, t, which, literals);
+    while i < summary.values {
+        let entry = dictionary::next(body, t, summary.version2, cursor);
+        let placed = place_entry(field, body, summary, entry, t, which, literals);
         if let Outcome::Refused(r) = placed {
             return Outcome::Refused(r);
         }
-        at = entry.next_at;
-        left = entry.left;
+        cursor = entry.next;
         i += 1;
     }
     Outcome::Done
@@ -238,44 +226,44 @@ fn place_values(
 fn place_entries(
     field: &mut [u8],
     body: &[u8],
-    head: Head,
+    summary: Summary,
     t: u32,
     which: Entries,
     literals: &[u8],
 ) -> Outcome
-    requires { ⌜ HasEntries t (now body) head ⌝ }
-    ensures { λ r. ⌜ PlacesEntries t (now (body .entry)) head which (now (literals .entry)) (now (field .entry)) (now (field .exit)) r ⌝ }
+    requires { ⌜ IsRead t (now body) summary ⌝ }
+    ensures { λ r. ⌜ PlacesEntries t (now (body .entry)) summary which (now (literals .entry)) (now (field .entry)) (now (field .exit)) r ⌝ }
 {
-    let placed = place_null(field, body, head, which);
+    let placed = place_null(field, body, summary, which);
     match placed {
         Outcome::Refused(r) => Outcome::Refused(r),
-        Outcome::Done => place_values(field, body, head, t, which, literals),
+        Outcome::Done => place_values(field, body, summary, t, which, literals),
     }
 }
 
 // Places the rows of every entry in a field that is clear, and tests that no row is missing.
-fn audit_zero(field: &mut [u8], body: &[u8], head: Head, t: u32) -> Audited
-    requires { ⌜ HasEntries t (now body) head ⌝ }
-    ensures { λ r. ⌜ ForDictionary t (now (body .entry)) head (λ d. AuditsZero d (now (field .entry)) (now (field .exit)) r) ⌝ }
+fn audit_zero(field: &mut [u8], body: &[u8], summary: Summary, t: u32) -> Audited
+    requires { ⌜ IsRead t (now body) summary ⌝ }
+    ensures { λ r. ⌜ ForDictionary t (now (body .entry)) summary (λ d. AuditsZero d (now (field .entry)) (now (field .exit)) r) ⌝ }
 {
-    let placed = place_entries(field, body, head, t, Entries::Every, &body[0..0]);
+    let placed = place_entries(field, body, summary, t, Entries::Every, &body[0..0]);
     if let Outcome::Refused(r) = placed {
         return Audited::Refused(r);
     }
-    if row_field::count(field, head.rows) != head.rows {
+    if row_field::count(field, summary.rows) != summary.rows {
         return Audited::Refused(Refusal::Missing);
     }
-    Audited::Rows(head.rows)
+    Audited::Rows(summary.rows)
 }
 
 // Audits the bitmaps of a dictionary in a field that has room, and leaves the field zero.
-fn audit_field(field: &mut [u8], body: &[u8], head: Head, t: u32) -> Audited
-    requires { ⌜ HasEntries t (now body) head ⌝ }
-    ensures { λ r. ⌜ ForDictionary t (now (body .entry)) head (λ d. AuditsField d (now (field .entry)) (now (field .exit)) r) ⌝ }
+fn audit_field(field: &mut [u8], body: &[u8], summary: Summary, t: u32) -> Audited
+    requires { ⌜ IsRead t (now body) summary ⌝ }
+    ensures { λ r. ⌜ ForDictionary t (now (body .entry)) summary (λ d. AuditsField d (now (field .entry)) (now (field .exit)) r) ⌝ }
 {
-    let rows = head.rows;
+    let rows = summary.rows;
     row_field::clear(field, rows);
-    let answer = audit_zero(field, body, head, t);
+    let answer = audit_zero(field, body, summary, t);
     row_field::clear(field, rows);
     answer
 }
@@ -293,11 +281,11 @@ fn prepare(body: &[u8], t: u32, field: &[u8]) -> Checked
     let checked = dictionary::read(body, t);
     match checked {
         Checked::Refused(r) => Checked::Refused(r),
-        Checked::Found(head) => {
-            if !row_field::has_room(field, head.rows) {
+        Checked::Found(summary) => {
+            if !row_field::has_room(field, summary.rows) {
                 return Checked::Refused(Refusal::Room);
             }
-            Checked::Found(head)
+            Checked::Found(summary)
         }
     }
 }
@@ -310,7 +298,7 @@ pub fn audit(body: &[u8], t: u32, field: &mut [u8]) -> Audited
     let prepared = prepare(body, t, field);
     match prepared {
         Checked::Refused(r) => Audited::Refused(r),
-        Checked::Found(head) => audit_field(field, body, head, t),
+        Checked::Found(summary) => audit_field(field, body, summary, t),
     }
 }
 
@@ -359,20 +347,20 @@ fn test_question(body: &[u8], t: u32, question: u32, literals: &[u8]) -> Outcome
 fn answer_zero(
     field: &mut [u8],
     body: &[u8],
-    head: Head,
+    summary: Summary,
     t: u32,
     question: u32,
     literals: &[u8],
 ) -> Answered
-    requires { ⌜ HasEntries t (now body) head ⌝ }
-    ensures { λ r. ⌜ ForDictionary t (now (body .entry)) head (λ d. AnswersZero t question (now (literals .entry)) d (now (field .entry)) (now (field .exit)) r) ⌝ }
+    requires { ⌜ IsRead t (now body) summary ⌝ }
+    ensures { λ r. ⌜ ForDictionary t (now (body .entry)) summary (λ d. AnswersZero t question (now (literals .entry)) d (now (field .entry)) (now (field .exit)) r) ⌝ }
 {
-    let placed = place_entries(field, body, head, t, Entries::Chosen(question), literals);
+    let placed = place_entries(field, body, summary, t, Entries::Chosen(question), literals);
     if let Outcome::Refused(r) = placed {
-        row_field::clear(field, head.rows);
+        row_field::clear(field, summary.rows);
         return Answered::Refused(r);
     }
-    let matched = row_field::count(field, head.rows);
+    let matched = row_field::count(field, summary.rows);
     if matched == 0 {
         return Answered::Skip;
     }
@@ -383,18 +371,18 @@ fn answer_zero(
 fn ask_field(
     field: &mut [u8],
     body: &[u8],
-    head: Head,
+    summary: Summary,
     t: u32,
     question: u32,
     literals: &[u8],
 ) -> Answered
-    requires { ⌜ HasEntries t (now body) head ⌝ }
-    ensures { λ r. ⌜ ForDictionary t (now (body .entry)) head (λ d. AnswersField t question (now (literals .entry)) d (now (field .entry)) (now (field .exit)) r) ⌝ }
+    requires { ⌜ IsRead t (now body) summary ⌝ }
+    ensures { λ r. ⌜ ForDictionary t (now (body .entry)) summary (λ d. AnswersField t question (now (literals .entry)) d (now (field .entry)) (now (field .exit)) r) ⌝ }
 {
-    let audit = audit_field(field, body, head, t);
+    let audit = audit_field(field, body, summary, t);
     match audit {
         Audited::Refused(r) => Answered::Refused(r),
-        Audited::Rows(_) => answer_zero(field, body, head, t, question, literals),
+        Audited::Rows(_) => answer_zero(field, body, summary, t, question, literals),
     }
 }
 
@@ -410,6 +398,6 @@ pub fn ask(body: &[u8], t: u32, question: u32, literals: &[u8], field: &mut [u8]
     let prepared = prepare(body, t, field);
     match prepared {
         Checked::Refused(r) => Answered::Refused(r),
-        Checked::Found(head) => ask_field(field, body, head, t, question, literals),
+        Checked::Found(summary) => ask_field(field, body, summary, t, question, literals),
     }
 }

@@ -1,5 +1,5 @@
 -- `answer_zero` meets its contract: the rows of the chosen entries are counted, and no row says skip.
-use Rattle.bitmap_index.specs.Promises.{dictionaryOf}
+use Rattle.dictionary.specs.Promises.{dictionaryOf}
 use Rattle.bitmap_index.proofs.Asking.{zero-refused, zero-skip, zero-keep}
 use borrow.Author.Needs.{needs}
 use Rattle.bitmap_index.proofs.answer_zero.Statement.{statement}
@@ -8,17 +8,17 @@ use Rattle.bitmap_index.proofs.answer_zero.Tie as tie
 returns : tie.Need-returns
 returns c =
     let a = c .before .before .before .before .before .before .before .before .before .before .before .before .before .before .args in
-    λ es l ls k. zero-refused (a .question) ls (dictionaryOf (a .body .now) (a .head) es) (a .field .now) (c .before .before .before .before .before .before .before .before .before .place-entries .ensures es l ls k) (c .before .before .before .before .before .placed .given .1) (c .before .before .clear .ensures)
+    λ es l ls k. zero-refused (a .question) ls (dictionaryOf (a .body .now) (a .summary) es) (a .field .now) (c .before .before .before .before .before .before .before .before .before .place-entries .ensures es l ls k) (c .before .before .before .before .before .placed .given .1) (c .before .before .clear .ensures)
 
 returns-2 : tie.Need-returns-2
 returns-2 c =
     let a = c .before .before .before .before .before .before .before .before .before .before .before .before .args in
-    λ es l ls k. zero-skip (a .question) ls (dictionaryOf (a .body .now) (a .head) es) (a .field .now) (c .before .before .before .before .before .before .before .place-entries .ensures es l ls k) (c .before .before .before .enum-told .given .1) (c .before .count .ensures) (c .if1 .taken)
+    λ es l ls k. zero-skip (a .question) ls (dictionaryOf (a .body .now) (a .summary) es) (a .field .now) (c .before .before .before .before .before .before .before .place-entries .ensures es l ls k) (c .before .before .before .enum-told .given .1) (c .before .count .ensures) (c .if1 .taken)
 
 returns-3 : tie.Need-returns-3
 returns-3 c =
     let a = c .before .before .before .before .before .before .before .before .before .before .before .before .args in
-    λ es l ls k. zero-keep (a .question) ls (dictionaryOf (a .body .now) (a .head) es) (a .field .now) (c .before .before .before .before .before .before .before .place-entries .ensures es l ls k) (c .before .before .before .enum-told .given .1) (c .before .count .ensures) (c .if1 .left)
+    λ es l ls k. zero-keep (a .question) ls (dictionaryOf (a .body .now) (a .summary) es) (a .field .now) (c .before .before .before .before .before .before .before .place-entries .ensures es l ls k) (c .before .before .before .enum-told .given .1) (c .before .count .ensures) (c .if1 .left)
 
 pub answer-zero-spec : {M : Type 1} → statement M
 answer-zero-spec =

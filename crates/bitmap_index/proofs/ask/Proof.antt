@@ -1,5 +1,5 @@
 -- `ask` meets its contract by its stages: the question, all that comes before the field is written, the audit and the answer.
-use Rattle.bitmap_index.proofs.Auditing.{has-entries}
+use Rattle.bitmap_index.proofs.Auditing.{is-dictionary}
 use Rattle.bitmap_index.proofs.Asking.{ask-refused, ask-unprepared, ask-found}
 use borrow.Author.Needs.{needs}
 use Rattle.bitmap_index.proofs.ask.Statement.{statement}
@@ -13,7 +13,7 @@ returns c =
 ask-field-requires : tie.Need-ask-field-requires
 ask-field-requires c κs =
     let a = c .before .before .before .before .before .before .before .before .before .before .before .before .args in
-    has-entries (a .t) (a .body .now) (a .field .now) (c .before .before .prepared2 .given .1) (c .before .before .before .before .prepare .ensures)
+    is-dictionary (a .t) (a .body .now) (a .field .now) (c .before .before .prepared2 .given .1) (c .before .before .before .before .prepare .ensures)
 
 returns-2 : tie.Need-returns-2
 returns-2 c =

@@ -1,5 +1,5 @@
 -- `audit` meets its contract: a refusal before the field is written leaves it, and all else is `audit_field`'s.
-use Rattle.bitmap_index.proofs.Auditing.{has-entries, audit-refused, audit-found}
+use Rattle.bitmap_index.proofs.Auditing.{is-dictionary, audit-refused, audit-found}
 use borrow.Author.Needs.{needs}
 use Rattle.bitmap_index.proofs.audit.Statement.{statement}
 use Rattle.bitmap_index.proofs.audit.Tie as tie
@@ -7,7 +7,7 @@ use Rattle.bitmap_index.proofs.audit.Tie as tie
 audit-field-requires : tie.Need-audit-field-requires
 audit-field-requires c κs =
     let a = c .before .before .before .before .before .before .before .before .args in
-    has-entries (a .t) (a .body .now) (a .field .now) (c .before .before .prepared2 .given .1) (c .before .before .before .before .prepare .ensures)
+    is-dictionary (a .t) (a .body .now) (a .field .now) (c .before .before .prepared2 .given .1) (c .before .before .before .before .prepare .ensures)
 
 returns : tie.Need-returns
 returns c =

@@ -1,6 +1,6 @@
 -- `audit_field` meets its contract: no byte behind the field has changed, so that the field cleared again is the field cleared at first.
 use Rattle.bitmap_index.proofs.Auditing.{then-zero}
-use Rattle.bitmap_index.specs.Promises.{dictionaryOf}
+use Rattle.dictionary.specs.Promises.{dictionaryOf}
 use borrow.Author.Needs.{needs}
 use Rattle.bitmap_index.proofs.audit_field.Statement.{statement}
 use Rattle.bitmap_index.proofs.audit_field.Tie as tie
@@ -8,7 +8,7 @@ use Rattle.bitmap_index.proofs.audit_field.Tie as tie
 returns : tie.Need-returns
 returns c =
     let a = c .before .before .before .before .before .before .before .before .before .before .before .before .before .before .args in
-    λ es l. then-zero (dictionaryOf (a .body .now) (a .head) es) (a .field .now) (c .before .before .before .before .before .before .audit-zero .last .0) (c .before .before .before .before .before .before .before .before .before .before .clear .ensures) (c .before .before .before .before .before .before .audit-zero .ensures es l) (c .before .before .clear2 .ensures)
+    λ es l. then-zero (dictionaryOf (a .body .now) (a .summary) es) (a .field .now) (c .before .before .before .before .before .before .audit-zero .last .0) (c .before .before .before .before .before .before .before .before .before .before .clear .ensures) (c .before .before .before .before .before .before .audit-zero .ensures es l) (c .before .before .clear2 .ensures)
 
 pub audit-field-spec : {M : Type 1} → statement M
 audit-field-spec =

@@ -1,6 +1,6 @@
 -- `audit_zero` meets its contract: the rows of every entry are placed, and a count other than the row count is MISSING.
 use mathlib.Core.List.{[]}
-use Rattle.bitmap_index.specs.Promises.{dictionaryOf}
+use Rattle.dictionary.specs.Promises.{dictionaryOf}
 use Rattle.bitmap_index.proofs.Auditing.{no-literals, zero-refused, zero-missing, zero-full}
 use borrow.Author.Needs.{needs}
 use Rattle.bitmap_index.proofs.audit_zero.Statement.{statement}
@@ -9,17 +9,17 @@ use Rattle.bitmap_index.proofs.audit_zero.Tie as tie
 returns : tie.Need-returns
 returns c =
     let a = c .before .before .before .before .before .before .before .before .before .before .args in
-    λ es l. zero-refused (dictionaryOf (a .body .now) (a .head) es) (a .field .now) (c .before .before .before .before .before .place-entries .ensures es l [] (no-literals (a .t))) (c .before .placed .given .1)
+    λ es l. zero-refused (dictionaryOf (a .body .now) (a .summary) es) (a .field .now) (c .before .before .before .before .before .place-entries .ensures es l [] (no-literals (a .t))) (c .before .placed .given .1)
 
 returns-2 : tie.Need-returns-2
 returns-2 c =
     let a = c .before .before .before .before .before .before .before .before .before .before .before .before .before .args in
-    λ es l. zero-missing (dictionaryOf (a .body .now) (a .head) es) (a .field .now) (c .before .before .before .before .before .before .before .before .place-entries .ensures es l [] (no-literals (a .t))) (c .before .before .before .before .enum-told .given .1) (c .before .before .count .ensures) (c .if1 .taken)
+    λ es l. zero-missing (dictionaryOf (a .body .now) (a .summary) es) (a .field .now) (c .before .before .before .before .before .before .before .before .place-entries .ensures es l [] (no-literals (a .t))) (c .before .before .before .before .enum-told .given .1) (c .before .before .count .ensures) (c .if1 .taken)
 
 returns-3 : tie.Need-returns-3
 returns-3 c =
     let a = c .before .before .before .before .before .before .before .before .before .before .before .before .before .args in
-    λ es l. zero-full (dictionaryOf (a .body .now) (a .head) es) (a .field .now) (c .before .before .before .before .before .before .before .before .place-entries .ensures es l [] (no-literals (a .t))) (c .before .before .before .before .enum-told .given .1) (c .before .before .count .ensures) (c .if1 .left)
+    λ es l. zero-full (dictionaryOf (a .body .now) (a .summary) es) (a .field .now) (c .before .before .before .before .before .before .before .before .place-entries .ensures es l [] (no-literals (a .t))) (c .before .before .before .before .enum-told .given .1) (c .before .before .count .ensures) (c .if1 .left)
 
 pub audit-zero-spec : {M : Type 1} → statement M
 audit-zero-spec =

@@ -5,17 +5,17 @@ use Rattle.bitmap_index.proofs.place_entries.Statement.{statement}
 use Rattle.bitmap_index.proofs.place_entries.Tie as tie
 
 place-null-requires : tie.Need-place-null-requires
-place-null-requires c κs = c .before .before .before .before .pre .stand .region
+place-null-requires c κs = c .before .before .before .before .pre .summary .region
 
 returns : tie.Need-returns
 returns c =
     let a = c .before .before .before .before .before .before .before .before .before .before .args in
-    λ es l ls k. null-refused (a .head) (a .body .now) (a .which) ls es (a .field .now) (c .before .before .before .before .before .place-null .ensures ls) (c .before .placed .given .1)
+    λ es l ls k. null-refused (a .summary) (a .body .now) (a .which) ls es (a .field .now) (c .before .before .before .before .before .place-null .ensures ls) (c .before .placed .given .1)
 
 returns-2 : tie.Need-returns-2
 returns-2 c =
     let a = c .before .before .before .before .before .before .before .before .before .before .before .before .before .args in
-    λ es l ls k. null-then (a .head) (a .body .now) (a .which) ls es (a .field .now) (c .before .before .before .before .before .before .before .before .place-null .ensures ls) (c .before .before .before .before .enum-told .given .1) (c .before .before .place-values .ensures es l ls k)
+    λ es l ls k. null-then (a .summary) (a .body .now) (a .which) ls es (a .field .now) (c .before .before .before .before .before .before .before .before .place-null .ensures ls) (c .before .before .before .before .enum-told .given .1) (c .before .before .place-values .ensures es l ls k)
 
 pub place-entries-spec : {M : Type 1} → statement M
 place-entries-spec =

@@ -11,12 +11,12 @@ use Rattle.bitmap_index.proofs.place_entry.Tie as tie
 returns : tie.Need-returns
 returns c =
     let a = c .before .before .before .before .before .before .args in
-    λ ls h. not-among (a .head .rows) (drop (a .head .region .0) (a .body .now)) (a .which) ls (entryAt (a .body .now) (a .entry)) (a .field .now) (c .before .among .ensures ls h) (not-true _ (c .if1 .taken))
+    λ ls h. not-among (a .summary .rows) (drop (a .summary .region .0) (a .body .now)) (a .which) ls (entryAt (a .body .now) (a .entry)) (a .field .now) (c .before .among .ensures ls h) (not-true _ (c .if1 .taken))
 
 returns-2 : tie.Need-returns-2
 returns-2 c =
     let a = c .before .before .before .before .before .before .before .before .before .before .before .before .args in
-    λ ls h. is-among (a .head .rows) (drop (a .head .region .0) (a .body .now)) (a .which) ls (entryAt (a .body .now) (a .entry)) (a .field .now) (c .before .before .before .before .before .before .before .among .ensures ls h) (not-false _ (c .before .before .before .before .before .before .if1 .left)) (rw (to-end (a .head .region .0) (a .body .now)) at (c .before .before .place-at .ensures))
+    λ ls h. is-among (a .summary .rows) (drop (a .summary .region .0) (a .body .now)) (a .which) ls (entryAt (a .body .now) (a .entry)) (a .field .now) (c .before .before .before .before .before .before .before .among .ensures ls h) (not-false _ (c .before .before .before .before .before .before .if1 .left)) (rw (to-end (a .summary .region .0) (a .body .now)) at (c .before .before .place-at .ensures))
 
 pub place-entry-spec : {M : Type 1} → statement M
 place-entry-spec =

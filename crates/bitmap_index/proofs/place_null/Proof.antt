@@ -9,17 +9,17 @@ use Rattle.bitmap_index.proofs.place_null.Tie as tie
 returns : tie.Need-returns
 returns c =
     let a = c .before .before .before .before .args in
-    λ ls. no-null (a .head) (a .body .now) (a .which) ls (a .field .now) (not-true _ (c .if1 .taken))
+    λ ls. no-null (a .summary) (a .body .now) (a .which) ls (a .field .now) (not-true _ (c .if1 .taken))
 
 returns-2 : tie.Need-returns-2
 returns-2 c =
     let a = c .before .before .before .before .before .before .args in
-    λ ls. null-not-among (a .head) (a .body .now) (a .which) ls (a .field .now) (not-false _ (c .before .before .if1 .left)) (c .before .null-among .ensures ls) (not-true _ (c .if2 .taken))
+    λ ls. null-not-among (a .summary) (a .body .now) (a .which) ls (a .field .now) (not-false _ (c .before .before .if1 .left)) (c .before .null-among .ensures ls) (not-true _ (c .if2 .taken))
 
 returns-3 : tie.Need-returns-3
 returns-3 c =
     let a = c .before .before .before .before .before .before .before .before .before .before .before .before .args in
-    λ ls. null-is-among (a .head) (a .body .now) (a .which) ls (a .field .now) (not-false _ (c .before .before .before .before .before .before .before .before .if1 .left)) (c .before .before .before .before .before .before .before .null-among .ensures ls) (not-false _ (c .before .before .before .before .before .before .if2 .left)) (rw (to-end (a .head .region .0) (a .body .now)) at (c .before .before .place-at .ensures))
+    λ ls. null-is-among (a .summary) (a .body .now) (a .which) ls (a .field .now) (not-false _ (c .before .before .before .before .before .before .before .before .if1 .left)) (c .before .before .before .before .before .before .before .null-among .ensures ls) (not-false _ (c .before .before .before .before .before .before .if2 .left)) (rw (to-end (a .summary .region .0) (a .body .now)) at (c .before .before .place-at .ensures))
 
 pub place-null-spec : {M : Type 1} → statement M
 place-null-spec =
