@@ -304,7 +304,7 @@ entries o r c = record { null-only = o; rows = r; covers = c }
 
 module _ (t : ℕ) (field : List ℕ) (k : t < 12) where
   one-body : (rows : ℕ) (nulls es : List Entry) (region : List ℕ) → Distinct t es → NullOnly nulls → layout.NoExtents (nulls ++ es) → Patterns (nulls ++ es)
-      → rows ≤ limit → length es ≤ 4096 → length (layout.body1 rows nulls es region) ≤ limit → Bytes region
+      → rows ≤ limit → length es ≤ layout.mostValues1 → length (layout.body1 rows nulls es region) ≤ limit → Bytes region
       → AllRowsPlaced field (record { rows = rows; entries = nulls ++ es; region = region }) → ColumnBody t (columnOf region (nulls ++ es) rows) (layout.body1 rows nulls es region)
   one-body rows nulls es region d o x p hr l z b w =
       let all : List Entry = nulls ++ es in
@@ -316,7 +316,7 @@ module _ (t : ℕ) (field : List ℕ) (k : t < 12) where
       (version1 nulls es region (k, typed) (entries o (filled-placed rows all region field b p once w) (filled-covers rows all region field b p once w)) x d (rw e hr) l z)
 
   two-body : (rows : ℕ) (nulls : List Entry) (bs : List (List Entry)) (region : List ℕ) → NullOnly nulls → layout.NoneEmpty bs → layout.Rises t null (joined bs)
-      → Patterns (nulls ++ joined bs) → rows ≤ limit → length (joined bs) ≤ 65536 → length bs ≤ 65536
+      → Patterns (nulls ++ joined bs) → rows ≤ limit → length (joined bs) ≤ layout.mostValues2 → length bs ≤ layout.mostBlocks
       → length (layout.body2 rows nulls bs region) ≤ limit → Bytes region
       → AllRowsPlaced field (record { rows = rows; entries = nulls ++ joined bs; region = region })
       → ColumnBody t (columnOf region (nulls ++ joined bs) rows) (layout.body2 rows nulls bs region)

@@ -30,7 +30,7 @@ use Rattle.refusal.specs.Reading.{Out, refuse, ok, andThen}
 use Rattle.stored_value.specs.Reading.{literals}
 use Rattle.dictionary.specs.Layout.{Entry}
 use Rattle.dictionary.specs.Reading.{Dictionary, dictionary}
-use Rattle.bitmap_index.specs.Meaning.{takes}
+use Rattle.bitmap_index.specs.Meaning.{questions, takes}
 use Rattle.bitmap_index.specs.Layout.{EntryRows, single, bitmap}
 use Rattle.bitmap_index.specs.Reading.{extentOf, placeBitmap, placeAt, placeEntry, placeEntries, roomFor, prepared, audited, audit, wellFormed, Answer, auditedAnswer, ask}
 
@@ -186,7 +186,7 @@ audit-passed t body field n e =
 -- ---- a question that was answered, taken apart
 
 pub asked-back : (t q : ℕ) (literal body : List ℕ) (ls : List (List ℕ)) → wellFormed t q literal body ≡ ok ls
-    → (length body ≤ limit) × (t < 12) × (q < 6) × (literals t 1024 [] literal ≡ ok ls) × (takes q (length ls) ≡ true)
+    → (length body ≤ limit) × (t < 12) × (q < questions) × (literals t 1024 [] literal ≡ ok ls) × (takes q (length ls) ≡ true)
 unfolding wellFormed
 asked-back t q literal body ls e =
     let (short, names) = check-ok _ _ _ ls e in
@@ -196,7 +196,7 @@ asked-back t q literal body ls e =
     let i : ls′ ≡ ls = cc in
     let s = and-both _ _ short in
     let k = and-both _ _ known in
-    (leb-true (length body) limit (s .0), ltb-true t 12 (k .0), ltb-true q 6 (k .1), read ∙ ap ok i, rw i at takes)
+    (leb-true (length body) limit (s .0), ltb-true t 12 (k .0), ltb-true q questions (k .1), read ∙ ap ok i, rw i at takes)
 
 audit-joined : (t : ℕ) (body field : List ℕ) (d : Dictionary) (n : ℕ) → prepared t body field ≡ ok d → audited d (cleared (d .rows) field) ≡ ok n → audit t body field ≡ ok n
 unfolding audit andThen

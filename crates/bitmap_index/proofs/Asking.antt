@@ -20,7 +20,7 @@ use Rattle.dictionary.specs.declared.Checked.{Checked}
 use Rattle.dictionary.specs.declared.Checked.the-variants.{Found}
 use Rattle.dictionary.specs.declared.Summary.{Summary}
 use Rattle.dictionary.specs.Reading.{Dictionary}
-use Rattle.bitmap_index.specs.Meaning.{takes, keeps}
+use Rattle.bitmap_index.specs.Meaning.{questions, takes, keeps}
 use Rattle.bitmap_index.specs.Reading.{placeEntries, prepared, audited, zeroedFrom, Answer, answered, auditedAnswer, wellFormed, ask, answerBuffer, askBuffer, auditedBy, answeredBy, askOut, askNumbers}
 use Rattle.bitmap_index.specs.declared.Audited.{Audited}
 use Rattle.bitmap_index.specs.declared.Audited.the-variants.{Rows}
@@ -73,14 +73,14 @@ module _ (t q : ℕ) (s body : List ℕ) where
       unknown-type h = rw (le-leb (length body) limit l, le-leb (length s) limit m, le-ltb t 12 h)
 
       module _ (k : t < 12) where
-        pub unknown-question : 6 ≤ q → wellFormed t q s body ≡ refuse Literal
+        pub unknown-question : questions ≤ q → wellFormed t q s body ≡ refuse Literal
         unfolding wellFormed check
-        unknown-question h = rw (le-leb (length body) limit l, le-leb (length s) limit m, lt-ltb t 12 k, le-ltb q 6 h)
+        unknown-question h = rw (le-leb (length body) limit l, le-leb (length s) limit m, lt-ltb t 12 k, le-ltb q questions h)
 
-        module _ (g : q < 6) {c : Counted} (o : c ≡ countedBy (literals t 1024 [] s)) where
+        module _ (g : q < questions) {c : Counted} (o : c ≡ countedBy (literals t 1024 [] s)) where
           in-literals : wellFormed t q s body ≡ andThen (literals t 1024 [] s) (λ ls. check (takes q (length ls)) Literal (ok ls))
           unfolding wellFormed check
-          in-literals = rw (le-leb (length body) limit l, le-leb (length s) limit m, lt-ltb t 12 k, lt-ltb q 6 g)
+          in-literals = rw (le-leb (length body) limit l, le-leb (length s) limit m, lt-ltb t 12 k, lt-ltb q questions g)
 
           pub misfit : {r : Refusal} → c ≡ Counted.Refused r → wellFormed t q s body ≡ refuse r
           unfolding andThen

@@ -9,6 +9,7 @@ use lib.ListN.{length, getD, length-append}
 use Rattle.numbers.specs.Meaning.{be, big, joined, Bytes}
 use Rattle.numbers.proofs.Laws.{length-spelled}
 use Rattle.refusal.specs.Meaning.{limit}
+use Rattle.roaring.specs.Layout.{fourBytes}
 use Rattle.row_field.specs.Meaning.{size, cleared}
 use Rattle.stored_value.specs.Meaning.{Cell, widths, width, Value, number, string, Literals}
 use Rattle.refusal.specs.Reading.{ok, check, andThen}
@@ -16,7 +17,7 @@ use Rattle.stored_value.proofs.Laws.{literals-laid}
 use Rattle.dictionary.specs.Promises.{Patterns}
 use Rattle.dictionary.specs.Layout.{Entry, entries1, null1, body1, blocks, directory, null2, body2}
 use Rattle.dictionary.specs.Reading.{dictionary}
-use Rattle.bitmap_index.specs.Meaning.{Question}
+use Rattle.bitmap_index.specs.Meaning.{questions, Question}
 use Rattle.bitmap_index.specs.Layout.{EntryRows, single, bitmap, ExactRows}
 use Rattle.bitmap_index.specs.Reading.{roomFor, prepared, audit, zeroedFrom, auditBuffer, wellFormed, ask, answerBuffer, askBuffer, auditedAnswer}
 use Rattle.bitmap_index.specs.Claims.{scanAnswer, AnswersAsScan}
@@ -51,7 +52,7 @@ asked-well : (t q : ℕ) (ls : List (List ℕ)) (body : List ℕ) → length bod
 unfolding wellFormed check andThen
 asked-well t q ls body h w =
     let l : length (joined ls) ≤ limit = omega (arith, literals-at-most t ls (w .3), w .2) in
-    rw (le-leb (length body) limit h, le-leb (length (joined ls)) limit l, lt-ltb t 12 (w .0), lt-ltb q 6 (w .1), literals-laid t ls (w .3) (w .0) (w .2), w .4)
+    rw (le-leb (length body) limit h, le-leb (length (joined ls)) limit l, lt-ltb t 12 (w .0), lt-ltb q questions (w .1), literals-laid t ls (w .3) (w .0) (w .2), w .4)
 
 module _ (t : ℕ) (cells : List Cell) (es : List Entry) (region body field : List ℕ) (k : t < 12) (s : length body ≤ limit)
     (d : dictionary t body ≡ ok (record { rows = length cells; entries = es; region = region })) (w : Whole cells es region) (b : Bytes field) (h : size (length cells) ≤ length field) where
@@ -81,7 +82,7 @@ module _ (t : ℕ) (cells : List Cell) (es : List Entry) (region body field : Li
 
 -- ---- the bodies of a column
 
-placed-patterns : (region rows : List ℕ) (e : Entry) → length region ≤ limit → EntryRows region rows e → (e .offset < 4294967296) × (e .extent < 4294967296)
+placed-patterns : (region rows : List ℕ) (e : Entry) → length region ≤ limit → EntryRows region rows e → (e .offset < fourBytes) × (e .extent < fourBytes)
 placed-patterns region rows e l (single r q h o x) = (omega arith, x)
 placed-patterns region rows e l (bitmap before bytes behind q m o x) =
     let k = simp length-append at (ap length q) in

@@ -8,9 +8,9 @@ use mathlib.Core.List.{List, [], _∷_, _++_}
 use lib.ListN.{length}
 use Rattle.numbers.specs.Meaning.{All, joined, minusOne, signBit}
 use Rattle.refusal.specs.Meaning.{limit}
-use Rattle.roaring.specs.Layout.{Bitmap}
+use Rattle.roaring.specs.Layout.{fourBytes, Bitmap}
 use Rattle.stored_value.specs.Meaning.{Cell, null, sameCell}
-use Rattle.dictionary.specs.Layout.{Entry, NullOnly, someHas, Distinct, NoExtents, body1, Rises, NoneEmpty, body2}
+use Rattle.dictionary.specs.Layout.{Entry, NullOnly, someHas, Distinct, NoExtents, body1, Rises, NoneEmpty, body2, mostValues1, mostValues2, mostBlocks}
 use Rattle.bitmap_index.specs.Meaning.{Column}
 
 -- the rows, from r on, whose cell is c
@@ -22,7 +22,7 @@ rowsWith c r (d ∷ cells) = cond (sameCell c d) (r ∷ rowsWith c (r + 1) cells
 -- behind it, its extent -1 or exactly its length
 
 pub data EntryRows (region rows : List ℕ) (e : Entry) : Type 0 where
-  single : (r : ℕ) → rows ≡ r ∷ [] → r < signBit → e .offset ≡ minusOne - r → e .extent < 4294967296 → EntryRows region rows e
+  single : (r : ℕ) → rows ≡ r ∷ [] → r < signBit → e .offset ≡ minusOne - r → e .extent < fourBytes → EntryRows region rows e
   bitmap : (before bytes behind : List ℕ) → region ≡ before ++ (bytes ++ behind) → Bitmap rows bytes → e .offset ≡ length before
       → (e .extent ≡ minusOne) ⊎ (e .extent ≡ length bytes) → EntryRows region rows e
 
@@ -44,8 +44,8 @@ pub record ColumnEntries (cells : List Cell) (region : List ℕ) (nulls es : Lis
 
 pub data ColumnBody (t : ℕ) (cells : List Cell) : List ℕ → Type 0 where
   version1 : (nulls es : List Entry) (region : List ℕ) → Column t cells → ColumnEntries cells region nulls es → NoExtents (nulls ++ es) → Distinct t es
-      → length cells ≤ limit → length es ≤ 4096 → length (body1 (length cells) nulls es region) ≤ limit
+      → length cells ≤ limit → length es ≤ mostValues1 → length (body1 (length cells) nulls es region) ≤ limit
       → ColumnBody t cells (body1 (length cells) nulls es region)
   version2 : (nulls : List Entry) (bs : List (List Entry)) (region : List ℕ) → Column t cells → ColumnEntries cells region nulls (joined bs) → NoneEmpty bs → Rises t null (joined bs)
-      → length cells ≤ limit → length (joined bs) ≤ 65536 → length bs ≤ 65536 → length (body2 (length cells) nulls bs region) ≤ limit
+      → length cells ≤ limit → length (joined bs) ≤ mostValues2 → length bs ≤ mostBlocks → length (body2 (length cells) nulls bs region) ≤ limit
       → ColumnBody t cells (body2 (length cells) nulls bs region)

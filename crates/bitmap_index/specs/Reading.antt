@@ -21,7 +21,7 @@ use Rattle.bitmap_index.specs.declared.Audited.{Audited}
 use Rattle.bitmap_index.specs.declared.Audited.the-variants.{Rows}
 use Rattle.bitmap_index.specs.declared.Answered.{Answered}
 use Rattle.bitmap_index.specs.declared.Answered.the-variants.{Skip, Keep}
-use Rattle.bitmap_index.specs.Meaning.{chosen, takes, keeps}
+use Rattle.bitmap_index.specs.Meaning.{questions, chosen, takes, keeps}
 
 -- ---- the bitmaps
 
@@ -94,7 +94,7 @@ auditedAnswer q ls d zero = andThen (audited d zero) (λ rows. answered q ls d z
 -- the limits, the type and the question, then the literals and their number: whether the question is well-formed
 unfoldable pub wellFormed : ℕ → ℕ → List ℕ → List ℕ → Out Refusal (List (List ℕ))
 wellFormed t q literal body =
-    check (leb (length body) limit && leb (length literal) limit) Limit (check (ltb t 12 && ltb q 6) Literal
+    check (leb (length body) limit && leb (length literal) limit) Limit (check (ltb t 12 && ltb q questions) Literal
     (andThen (literals t 1024 [] literal) (λ ls. check (takes q (length ls)) Literal (ok ls))))
 
 unfoldable pub ask : ℕ → ℕ → List ℕ → List ℕ → List ℕ → Out Refusal Answer

@@ -7,18 +7,24 @@ use Rattle.bitmap_index.proofs.answer_zero.Tie as tie
 
 returns : tie.Need-returns
 returns c =
-    let a = c .before .before .before .before .before .before .before .before .before .before .before .before .before .before .args in
-    λ es l ls k. zero-refused (a .question) ls (dictionaryOf (a .body .now) (a .summary) es) (a .field .now) (c .before .before .before .before .before .before .before .before .before .place-entries .ensures es l ls k) (c .before .before .before .before .before .placed .given .1) (c .before .before .clear .ensures)
+    let at-placed = c .before .before .before .before .before in
+    let at-place-entries = at-placed .before .before .before .before in
+    let a = at-place-entries .before .before .before .before .before .args in
+    λ es l ls k. zero-refused (a .question) ls (dictionaryOf (a .body .now) (a .summary) es) (a .field .now) (at-place-entries .place-entries .ensures es l ls k) (at-placed .placed .given .1) (c .before .before .clear .ensures)
 
 returns-2 : tie.Need-returns-2
 returns-2 c =
-    let a = c .before .before .before .before .before .before .before .before .before .before .before .before .args in
-    λ es l ls k. zero-skip (a .question) ls (dictionaryOf (a .body .now) (a .summary) es) (a .field .now) (c .before .before .before .before .before .before .before .place-entries .ensures es l ls k) (c .before .before .before .enum-told .given .1) (c .before .count .ensures) (c .if1 .taken)
+    let at-enum-told = c .before .before .before in
+    let at-place-entries = at-enum-told .before .before .before .before in
+    let a = at-place-entries .before .before .before .before .before .args in
+    λ es l ls k. zero-skip (a .question) ls (dictionaryOf (a .body .now) (a .summary) es) (a .field .now) (at-place-entries .place-entries .ensures es l ls k) (at-enum-told .enum-told .given .1) (c .before .count .ensures) (c .if1 .taken)
 
 returns-3 : tie.Need-returns-3
 returns-3 c =
-    let a = c .before .before .before .before .before .before .before .before .before .before .before .before .args in
-    λ es l ls k. zero-keep (a .question) ls (dictionaryOf (a .body .now) (a .summary) es) (a .field .now) (c .before .before .before .before .before .before .before .place-entries .ensures es l ls k) (c .before .before .before .enum-told .given .1) (c .before .count .ensures) (c .if1 .left)
+    let at-enum-told = c .before .before .before in
+    let at-place-entries = at-enum-told .before .before .before .before in
+    let a = at-place-entries .before .before .before .before .before .args in
+    λ es l ls k. zero-keep (a .question) ls (dictionaryOf (a .body .now) (a .summary) es) (a .field .now) (at-place-entries .place-entries .ensures es l ls k) (at-enum-told .enum-told .given .1) (c .before .count .ensures) (c .if1 .left)
 
 pub answer-zero-spec : {M : Type 1} → statement M
 answer-zero-spec =

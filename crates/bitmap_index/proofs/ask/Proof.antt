@@ -12,18 +12,27 @@ returns c =
 
 ask-field-requires : tie.Need-ask-field-requires
 ask-field-requires c κs =
-    let a = c .before .before .before .before .before .before .before .before .before .before .before .before .args in
-    is-dictionary (a .t) (a .body .now) (a .field .now) (c .before .before .prepared2 .given .1) (c .before .before .before .before .prepare .ensures)
+    let at-prepare = c .before .before .before .before in
+    let at-question = at-prepare .before .before .before .before in
+    let a = at-question .before .before .before .before .args in
+    is-dictionary (a .t) (a .body .now) (a .field .now) (c .before .before .prepared2 .given .1) (at-prepare .prepare .ensures)
 
 returns-2 : tie.Need-returns-2
 returns-2 c =
-    let a = c .before .before .before .before .before .before .before .before .before .before .before .args in
-    ask-unprepared (a .t) (a .question) (a .literals .now) (a .body .now) (a .field .now) (c .before .before .before .before .before .enum-told .given .1) (c .before .before .before .before .before .before .before .test-question .ensures) (c .before .prepared .given .1) (c .before .before .before .prepare .ensures)
+    let at-prepare = c .before .before .before in
+    let at-enum-told = at-prepare .before .before in
+    let at-test-question = at-enum-told .before .before in
+    let a = at-test-question .before .before .before .before .args in
+    ask-unprepared (a .t) (a .question) (a .literals .now) (a .body .now) (a .field .now) (at-enum-told .enum-told .given .1) (at-test-question .test-question .ensures) (c .before .prepared .given .1) (at-prepare .prepare .ensures)
 
 returns-3 : tie.Need-returns-3
 returns-3 c =
-    let a = c .before .before .before .before .before .before .before .before .before .before .before .before .before .before .before .args in
-    ask-found (a .t) (a .question) (a .literals .now) (a .body .now) (a .field .now) (c .before .before .before .before .before .before .before .before .before .enum-told .given .1) (c .before .before .before .before .before .before .before .before .before .before .before .test-question .ensures) (c .before .before .before .before .before .prepared2 .given .1) (c .before .before .before .before .before .before .before .prepare .ensures) (c .before .before .ask-field .ensures)
+    let at-prepared = c .before .before .before .before .before in
+    let at-prepare = at-prepared .before .before in
+    let at-enum-told = at-prepare .before .before in
+    let at-test-question = at-enum-told .before .before in
+    let a = at-test-question .before .before .before .before .args in
+    ask-found (a .t) (a .question) (a .literals .now) (a .body .now) (a .field .now) (at-enum-told .enum-told .given .1) (at-test-question .test-question .ensures) (at-prepared .prepared2 .given .1) (at-prepare .prepare .ensures) (c .before .before .ask-field .ensures)
 
 pub ask-spec : {M : Type 1} → statement M
 ask-spec =

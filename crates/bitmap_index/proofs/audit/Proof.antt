@@ -6,8 +6,9 @@ use Rattle.bitmap_index.proofs.audit.Tie as tie
 
 audit-field-requires : tie.Need-audit-field-requires
 audit-field-requires c κs =
-    let a = c .before .before .before .before .before .before .before .before .args in
-    is-dictionary (a .t) (a .body .now) (a .field .now) (c .before .before .prepared2 .given .1) (c .before .before .before .before .prepare .ensures)
+    let at-prepare = c .before .before .before .before in
+    let a = at-prepare .before .before .before .before .args in
+    is-dictionary (a .t) (a .body .now) (a .field .now) (c .before .before .prepared2 .given .1) (at-prepare .prepare .ensures)
 
 returns : tie.Need-returns
 returns c =
@@ -16,8 +17,10 @@ returns c =
 
 returns-2 : tie.Need-returns-2
 returns-2 c =
-    let a = c .before .before .before .before .before .before .before .before .before .before .before .args in
-    audit-found (a .t) (a .body .now) (a .field .now) (c .before .before .before .before .before .prepared2 .given .1) (c .before .before .before .before .before .before .before .prepare .ensures) (c .before .before .audit-field .ensures)
+    let at-prepared = c .before .before .before .before .before in
+    let at-prepare = at-prepared .before .before in
+    let a = at-prepare .before .before .before .before .args in
+    audit-found (a .t) (a .body .now) (a .field .now) (at-prepared .prepared2 .given .1) (at-prepare .prepare .ensures) (c .before .before .audit-field .ensures)
 
 pub audit-spec : {M : Type 1} → statement M
 audit-spec =

@@ -8,18 +8,23 @@ use Rattle.bitmap_index.proofs.audit_zero.Tie as tie
 
 returns : tie.Need-returns
 returns c =
-    let a = c .before .before .before .before .before .before .before .before .before .before .args in
-    λ es l. zero-refused (dictionaryOf (a .body .now) (a .summary) es) (a .field .now) (c .before .before .before .before .before .place-entries .ensures es l [] (no-literals (a .t))) (c .before .placed .given .1)
+    let at-place-entries = c .before .before .before .before .before in
+    let a = at-place-entries .before .before .before .before .before .args in
+    λ es l. zero-refused (dictionaryOf (a .body .now) (a .summary) es) (a .field .now) (at-place-entries .place-entries .ensures es l [] (no-literals (a .t))) (c .before .placed .given .1)
 
 returns-2 : tie.Need-returns-2
 returns-2 c =
-    let a = c .before .before .before .before .before .before .before .before .before .before .before .before .before .args in
-    λ es l. zero-missing (dictionaryOf (a .body .now) (a .summary) es) (a .field .now) (c .before .before .before .before .before .before .before .before .place-entries .ensures es l [] (no-literals (a .t))) (c .before .before .before .before .enum-told .given .1) (c .before .before .count .ensures) (c .if1 .taken)
+    let at-enum-told = c .before .before .before .before in
+    let at-place-entries = at-enum-told .before .before .before .before in
+    let a = at-place-entries .before .before .before .before .before .args in
+    λ es l. zero-missing (dictionaryOf (a .body .now) (a .summary) es) (a .field .now) (at-place-entries .place-entries .ensures es l [] (no-literals (a .t))) (at-enum-told .enum-told .given .1) (c .before .before .count .ensures) (c .if1 .taken)
 
 returns-3 : tie.Need-returns-3
 returns-3 c =
-    let a = c .before .before .before .before .before .before .before .before .before .before .before .before .before .args in
-    λ es l. zero-full (dictionaryOf (a .body .now) (a .summary) es) (a .field .now) (c .before .before .before .before .before .before .before .before .place-entries .ensures es l [] (no-literals (a .t))) (c .before .before .before .before .enum-told .given .1) (c .before .before .count .ensures) (c .if1 .left)
+    let at-enum-told = c .before .before .before .before in
+    let at-place-entries = at-enum-told .before .before .before .before in
+    let a = at-place-entries .before .before .before .before .before .args in
+    λ es l. zero-full (dictionaryOf (a .body .now) (a .summary) es) (a .field .now) (at-place-entries .place-entries .ensures es l [] (no-literals (a .t))) (at-enum-told .enum-told .given .1) (c .before .before .count .ensures) (c .if1 .left)
 
 pub audit-zero-spec : {M : Type 1} → statement M
 audit-zero-spec =

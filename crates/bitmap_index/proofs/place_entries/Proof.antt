@@ -9,13 +9,16 @@ place-null-requires c κs = c .before .before .before .before .pre .summary .reg
 
 returns : tie.Need-returns
 returns c =
-    let a = c .before .before .before .before .before .before .before .before .before .before .args in
-    λ es l ls k. null-refused (a .summary) (a .body .now) (a .which) ls es (a .field .now) (c .before .before .before .before .before .place-null .ensures ls) (c .before .placed .given .1)
+    let at-place-null = c .before .before .before .before .before in
+    let a = at-place-null .before .before .before .before .before .args in
+    λ es l ls k. null-refused (a .summary) (a .body .now) (a .which) ls es (a .field .now) (at-place-null .place-null .ensures ls) (c .before .placed .given .1)
 
 returns-2 : tie.Need-returns-2
 returns-2 c =
-    let a = c .before .before .before .before .before .before .before .before .before .before .before .before .before .args in
-    λ es l ls k. null-then (a .summary) (a .body .now) (a .which) ls es (a .field .now) (c .before .before .before .before .before .before .before .before .place-null .ensures ls) (c .before .before .before .before .enum-told .given .1) (c .before .before .place-values .ensures es l ls k)
+    let at-enum-told = c .before .before .before .before in
+    let at-place-null = at-enum-told .before .before .before .before in
+    let a = at-place-null .before .before .before .before .before .args in
+    λ es l ls k. null-then (a .summary) (a .body .now) (a .which) ls es (a .field .now) (at-place-null .place-null .ensures ls) (at-enum-told .enum-told .given .1) (c .before .before .place-values .ensures es l ls k)
 
 pub place-entries-spec : {M : Type 1} → statement M
 place-entries-spec =

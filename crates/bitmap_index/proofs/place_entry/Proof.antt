@@ -15,8 +15,10 @@ returns c =
 
 returns-2 : tie.Need-returns-2
 returns-2 c =
-    let a = c .before .before .before .before .before .before .before .before .before .before .before .before .args in
-    λ ls h. is-among (a .summary .rows) (drop (a .summary .region .0) (a .body .now)) (a .which) ls (entryAt (a .body .now) (a .entry)) (a .field .now) (c .before .before .before .before .before .before .before .among .ensures ls h) (not-false _ (c .before .before .before .before .before .before .if1 .left)) (rw (to-end (a .summary .region .0) (a .body .now)) at (c .before .before .place-at .ensures))
+    let at-if1 = c .before .before .before .before .before .before in
+    let at-among = at-if1 .before in
+    let a = at-among .before .before .before .before .before .args in
+    λ ls h. is-among (a .summary .rows) (drop (a .summary .region .0) (a .body .now)) (a .which) ls (entryAt (a .body .now) (a .entry)) (a .field .now) (at-among .among .ensures ls h) (not-false _ (at-if1 .if1 .left)) (rw (to-end (a .summary .region .0) (a .body .now)) at (c .before .before .place-at .ensures))
 
 pub place-entry-spec : {M : Type 1} → statement M
 place-entry-spec =

@@ -18,8 +18,11 @@ returns-2 c =
 
 returns-3 : tie.Need-returns-3
 returns-3 c =
-    let a = c .before .before .before .before .before .before .before .before .before .before .before .before .args in
-    λ ls. null-is-among (a .summary) (a .body .now) (a .which) ls (a .field .now) (not-false _ (c .before .before .before .before .before .before .before .before .if1 .left)) (c .before .before .before .before .before .before .before .null-among .ensures ls) (not-false _ (c .before .before .before .before .before .before .if2 .left)) (rw (to-end (a .summary .region .0) (a .body .now)) at (c .before .before .place-at .ensures))
+    let at-if2 = c .before .before .before .before .before .before in
+    let at-null-among = at-if2 .before in
+    let at-if1 = at-null-among .before in
+    let a = at-if1 .before .before .before .before .args in
+    λ ls. null-is-among (a .summary) (a .body .now) (a .which) ls (a .field .now) (not-false _ (at-if1 .if1 .left)) (at-null-among .null-among .ensures ls) (not-false _ (at-if2 .if2 .left)) (rw (to-end (a .summary .region .0) (a .body .now)) at (c .before .before .place-at .ensures))
 
 pub place-null-spec : {M : Type 1} → statement M
 place-null-spec =
