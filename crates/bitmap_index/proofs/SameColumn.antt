@@ -8,16 +8,17 @@ use native.Mathlib.Omega.{arith}
 use lib.ListN.{length, getD, replicate, length-replicate, drop, take}
 use lib.Seq.{ext-getD, take-at}
 use Rattle.row_field.specs.Meaning.{size, bit}
-use Rattle.row_field.proofs.Marks.{length-markAll, bit-markAll, bit-zeros}
+use Rattle.row_field.proofs.Marks.{length-markAll, bit-markAll}
+use Rattle.row_field.proofs.Laws.{bit-zeros}
 use Rattle.numbers.specs.Meaning.{same}
 use Rattle.stored_value.specs.Meaning.{Cell, null, value, Value, listed}
 use Rattle.refusal.specs.declared.Refusal.{Refusal}
 use Rattle.refusal.specs.Reading.{Out, ok}
 use Rattle.numbers.proofs.SameBytes.{same-refl, same→eq}
 use Rattle.bitmap_index.specs.Meaning.{Cells, Column, chosen, takes, Question, scan}
+use Rattle.bitmap_index.specs.Claims.{AnswersAsScan}
 use Rattle.bitmap_index.proofs.Rows.{rowsWhere, passes, member-rows}
 use Rattle.bitmap_index.proofs.ScanAnswers.{scanned}
-use Rattle.bitmap_index.proofs.Theorems.{AnswersAsScan}
 
 -- the cell of row r; null past the end
 abbrev pub cellAt : List Cell → ℕ → Cell

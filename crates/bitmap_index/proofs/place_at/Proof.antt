@@ -1,9 +1,9 @@
--- `place` meets its contract: a negative offset's row is -1 less the offset, which fits at the least value too; any other offset is a place.
+-- `place_at` meets its contract: a negative offset's row is -1 less the offset, which fits at the least value too; any other offset is a place.
 use Rattle.bitmap_index.proofs.Offsets.{row-fits, row-cast, place-cast}
-use Rattle.bitmap_index.proofs.Placing.{as-row, as-place}
+use Rattle.bitmap_index.proofs.PlacingRows.{as-row, as-place}
 use borrow.Author.Needs.{needs}
-use Rattle.bitmap_index.proofs.place.Statement.{statement}
-use Rattle.bitmap_index.proofs.place.Tie as tie
+use Rattle.bitmap_index.proofs.place_at.Statement.{statement}
+use Rattle.bitmap_index.proofs.place_at.Tie as tie
 
 sub-t9 : tie.Need-sub-t9
 sub-t9 c = row-fits (c .before .before .before .before .args .offset) (c .before .before .before .before .fits .offset) (c .before .if1 .taken)
@@ -24,8 +24,8 @@ returns-2 c =
     let a = c .before .before .before .before .before .before .before .args in
     as-place (a .offset) (a .extent) (a .rows) (a .region .now) (a .field .now) (c .before .before .before .before .before .before .before .fits .offset) (c .before .before .before .before .if1 .left) (c .before .before .place-bitmap .ensures)
 
-pub place-spec : {M : Type 1} → statement M
-place-spec =
+pub place-at-spec : {M : Type 1} → statement M
+place-at-spec =
     tie.close
     (tie.spec
     sub-t9
