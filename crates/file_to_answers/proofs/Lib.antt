@@ -1,2 +1,2 @@
-pub mod Demand3
+pub mod Theorems
 pub mod Calls

@@ -1,48 +1,47 @@
--- What Locate, Audit and Ask in turn answer for any buffers: Audit and Ask are lent, unchanged, the part that Locate hands back.
+-- What Locate, and Locate and Ask in turn, answer for any buffers. `bytes` are those of the buffer that is looked at.
 use Prim.Native.Nat.{ℕ}
-use mathlib.Core.Bool.{cond}
 use mathlib.Core.List.{List}
-use lib.Dec.{eqb}
+use lib.ListN.{take, drop}
 use Rattle.refusal.specs.declared.Refusal.{Refusal}
-use Rattle.refusal.specs.Meaning.{numberOf}
 use Rattle.refusal.specs.Reading.{Out, refuse, ok, andThen}
-use Rattle.index_file.specs.Reading.{lookedAt, located, answerOf, partOf}
-use Rattle.bitmap_index.specs.Meaning.{keeps}
-use Rattle.bitmap_index.specs.Reading.{Answer, audit, auditBuffer, ask, askBuffer}
-use Rattle.file_to_answers.specs.declared.Told.{Told}
-use Rattle.file_to_answers.specs.declared.Told.the-variants.{Absent, Refused, Skip, Keep}
+use Rattle.index_file.specs.declared.Located.{Located}
+use Rattle.index_file.specs.declared.Located.the-variants.{Found, Absent, Refused}
+use Rattle.index_file.specs.Reading.{Sought, found, absent, find, foundNumber, absentNumber}
+use Rattle.bitmap_index.specs.declared.Answered.{Answered}
+use Rattle.bitmap_index.specs.Reading.{Answer, ask, askBuffer, answeredBy, askOut}
+use Rattle.file_to_answers.specs.declared.FileAnswer.{FileAnswer}
 
--- a count of 0 says skip, any other keep
-unfoldable pub said : ℕ → Told
-said matched = cond (keeps matched) (Keep matched) Skip
+-- ---- Locate, then Ask on the part that it finds
 
-unfoldable pub askedOf : Out Refusal Answer → Told
-askedOf (refuse r) = Refused (numberOf r)
-askedOf (ok a) = said (a .matched)
+unfoldable pub askPart : Located → List ℕ → ℕ → ℕ → List ℕ → List ℕ → Out Refusal (Sought Answer)
+askPart (Found start size) bytes t q literals field = andThen (ask t q literals (take size (drop (start .0) bytes)) field) (λ a. ok (found a))
+askPart Absent bytes t q literals field = ok absent
+askPart (Refused r) bytes t q literals field = refuse r
 
--- Audit and Ask of a body, the field handed from the one to the other
-unfoldable pub bodyTold : ℕ → ℕ → List ℕ → List ℕ → List ℕ → Told
-bodyTold t q literal field body = askedOf (andThen (audit t body field) (λ rows. ask t q literal body (auditBuffer t body field)))
+unfoldable pub askFile : List ℕ → List ℕ → List ℕ → ℕ → ℕ → List ℕ → List ℕ → Out Refusal (Sought Answer)
+askFile bytes column kind t q literals field = askPart (find bytes column kind) bytes t q literals field
 
-unfoldable pub auditedBuffer : Out Refusal ℕ → List ℕ → List ℕ → List ℕ
-auditedBuffer (refuse r) after next = after
-auditedBuffer (ok n) after next = next
+-- the buffer then: with ABSENT and with a refusal of Locate as it was
+unfoldable pub askPartBuffer : Located → List ℕ → ℕ → ℕ → List ℕ → List ℕ → List ℕ
+askPartBuffer (Found start size) bytes t q literals field = askBuffer t q literals (take size (drop (start .0) bytes)) field
+askPartBuffer Absent bytes t q literals field = field
+askPartBuffer (Refused r) bytes t q literals field = field
 
-unfoldable pub bodyBuffer : ℕ → ℕ → List ℕ → List ℕ → List ℕ → List ℕ
-bodyBuffer t q literal field body =
-    auditedBuffer (audit t body field) (auditBuffer t body field) (askBuffer t q literal body (auditBuffer t body field))
+unfoldable pub askFileBuffer : List ℕ → List ℕ → List ℕ → ℕ → ℕ → List ℕ → List ℕ → List ℕ
+askFileBuffer bytes column kind t q literals field = askPartBuffer (find bytes column kind) bytes t q literals field
 
--- by Locate's number: 255 is ABSENT, any other but 0 a refusal
-unfoldable pub toldBy : ℕ → Told → Told
-toldBy number found = cond (eqb number 255) Absent (cond (eqb number 0) found (Refused number))
+-- the call's answer
+unfoldable pub fileAnswerBy : Out Refusal (Sought Answer) → FileAnswer
+fileAnswerBy (refuse r) = FileAnswer.Answered (Answered.Refused r)
+fileAnswerBy (ok absent) = FileAnswer.Absent
+fileAnswerBy (ok (found a)) = FileAnswer.Answered (answeredBy (ok a))
 
-unfoldable pub told : List ℕ → List ℕ → List ℕ → List ℕ → ℕ → ℕ → List ℕ → List ℕ → Told
-told embedded file column kind t q literal field =
-    toldBy (answerOf (located embedded file column kind))
-    (bodyTold t q literal field (partOf (located embedded file column kind) (lookedAt embedded file)))
+-- its number and its count: Ask's, or ABSENT's and 0
+unfoldable pub askFileOut : FileAnswer → ℕ × ℕ
+askFileOut FileAnswer.Absent = (absentNumber, 0)
+askFileOut (FileAnswer.Answered a) = askOut a
 
--- the buffer then: as it was where Locate found nothing
-unfoldable pub toldBuffer : List ℕ → List ℕ → List ℕ → List ℕ → ℕ → ℕ → List ℕ → List ℕ → List ℕ
-toldBuffer embedded file column kind t q literal field =
-    cond (eqb (answerOf (located embedded file column kind)) 0)
-    (bodyBuffer t q literal field (partOf (located embedded file column kind) (lookedAt embedded file))) field
+-- the same of what was sought
+unfoldable pub askFileNumbers : Sought Answer → ℕ × ℕ
+askFileNumbers absent = (absentNumber, 0)
+askFileNumbers (found a) = (foundNumber, a .matched)

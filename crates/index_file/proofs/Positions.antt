@@ -19,9 +19,9 @@ use Rattle.index_file.specs.declared.Place.{Place}
 use Rattle.index_file.specs.declared.Name.{Name}
 use Rattle.index_file.specs.declared.Count.{Count}
 use Rattle.index_file.specs.declared.Walk.{Walk}
-use Rattle.index_file.specs.Reading.{need, broken, count, name, afterEntry, entries, afterColumn, columns, position, placed, head, file, find, used, answerOf, locateOut, partOf, HandedBack}
+use Rattle.index_file.specs.Reading.{need, broken, count, name, afterEntry, entries, afterColumn, columns, position, placed, head, file, find, used, locateOut}
 use Rattle.index_file.proofs.Laws.{from-count}
-use Rattle.index_file.specs.Promises.{named, counted, walked}
+use Rattle.index_file.specs.Promises.{named, counted, walked, FindPromise}
 
 -- ---- a name
 
@@ -247,22 +247,8 @@ module _ (column kind bytes : List ℕ) (long : 16 ≤ length bytes) {magic vers
 -- ---- Locate
 
 -- an answer has its number
-pub numbered : {l m : Located} → l ≡ m → (l ≡ m) × (locateOut l ≡ locateOut m)
-numbered e = (e, ap locateOut e)
-
-module _ (bytes column kind : List ℕ) (place : ℕ × ℕ) {l : Located} (e : l ≡ find bytes column kind) where
-  pub part-found : {start : Position} {size : ℕ} → l ≡ Located.Found start size
-      → (0 ≡ answerOf (find bytes column kind)) × (take (start .0 + size - start .0) (drop (start .0) bytes) ≡ partOf (find bytes column kind) bytes)
-      × HandedBack (find bytes column kind) place (place .0, start .0 + place .1)
-  part-found {start} {size} q = let x : start .0 + size - start .0 ≡ size = omega arith in rw (← e, q) (refl, simp x, refl)
-
-  pub part-absent : l ≡ Located.Absent → (part : ℕ × ℕ)
-      → (255 ≡ answerOf (find bytes column kind)) × ([] ≡ partOf (find bytes column kind) bytes) × HandedBack (find bytes column kind) place part
-  part-absent q part = rw (← e, q) (refl, refl, tt)
-
-  pub part-refused : {r : Refusal} → l ≡ Located.Refused r → {n : ℕ} → n ≡ numberOf r → (part : ℕ × ℕ)
-      → (n ≡ answerOf (find bytes column kind)) × ([] ≡ partOf (find bytes column kind) bytes) × HandedBack (find bytes column kind) place part
-  part-refused q x part = rw (← e, q) (x, refl, tt)
+pub numbered : {bytes column kind : List ℕ} {l : Located} → l ≡ find bytes column kind → FindPromise bytes column kind l
+numbered e = record { answer = e; numbers = ap locateOut e }
 
 pub used-embedded : {A : Type 0} (embedded : List ℕ) (x y : A) → (length embedded ≡ 0 → ⊥) → used embedded x y ≡ x
 unfolding used

@@ -8,7 +8,7 @@ use Rattle.index_file.specs.declared.Place.{Place}
 use Rattle.index_file.specs.declared.Name.{Name}
 use Rattle.index_file.specs.declared.Count.{Count}
 use Rattle.index_file.specs.declared.Walk.{Walk}
-use Rattle.index_file.specs.Reading.{name, count, broken}
+use Rattle.index_file.specs.Reading.{name, count, broken, find, locateOut}
 
 -- the name at `at` of s
 abbrev pub named : Name → ℕ → List ℕ → Type 0
@@ -26,3 +26,8 @@ counted (Count.Is v) at s =
 abbrev pub walked : Walk → List ℕ → ((Place → List ℕ → Located) → Located) → Type 0
 walked Walk.Broken s reading = (k : Place → List ℕ → Located) → reading k ≡ broken
 walked (Walk.Past next place) s reading = (next ≤ length s) × ((k : Place → List ℕ → Located) → reading k ≡ k place (drop next s))
+
+-- `find`
+pub record FindPromise (bytes column kind : List ℕ) (r : Located) : Type 0 where
+  pub answer : r ≡ find bytes column kind
+  pub numbers : locateOut r ≡ locateOut (find bytes column kind)

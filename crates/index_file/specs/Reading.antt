@@ -117,16 +117,27 @@ lookedAt embedded file = used embedded embedded file
 abbrev pub located : List ℕ → List ℕ → List ℕ → List ℕ → Located
 located embedded file column kind = find (lookedAt embedded file) column kind
 
--- the number of each answer. The refusals' are 01's, which gives the other two none: 0 for found and 255 for ABSENT are chosen here
+-- what is sought is found, or ABSENT
+pub data Sought (A : Type 0) : Type 0 where
+  found : A → Sought A
+  absent : Sought A
+
+-- the number of each answer. The refusals' are 01's, which gives the other two none: they are chosen here
+abbrev pub foundNumber : ℕ
+foundNumber = 0
+
+abbrev pub absentNumber : ℕ
+absentNumber = 255
+
 abbrev pub answerOf : Located → ℕ
-answerOf (Found start size) = 0
-answerOf Absent = 255
+answerOf (Found start size) = foundNumber
+answerOf Absent = absentNumber
 answerOf (Refused r) = numberOf r
 
 -- the number, and start and length of the body in the buffer that was looked at, 0 with the other answers
-unfoldable pub locateOut : Located → ℕ × ℕ × ℕ
-locateOut (Found start size) = (0, start .0, size)
-locateOut Absent = (255, 0, 0)
+abbrev pub locateOut : Located → ℕ × ℕ × ℕ
+locateOut (Found start size) = (foundNumber, start .0, size)
+locateOut Absent = (absentNumber, 0, 0)
 locateOut (Refused r) = (numberOf r, 0, 0)
 
 -- the part of the buffer that is handed back: "With the other answers, ABSENT and a refusal, the part is empty"

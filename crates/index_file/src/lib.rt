@@ -4,12 +4,17 @@ ghost use mathlib.Core.Bool.{false};
 ghost use Prim.Native.Nat.{_≤_};
 ghost use lib.ListN.{length, drop};
 ghost use Rattle.numbers.specs.Meaning.{same};
-ghost use Rattle.index_file.specs.Reading.{afterEntry, afterColumn, entries, columns, placed, head, file, find, answerOf, locateOut, partOf, HandedBack};
-ghost use Rattle.index_file.specs.Promises.{named, counted, walked};
+ghost use Rattle.index_file.specs.Reading.{afterEntry, afterColumn, entries, columns, placed, head, file};
+ghost use Rattle.index_file.specs.Promises.{named, counted, walked, FindPromise};
 use numbers::Position;
 use refusal::Refusal;
 
 const LIMIT: usize = 2147483647;
+
+// The numbers of Locate's answers that are no refusals.
+pub const FOUND: u8 = 0;
+
+pub const ABSENT: u8 = 255;
 
 const MAGIC: u64 = 1493475289347502;
 
@@ -254,8 +259,7 @@ fn read_file(bytes: &[u8], column: &[u8], kind: &[u8]) -> Located
 
 // Where the body of the asked kind of the asked column lies in an index file.
 pub fn find(bytes: &[u8], column: &[u8], kind: &[u8]) -> Located
-    ensures { λ r. ⌜ (r ≡ find (now (bytes .entry)) (now (column .entry)) (now (kind .entry)))
-        × (locateOut r ≡ locateOut (find (now (bytes .entry)) (now (column .entry)) (now (kind .entry)))) ⌝ }
+    ensures { λ r. ⌜ FindPromise (now (bytes .entry)) (now (column .entry)) (now (kind .entry)) r ⌝ }
 {
     if LIMIT < bytes.len() {
         return Located::Refused(Refusal::Limit);
@@ -267,29 +271,4 @@ pub fn find(bytes: &[u8], column: &[u8], kind: &[u8]) -> Located
         return Located::Refused(Refusal::Limit);
     }
     read_file(bytes, column, kind)
-}
-
-// The part that `find` finds, with the bytes' lifetime, and through `answer` 0 for found, 255 for ABSENT, or the refusal's number.
-pub fn part_of<'a>(bytes: &'a [u8], column: &[u8], kind: &[u8], answer: &mut u8) -> &'a [u8]
-    ensures { λ r. ⌜ (now (answer .exit) ≡ answerOf (find (now (bytes .entry)) (now (column .entry)) (now (kind .entry))))
-        × (now r ≡ partOf (find (now (bytes .entry)) (now (column .entry)) (now (kind .entry))) (now (bytes .entry)))
-        × HandedBack (find (now (bytes .entry)) (now (column .entry)) (now (kind .entry))) (bytes .entry .ptr) (r .ptr) ⌝ }
-{
-    let found = find(bytes, column, kind);
-    match found {
-        Located::Found { start, length } => {
-            *answer = 0;
-            let from = start.0;
-            let end = from + length;
-            &bytes[from..end]
-        }
-        Located::Absent => {
-            *answer = 255;
-            &bytes[0..0]
-        }
-        Located::Refused(r) => {
-            *answer = refusal::number(r);
-            &bytes[0..0]
-        }
-    }
 }
