@@ -11,7 +11,8 @@ use lib.Pow.{pow-pos, high-ones}
 use lib.Bits.{shifted-half, shifted-even}
 use Rattle.row_field.specs.Meaning.{markAll, anySet, upTo}
 use Rattle.row_field.specs.Promises.{anySeen, byteRows}
-use Rattle.row_field.proofs.Marks.{Rising, upTo-rising, upTo-append, anySeen-rising, anySeen-append, markAll-append, anySet-out, markAll-out, seen-done}
+use Rattle.row_field.proofs.RowLists.{upTo-rising, upTo-append}
+use Rattle.row_field.proofs.Marks.{Past, rising-past, anySeen-rising, anySeen-append, markAll-append, anySet-past, markAll-past, seen-done}
 use Rattle.row_field.proofs.ByteRows.{byteRows-odd, byteRows-even, byteRows-rising}
 
 -- ---- the rows of bits in a row
@@ -54,15 +55,19 @@ bytes-next to i h =
     let d : i * 8 + 8 ≡ (i + 1) * 8 = omega arith in
     rw (e, upTo-append (i * 8) 8 ((to - (i + 1)) * 8), d, all-rows (i * 8) 8 0)
 
+-- rows from one past the end on
+upTo-past : (f : List ℕ) (a k : ℕ) → length f * 8 ≤ a → Past f (upTo a k)
+upTo-past f a k h = rising-past f a (a + k) (upTo a k) h (upTo-rising a (a + k) a k (omega arith) (omega arith))
+
 -- nothing is left that the field has
-bytes-left : (f : List ℕ) (to i : ℕ) → min (length f) to ≤ i → Dec (length f ≤ i) → Rising (length f * 8) (upTo (i * 8) ((to - i) * 8))
+bytes-left : (f : List ℕ) (to i : ℕ) → min (length f) to ≤ i → Dec (length f ≤ i) → Past f (upTo (i * 8) ((to - i) * 8))
 unfolding upTo
-bytes-left f to i h (yes l) = upTo-rising (length f * 8) (i * 8) ((to - i) * 8) (omega arith)
+bytes-left f to i h (yes l) = upTo-past f (i * 8) ((to - i) * 8) (omega arith)
 bytes-left f to i h (no l) =
     let e : (to - i) * 8 ≡ 0 = omega arith in
     rw e tt
 
-pub bytes-done : (f : List ℕ) (to i : ℕ) → min (length f) to ≤ i → Rising (length f * 8) (upTo (i * 8) ((to - i) * 8))
+pub bytes-done : (f : List ℕ) (to i : ℕ) → min (length f) to ≤ i → Past f (upTo (i * 8) ((to - i) * 8))
 bytes-done f to i h = bytes-left f to i h (decLe (length f) i)
 
 -- ---- a run: within one byte, or in a first byte, whole bytes and a last byte
@@ -93,7 +98,7 @@ run a z = upTo a (z + 1 - a)
 
 module _ (f : List ℕ) (a z : ℕ) where
   run-rising : anySet f (run a z) ≡ anySeen f (run a z)
-  run-rising = sym (anySeen-rising f 0 (run a z) (upTo-rising 0 a (z + 1 - a) (omega arith)))
+  run-rising = sym (anySeen-rising f 0 (a + (z + 1 - a)) (run a z) (upTo-rising 0 (a + (z + 1 - a)) a (z + 1 - a) (omega arith) (omega arith)))
 
   pub run-none : z < a → (false ≡ anySet f (run a z)) × (f ≡ markAll f (run a z))
   unfolding upTo anySet markAll
@@ -103,8 +108,8 @@ module _ (f : List ℕ) (a z : ℕ) where
 
   pub run-out : length f ≤ a / 8 → (false ≡ anySet f (run a z)) × (f ≡ markAll f (run a z))
   run-out l =
-      let r = upTo-rising (length f * 8) a (z + 1 - a) (omega arith) in
-      (sym (anySet-out f (length f * 8) (run a z) (omega arith) r), sym (markAll-out f (length f * 8) (run a z) (omega arith) r))
+      let r = upTo-past f a (z + 1 - a) (omega arith) in
+      (sym (anySet-past f (run a z) r), sym (markAll-past f (run a z) r))
 
   pub run-one-seen : a ≤ z → a / 8 ≡ z / 8 → anySet f (run a z) ≡ anySeen f (byteRows (2 ^ (z % 8 + 1) - 2 ^ (a % 8)) (a / 8 * 8) 8)
   run-one-seen h e = run-rising ∙ rw (run-one a z h e)
@@ -134,11 +139,13 @@ module _ (f : List ℕ) (a z : ℕ) (h : a ≤ z) (l : a / 8 < z / 8) where
 
 -- a last byte past the end
 module _ (g : List ℕ) (z : ℕ) (l : length g ≤ z / 8) where
-  tail-rising : Rising (length g * 8) (tail z)
-  tail-rising = byteRows-rising (2 ^ (z % 8 + 1) - 2 ^ 0) (length g * 8) (z / 8 * 8) 8 (omega arith)
+  tail-past : Past g (tail z)
+  tail-past =
+      let n = z / 8 * 8 + 8 in
+      rising-past g (z / 8 * 8) n (tail z) (omega arith) (byteRows-rising (2 ^ (z % 8 + 1) - 2 ^ 0) (z / 8 * 8) n (z / 8 * 8) 8 (omega arith) (omega arith))
 
   pub tail-seen : (b : Bool) → b || anySeen g (tail z) ≡ b
-  tail-seen b = seen-done g (length g * 8) (tail z) b (omega arith) tail-rising
+  tail-seen b = seen-done g (tail z) b tail-past
 
   pub tail-marked : markAll g (tail z) ≡ g
-  tail-marked = markAll-out g (length g * 8) (tail z) (omega arith) tail-rising
+  tail-marked = markAll-past g (tail z) tail-past

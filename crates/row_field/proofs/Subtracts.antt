@@ -12,12 +12,12 @@ use lib.Bits.{bitAnd, and-step, and-shr, and-le-l}
 use lib.Dec.{eqb, ltb}
 use lib.ListN.{length, getD, set, length-set}
 use lib.Pow.{pow-pos, pow-lt, pow-mono}
-use lib.Seq.{getD-set-same, getD-set-other, set-out, ext-getD}
+use lib.Seq.{getD-set-same, getD-set-other, set-out}
 use borrow.Author.Tests.{lt-ltb, le-ltb}
 use Rattle.numbers.specs.Meaning.{Bytes}
 use Rattle.row_field.specs.Meaning.{bit, rowsFrom, count, unmark, without, setIn, subtracted, removed}
-use Rattle.row_field.proofs.Laws.{digit, bit-out, pow-digit-same, pow-digit-other}
-use Rattle.row_field.proofs.Counts.{tick, tick-digit, tally, tally-split, rows-tally, digit-suc, low-half, low-odd, byte-row}
+use Rattle.row_field.proofs.Laws.{digit, digit-suc, tick, bit-out, pow-digit-same, pow-digit-other, field-ext}
+use Rattle.row_field.proofs.Counts.{tally, tally-split, rows-tally, low-half, low-odd}
 
 -- ---- binary digits
 
@@ -50,29 +50,7 @@ high-digit y k j h =
     let l : y % 2 ^ k < 2 ^ j = omega (arith, mod-lt y (pow-pos k), pow-mono h) in
     rw (div-eq-of-lt l)
 
-half-digit : (x y k : ℕ) → digit x (suc k) ≡ digit y (suc k) → digit (x / 2) k ≡ digit (y / 2) k
-half-digit x y k e = sym (digit-suc x k) ∙ e ∙ digit-suc y k
-
--- two numbers of w bits with the same digits are the same
-digits-same : (w x y : ℕ) → x < 2 ^ w → y < 2 ^ w → ((k : ℕ) → k < w → digit x k ≡ digit y k) → x ≡ y
-digits-same zero x y h l e = omega arith
-digits-same (suc w) x y h l e =
-    let g = rw pow-suc at h in
-    let m = rw pow-suc at l in
-    let q : x / 2 ≡ y / 2 = digits-same w (x / 2) (y / 2) (omega arith) (omega arith) (λ k i. half-digit x y k (e (suc k) (omega arith))) in
-    omega (arith, e 0 (omega arith))
-
 -- ---- bits of fields
-
-bit-eq : (x y : ℕ) → x < 2 → y < 2 → eqb x 1 ≡ eqb y 1 → x ≡ y
-bit-eq x y h l e = sym (tick-digit x h) ∙ ap tick e ∙ tick-digit y l
-
--- two fields of as many bytes with the same rows are the same
-field-same : (f g : List ℕ) → Bytes f → Bytes g → length f ≡ length g → ((r : ℕ) → bit f r ≡ bit g r) → f ≡ g
-field-same f g bf bg l e =
-    ext-getD 0 f g l
-    (λ i h. digits-same 8 (getD f i 0) (getD g i 0) (bf i) (bg i)
-    (λ k m. bit-eq (digit (getD f i 0) k) (digit (getD g i 0) k) (omega arith) (omega arith) (sym (byte-row f i k m) ∙ e (i * 8 + k) ∙ byte-row g i k m)))
 
 bit-byte : (f : List ℕ) (i r : ℕ) → r / 8 ≡ i → bit f r ≡ eqb (digit (getD f i 0) (r % 8)) 1
 unfolding bit
@@ -248,11 +226,11 @@ module _ (d g : List ℕ) (i k : ℕ) (small : k ≤ 8) (inside : i < length d) 
 
   pub without-byte : without d (rowsFrom g (i * 8) k) ≡ set d i (less (getD d i 0) (getD g i 0) k)
   without-byte =
-      field-same (without d (rowsFrom g (i * 8) k)) (set d i (less (getD d i 0) (getD g i 0) k))
+      field-ext (without d (rowsFrom g (i * 8) k)) (set d i (less (getD d i 0) (getD g i 0) k))
       (bytes-without d (rowsFrom g (i * 8) k) bytes)
       (λ j. byte-bytes j (ℕ-discrete j i))
       (length-without d (rowsFrom g (i * 8) k) ∙ sym (length-set d i _))
-      (λ r. byte-bits r (ℕ-discrete (r / 8) i) (decLt (r % 8) k))
+      (λ r _. byte-bits r (ℕ-discrete (r / 8) i) (decLt (r % 8) k))
 
 -- ---- the walk: a byte's rows more
 

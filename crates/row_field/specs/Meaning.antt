@@ -1,10 +1,11 @@
 -- What a row field means (01, "What the library offers"): a list of bytes, in which row r is the bit of weight 2 ^ (r % 8) in the byte r / 8.
-use Prim.Native.Nat.{ℕ, zero, suc, _+_, _-_, _*_, _/_, _%_, _^_}
+use Prim.Native.Nat.{ℕ, zero, suc, _+_, _-_, _*_, _/_, _%_, _^_, _<_, _≤_}
 use mathlib.Core.Bool.{Bool, false, _||_, cond}
 use mathlib.Core.List.{List, [], _∷_}
 use lib.Bits.{bitAnd, bitOr}
 use lib.Dec.{eqb}
 use lib.ListN.{length, getD, set, replicate}
+use Rattle.numbers.specs.Meaning.{All}
 
 -- the bytes of a field for n rows: ceil(n / 8)
 abbrev pub size : ℕ → ℕ
@@ -46,6 +47,20 @@ cleared n f = zeroed (size n) f
 unfoldable pub upTo : ℕ → ℕ → List ℕ
 upTo a zero = []
 upTo a (suc k) = a ∷ upTo (a + 1) k
+
+-- the rows that vs counts from `base` on
+abbrev pub above : ℕ → List ℕ → List ℕ
+above base [] = []
+above base (v ∷ vs) = (base + v) ∷ above base vs
+
+-- rows that rise strictly, each at least lo and below hi
+abbrev pub Rising : ℕ → ℕ → List ℕ → Type 0
+Rising lo hi [] = Unit {0}
+Rising lo hi (r ∷ rs) = (lo ≤ r) × (r < hi) × Rising (r + 1) hi rs
+
+-- rows below n, in any order
+abbrev pub Below : ℕ → List ℕ → Type 0
+Below n rs = All (λ r. r < n) rs
 
 -- those of the k rows from a on that are set in f
 unfoldable pub rowsFrom : List ℕ → ℕ → ℕ → List ℕ

@@ -1,6 +1,6 @@
 // Row fields (document 01): a field for n rows is the first ceil(n/8) bytes of a lent buffer, row r the bit of weight 2^(r mod 8) in byte r/8.
 ghost use mathlib.Core.Path.{_≡_};
-ghost use Prim.Native.Nat.{ℕ, _+_, _-_, _*_, _%_, _^_, _<_, _≤_, min};
+ghost use Prim.Native.Nat.{_+_, _-_, _*_, _%_, _^_, _<_, _≤_, min};
 ghost use lib.Dec.{leb};
 ghost use lib.Bits.{bitAnd};
 ghost use lib.ListN.{length, getD, set};

@@ -7,7 +7,7 @@ use borrow.Author.Needs.{needs}
 use lib.ListN.{length}
 use Rattle.row_field.specs.Meaning.{markAll, upTo}
 use Rattle.row_field.specs.Promises.{anySeen, byteRows}
-use Rattle.row_field.proofs.Marks.{seen-next, marked-next, seen-done, markAll-out}
+use Rattle.row_field.proofs.Marks.{seen-next, marked-next, seen-done, markAll-past}
 use Rattle.row_field.proofs.RunRows.{bytes-next, bytes-done}
 use Rattle.row_field.proofs.mark_bytes.Statement.{statement}
 use Rattle.row_field.proofs.mark_bytes.Tie as tie
@@ -44,8 +44,8 @@ returns c =
     let to = c .before .before .before .before .args .to in
     let rest = upTo (l .i * 8) ((to - l .i) * 8) in
     let d = bytes-done (l .field) to (l .i) (omega arith) in (
-      cc (seen-done (l .field) (length (l .field) * 8) rest (l .seen) (omega arith) d),
-      cc (markAll-out (l .field) (length (l .field) * 8) rest (omega arith) d),
+      cc (seen-done (l .field) rest (l .seen) d),
+      cc (markAll-past (l .field) rest d),
     )
 
 pub mark-bytes-spec : {M : Type 1} → statement M

@@ -8,7 +8,8 @@ use borrow.Author.Needs.{needs}
 use lib.ListN.{length, getD}
 use Rattle.row_field.specs.Meaning.{markAll, anySet, rowsFrom, rowsOf}
 use Rattle.row_field.specs.Promises.{anySeen, byteRows}
-use Rattle.row_field.proofs.Marks.{anySeen-rising, rowsFrom-rising, seen-next, marked-next, seen-done, markAll-out}
+use Rattle.row_field.proofs.RowLists.{rowsOf-rising}
+use Rattle.row_field.proofs.Marks.{anySeen-rising, seen-next, marked-next, seen-done, markAll-past}
 use Rattle.row_field.proofs.ByteRows.{rows-next, rows-done}
 use Rattle.row_field.proofs.merge.Statement.{statement}
 use Rattle.row_field.proofs.merge.Tie as tie
@@ -27,7 +28,7 @@ loop-holds c =
     let a = c .before .before .before .args in (
       omega arith,
       refl,
-      rw sub-zero (anySeen-rising (a .field .now) 0 (rowsOf (a .rows .now)) (rowsFrom-rising (a .rows .now) 0 0 (length (a .rows .now) * 8) (omega arith))),
+      rw sub-zero (anySeen-rising (a .field .now) 0 (length (a .rows .now) * 8) (rowsOf (a .rows .now)) (rowsOf-rising (a .rows .now))),
       rw sub-zero,
     )
 
@@ -51,8 +52,8 @@ returns c =
     let rows = c .before .before .before .before .before .args .rows .now in
     let rest = rowsFrom rows (l .i * 8) ((length rows - l .i) * 8) in
     let d = rows-done (l .field) rows (l .i) (omega arith) in (
-      cc (seen-done (l .field) (length (l .field) * 8) rest (l .seen) (omega arith) d),
-      cc (markAll-out (l .field) (length (l .field) * 8) rest (omega arith) d),
+      cc (seen-done (l .field) rest (l .seen) d),
+      cc (markAll-past (l .field) rest d),
     )
 
 pub merge-spec : {M : Type 1} → statement M
