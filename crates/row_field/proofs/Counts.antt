@@ -276,6 +276,3 @@ unfolding bit
 bit-zeroed k f r h =
     let i : r / 8 < k = omega arith in
     rw (zeroed-at k f (r / 8) i, zero-div (2 ^ (r % 8)))
-
-pub count-zeroed : (k n : ℕ) (f : List ℕ) → n ≤ 8 * k → count (zeroed k f) n ≡ 0
-count-zeroed k n f h = rows-tally (zeroed k f) 0 n ∙ tally-none (bit (zeroed k f)) 0 n (λ r a b. bit-zeroed k f r (omega arith))

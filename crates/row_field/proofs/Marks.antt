@@ -90,18 +90,6 @@ unfolding anySeen
 anySeen-past f [] s = refl
 anySeen-past f (r ∷ rs) s = rw (bit-out f r (omega arith)) (ap (λ (g : List ℕ). anySeen g rs) (mark-out f r (omega arith)) ∙ anySeen-past f rs (s .1))
 
--- ---- a loop that marks what is left: a turn, and the end
-
-pub seen-next : (f whole part rest : List ℕ) (seen : Bool) → whole ≡ part ++ rest
-    → seen || anySeen f whole ≡ (seen || anySeen f part) || anySeen (markAll f part) rest
-seen-next f whole part rest seen e = rw (e, anySeen-append f part rest) (sym (or-assoc seen (anySeen f part) (anySeen (markAll f part) rest)))
-
-pub marked-next : (f whole part rest : List ℕ) → whole ≡ part ++ rest → markAll f whole ≡ markAll (markAll f part) rest
-marked-next f whole part rest e = rw (e, markAll-append f part rest)
-
-pub seen-done : (f rest : List ℕ) (seen : Bool) → Past f rest → seen || anySeen f rest ≡ seen
-seen-done f rest seen s = rw (anySeen-past f rest s) (or-false seen)
-
 -- ---- marking in a part of a field
 
 set-append-add : (p ys : List ℕ) (i v : ℕ) → set (p ++ ys) (length p + i) v ≡ p ++ set ys i v

@@ -16,8 +16,8 @@ use Rattle.refusal.specs.declared.Refusal.{Refusal}
 use Rattle.refusal.specs.declared.Refusal.the-variants.{Short, NoBin}
 use Rattle.deletion_file.specs.Layout.{Bin}
 use Rattle.refusal.specs.Reading.{Out, refuse, ok, check, andThen}
-use Rattle.deletion_file.specs.Reading.{front, bins, asked}
-use Rattle.deletion_file.specs.Promises.{binFrom}
+use Rattle.deletion_file.specs.Reading.{front, bins, binNumbered, binIn}
+use Rattle.deletion_file.specs.Promises.{binFrom, BinFits}
 
 -- ---- one after the other
 
@@ -26,7 +26,7 @@ unfolding andThen
 then-then (refuse r) f g = refl
 then-then (ok a) f g = refl
 
-then-same : {A B : Type 0} (o : Out Refusal A) (f g : A → Out Refusal B) → ((a : A) → f a ≡ g a) → andThen o f ≡ andThen o g
+pub then-same : {A B : Type 0} (o : Out Refusal A) (f g : A → Out Refusal B) → ((a : A) → f a ≡ g a) → andThen o f ≡ andThen o g
 unfolding andThen
 then-same (refuse r) f g h = refl
 then-same (ok a) f g h = h a
@@ -74,20 +74,20 @@ module _ (m : ℕ) (s : List ℕ) (p : ℕ) (in-it : p < length s) where
       ∙ rw (le-leb 4 (beAt 4 s p) l, le-leb (beAt 4 s p + 4) (length (drop (p + 4) s)) q, drop-drop (beAt 4 s p + 4) (p + 4) s, e)
       (then-same (bins m (drop (p + 8 + beAt 4 s p) s)) _ _ (λ more. ap (λ (x : Bin). ok (x ∷ more)) (bin-at s p (beAt 4 s p)))))
 
--- ---- the asked bin, after some were passed
+-- ---- the bin sought, after some were passed
 
--- x, if the asked one was passed; else it is among those to come
+-- x, if the one sought was passed; else it is among those to come
 abbrev sought : ℕ → ℕ → Bin → List Bin → Out Refusal Bin
-sought b passed x more = cond (ltb b passed) (ok x) (asked (b - passed) more)
+sought b passed x more = cond (ltb b passed) (ok x) (binNumbered (b - passed) more)
 
-asked-later : (b k : ℕ) (y : Bin) (more : List Bin) → k < b → asked (b - k) (y ∷ more) ≡ asked (b - (k + 1)) more
-unfolding asked
-asked-later b k y more h =
+later-bin : (b k : ℕ) (y : Bin) (more : List Bin) → k < b → binNumbered (b - k) (y ∷ more) ≡ binNumbered (b - (k + 1)) more
+unfolding binNumbered
+later-bin b k y more h =
     let e : b - k ≡ suc (b - (k + 1)) = omega arith in
     rw e
 
 sought-this : (b k : ℕ) (x y : Bin) (more : List Bin) → k ≡ b → sought b k x (y ∷ more) ≡ sought b (k + 1) y more
-unfolding asked
+unfolding binNumbered
 sought-this b k x y more e =
     let z : b - k ≡ 0 = omega arith in
     rw (le-ltb b k (omega arith), lt-ltb b (k + 1) (omega arith), z)
@@ -96,20 +96,21 @@ sought-other-go : (b k : ℕ) (x y : Bin) (more : List Bin) → k ≢ b → Dec 
 sought-other-go b k x y more n (yes h) = rw (lt-ltb b k h, lt-ltb b (k + 1) (omega arith))
 sought-other-go b k x y more n (no h) =
     let l : k < b = omega arith in
-    rw (le-ltb b k (omega arith), le-ltb b (k + 1) (omega arith)) (asked-later b k y more l)
+    rw (le-ltb b k (omega arith), le-ltb b (k + 1) (omega arith)) (later-bin b k y more l)
 
 sought-other : (b k : ℕ) (x y : Bin) (more : List Bin) → k ≢ b → sought b k x (y ∷ more) ≡ sought b (k + 1) x more
 sought-other b k x y more n = sought-other-go b k x y more n (decLt b k)
 
 -- ---- the loop's state: X is what the whole comes to, and what is left of it at `next`. Steps enough are left.
-pub record Walked (X : Out Refusal Bin) (s : List ℕ) (b next passed start end : ℕ) : Type 0 where
+pub record WalkState (X : Out Refusal Bin) (s : List ℕ) (b next passed start end : ℕ) : Type 0 where
   pub steps : ℕ
   pub enough : length s - next ≤ steps
   pub so : X ≡ andThen (bins steps (drop next s)) (sought b passed (binFrom start end s))
-  pub inside : b < passed → (start + 4 ≤ end) × (end + 4 ≤ length s)
+  pub inside : b < passed → BinFits start end (length s)
 
-pub walked-first : (s : List ℕ) (b start end : ℕ) → Walked (andThen (bins (length s) (drop 1 s)) (asked b)) s b 1 0 start end
-walked-first s b start end =
+pub walk-first : (s : List ℕ) (b start end : ℕ) → WalkState (binIn b s) s b 1 0 start end
+unfolding binIn
+walk-first s b start end =
     let e : b - 0 ≡ b = omega arith in
     record {
       steps = length s;
@@ -118,17 +119,17 @@ walked-first s b start end =
       inside = λ i. absurd (omega arith);
     }
 
-module _ {X : Out Refusal Bin} {s : List ℕ} {b next passed start end : ℕ} (w : Walked X s b next passed start end) where
-  pub walked-over : length s ≤ next → X ≡ sought b passed (binFrom start end s) []
+module _ {X : Out Refusal Bin} {s : List ℕ} {b next passed start end : ℕ} (w : WalkState X s b next passed start end) where
+  pub walk-over : length s ≤ next → X ≡ sought b passed (binFrom start end s) []
   unfolding andThen
-  walked-over h = w .so ∙ rw (bins-end (w .steps) (drop next s) (simp length-drop (omega arith)))
+  walk-over h = w .so ∙ rw (bins-end (w .steps) (drop next s) (simp length-drop (omega arith)))
 
-  pub walked-found : length s ≤ next → b < passed → X ≡ ok (binFrom start end s)
-  walked-found h l = walked-over h ∙ rw (lt-ltb b passed l)
+  pub walk-found : length s ≤ next → b < passed → X ≡ ok (binFrom start end s)
+  walk-found h l = walk-over h ∙ rw (lt-ltb b passed l)
 
-  pub walked-none : length s ≤ next → passed ≤ b → X ≡ refuse NoBin
-  unfolding asked
-  walked-none h l = walked-over h ∙ rw (le-ltb b passed l)
+  pub walk-none : length s ≤ next → passed ≤ b → X ≡ refuse NoBin
+  unfolding binNumbered
+  walk-none h l = walk-over h ∙ rw (le-ltb b passed l)
 
   -- a turn: where bytes are left, so are steps
   turn : (Y : Out Refusal (List Bin)) → next < length s → ((m : ℕ) → length s - next ≤ suc m → bins (suc m) (drop next s) ≡ Y)
@@ -140,28 +141,28 @@ module _ {X : Out Refusal Bin} {s : List ℕ} {b next passed start end : ℕ} (w
       go zero l e = absurd (omega arith)
       go (suc m) l e = e ∙ rw (f m l)
 
-  pub walked-cut : next < length s → length s - next < 4 → X ≡ refuse Short
+  pub walk-cut : next < length s → length s - next < 4 → X ≡ refuse Short
   unfolding andThen
-  walked-cut h l = turn (refuse Short) h (λ m _. bins-cut m s next h l)
+  walk-cut h l = turn (refuse Short) h (λ m _. bins-cut m s next h l)
 
-  pub walked-small : {size : ℕ} → next < length s → next + 4 ≤ length s → size ≡ beAt 4 s next → size < 4 → X ≡ refuse Short
+  pub walk-small : {size : ℕ} → next < length s → next + 4 ≤ length s → size ≡ beAt 4 s next → size < 4 → X ≡ refuse Short
   unfolding andThen
-  walked-small h k e l = turn (refuse Short) h (λ m _. bins-small m s next h k (rw e at l))
+  walk-small h k e l = turn (refuse Short) h (λ m _. bins-small m s next h k (rw e at l))
 
-  pub walked-long : {size : ℕ} → next < length s → next + 4 ≤ length s → size ≡ beAt 4 s next → 4 ≤ size → length s - next < size + 8
+  pub walk-long : {size : ℕ} → next < length s → next + 4 ≤ length s → size ≡ beAt 4 s next → 4 ≤ size → length s - next < size + 8
       → X ≡ refuse Short
   unfolding andThen
-  walked-long h k e l g = turn (refuse Short) h (λ m _. bins-long m s next h k (rw e at l) (rw e at g))
+  walk-long h k e l g = turn (refuse Short) h (λ m _. bins-long m s next h k (rw e at l) (rw e at g))
 
   module _ {size : ℕ} (h : next < length s) (k : next + 4 ≤ length s) (e : size ≡ beAt 4 s next) (l : 4 ≤ size) (g : size + 8 ≤ length s - next) where
     step : (start′ end′ : ℕ)
         → ((more : List Bin) → sought b passed (binFrom start end s) (binFrom (next + 4) (next + 4 + size) s ∷ more) ≡ sought b (passed + 1) (binFrom start′ end′ s) more)
-        → (b < passed + 1 → (start′ + 4 ≤ end′) × (end′ + 4 ≤ length s)) → Walked X s b (next + 8 + size) (passed + 1) start′ end′
+        → (b < passed + 1 → BinFits start′ end′ (length s)) → WalkState X s b (next + 8 + size) (passed + 1) start′ end′
     unfolding andThen
     step start′ end′ f i = go (w .steps) (w .enough) (w .so)
       where
         go : (n : ℕ) → length s - next ≤ n → X ≡ andThen (bins n (drop next s)) (sought b passed (binFrom start end s))
-            → Walked X s b (next + 8 + size) (passed + 1) start′ end′
+            → WalkState X s b (next + 8 + size) (passed + 1) start′ end′
         go zero y x = absurd (omega arith)
         go (suc m) y x = record {
           steps = m;
@@ -171,8 +172,8 @@ module _ {X : Out Refusal Bin} {s : List ℕ} {b next passed start end : ℕ} (w
           inside = i;
         }
 
-    pub walked-this : passed ≡ b → Walked X s b (next + 8 + size) (passed + 1) (next + 4) (next + 4 + size)
-    walked-this p = step (next + 4) (next + 4 + size) (λ more. sought-this b passed (binFrom start end s) (binFrom (next + 4) (next + 4 + size) s) more p) (λ _. omega arith)
+    pub walk-this : passed ≡ b → WalkState X s b (next + 8 + size) (passed + 1) (next + 4) (next + 4 + size)
+    walk-this p = step (next + 4) (next + 4 + size) (λ more. sought-this b passed (binFrom start end s) (binFrom (next + 4) (next + 4 + size) s) more p) (λ _. record { magic-fits = omega arith; sum-fits = omega arith })
 
-    pub walked-other : passed ≢ b → Walked X s b (next + 8 + size) (passed + 1) start end
-    walked-other n = step start end (λ more. sought-other b passed (binFrom start end s) (binFrom (next + 4) (next + 4 + size) s) more n) (λ i. w .inside (omega arith))
+    pub walk-other : passed ≢ b → WalkState X s b (next + 8 + size) (passed + 1) start end
+    walk-other n = step start end (λ more. sought-other b passed (binFrom start end s) (binFrom (next + 4) (next + 4 + size) s) more n) (λ i. w .inside (omega arith))

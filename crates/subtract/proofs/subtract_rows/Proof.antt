@@ -1,11 +1,11 @@
--- `row_field::subtract_rows` meets its contract. `subtracted-last` takes the last byte's rows too.
+-- `subtract_rows` meets its contract. `subtracted-last` takes the last byte's rows too.
 use Prim.Native.Nat.{_*_, _/_}
 use mathlib.Core.Path.{_≡_, sym, _∙_}
 use native.Mathlib.Omega.{arith}
-use Rattle.row_field.proofs.Subtracts.{subtracted-last}
+use Rattle.subtract.proofs.Laws.{subtracted-last}
 use borrow.Author.Needs.{needs}
-use Rattle.row_field.proofs.subtract_rows.Statement.{statement}
-use Rattle.row_field.proofs.subtract_rows.Tie as tie
+use Rattle.subtract.proofs.subtract_rows.Statement.{statement}
+use Rattle.subtract.proofs.subtract_rows.Tie as tie
 
 returns : tie.Need-returns
 returns c =

@@ -15,9 +15,10 @@ use lib.Pow.{pow-pos, pow-lt, pow-mono}
 use lib.Seq.{getD-set-same, getD-set-other, set-out}
 use borrow.Author.Tests.{lt-ltb, le-ltb}
 use Rattle.numbers.specs.Meaning.{Bytes}
-use Rattle.row_field.specs.Meaning.{bit, rowsFrom, count, unmark, without, setIn, subtracted, removed}
+use Rattle.row_field.specs.Meaning.{bit, rowsFrom, count}
 use Rattle.row_field.proofs.Laws.{digit, digit-suc, tick, bit-out, pow-digit-same, pow-digit-other, field-ext}
 use Rattle.row_field.proofs.Counts.{tally, tally-split, rows-tally, low-half, low-odd}
+use Rattle.subtract.specs.Meaning.{unmark, without, setIn, subtracted, removed}
 
 -- ---- binary digits
 
@@ -294,9 +295,6 @@ bit-subtracted n f g r = subtracted-go n f g r (decLt r n)
 
 pub length-subtracted : (n : ℕ) (f g : List ℕ) → length (subtracted n f g) ≡ length f
 length-subtracted n f g = length-without f (rowsFrom g 0 n)
-
-pub bytes-subtracted : (n : ℕ) (f g : List ℕ) → Bytes f → Bytes (subtracted n f g)
-bytes-subtracted n f g b = bytes-without f (rowsFrom g 0 n) b
 
 part-tick : (a b : Bool) → tick a ≡ tick (a && not b) + tick (a && b)
 part-tick true true = refl
