@@ -53,13 +53,17 @@ returns-3 c =
 
 -- ---- past the tests
 
+-- where the row count passed, and where the call starts
+abbrev limited : tie.Else3 → tie.Else1
+limited t = t .before .before .before .before .before
+
 abbrev start : tie.Else3 → tie.Start
-start t = t .before .before .before .before .before .before .before .before
+start t = limited t .before .before .before
 
 -- the row count is within the limit, and both fields have room
 module _ (t : tie.Else3) where
   within : leb (start t .args .rows) limit ≡ true
-  within = le-leb _ limit (t .before .before .before .before .before .if1 .left)
+  within = le-leb _ limit (limited t .if1 .left)
 
   first-room : leb (size (start t .args .rows)) (length (start t .args .first .now)) ≡ true
   first-room = sym (t .before .before .before .has-room .ensures) ∙ not-false _ (t .before .before .if2 .left)
@@ -72,8 +76,12 @@ subtract-rows-requires c κs =
     let t = c .before .before .before in
     (leb-true _ _ (first-room t), leb-true _ _ (second-room t))
 
+-- the rows counted before
+abbrev counted : tie.After-count2 → tie.After-count
+counted c = c .before .before .before .before .before .before
+
 abbrev tested : tie.After-count2 → tie.Else3
-tested c = c .before .before .before .before .before .before .before .before
+tested c = counted c .before .before
 
 -- rows left and rows removed are the rows that were
 module _ (c : tie.After-count2) where
@@ -81,10 +89,10 @@ module _ (c : tie.After-count2) where
   left = c .count2 .ensures ∙ ap (λ (d : List ℕ). count d (start (tested c) .args .rows)) (c .before .before .before .before .subtract-rows .ensures)
 
   parts : c .count2 .result + removed (start (tested c) .args .rows) (start (tested c) .args .first .now) (start (tested c) .args .second .now)
-      ≡ c .before .before .before .before .before .before .count .result
+      ≡ counted c .count .result
   parts =
       let a = start (tested c) .args in
-      omega (arith, left-removed (a .rows) (a .first .now) (a .second .now), c .before .before .before .before .before .before .count .ensures, left)
+      omega (arith, left-removed (a .rows) (a .first .now) (a .second .now), counted c .count .ensures, left)
 
 sub-removed : tie.Need-sub-removed
 sub-removed c = omega (arith, parts c)
@@ -100,7 +108,7 @@ returns-4 c =
     let t = tested c in
     let a = start t .args in
     let l = left c in
-    let r : c .before .before .before .before .before .before .count .result - c .count2 .result ≡ removed (a .rows) (a .first .now) (a .second .now) = omega (arith, parts c) in
+    let r : counted c .count .result - c .count2 .result ≡ removed (a .rows) (a .first .now) (a .second .now) = omega (arith, parts c) in
     promise (ok (record { left = _; removed = _ })) (accepted (a .rows) (a .first .now) (a .second .now) (within t) (first-room t) (second-room t)) (cc) (c .before .before .before .before .subtract-rows .ensures)
 
 pub subtract-spec : {M : Type 1} → statement M
