@@ -1,10 +1,8 @@
 -- The calls by what Locate answers, and what that says of a column's file.
 use Prim.Native.Nat.{ℕ, _+_, _≤_}
 use mathlib.Core.Path.{_≡_, refl, sym, ap, _∙_}
-use mathlib.Core.Bool.{Bool, true, false, cond, not}
 use mathlib.Core.List.{List, [], _∷_}
 use native.Mathlib.Omega.{arith}
-use lib.Dec.{eqb, eqb→eq}
 use lib.ListN.{length, take, drop}
 use Rattle.numbers.specs.Meaning.{Bytes}
 use Rattle.numbers.specs.declared.Position.{Position}
@@ -12,15 +10,15 @@ use Rattle.refusal.specs.Meaning.{numberOf}
 use Rattle.refusal.specs.declared.Refusal.{Refusal}
 use Rattle.refusal.specs.Reading.{Out, refuse, ok, andThen, numbersOf}
 use Rattle.index_file.specs.declared.Located.{Located}
-use Rattle.index_file.specs.Reading.{found, find, used, lookedAt}
+use Rattle.index_file.specs.Reading.{Part, Sought, found, absent, find, locatedBy, soughtNumbers}
 use Rattle.index_file.proofs.Theorems.{found-within}
 use Rattle.bitmap_index.specs.declared.Answered.{Answered}
-use Rattle.bitmap_index.specs.Reading.{Answer, ask, askBuffer, answeredBy, askOut}
-use Rattle.bitmap_index.specs.Meaning.{keeps}
+use Rattle.bitmap_index.specs.Reading.{Answer, ask, askBuffer, answeredBy, askOut, askNumbers}
+use Rattle.bitmap_index.specs.Promises.{AskPromise}
 use Rattle.file_to_answers.specs.declared.FileAnswer.{FileAnswer}
-use Rattle.file_to_answers.specs.Reading.{askPart, askPartBuffer, askFile, askFileBuffer, fileAnswerBy, askFileOut, askFileNumbers}
+use Rattle.file_to_answers.specs.Reading.{used, lookedAt, askPart, askPartBuffer, askFile, askFileBuffer, fileAnswerBy, askFileOut, askFileNumbers}
 use Rattle.file_to_answers.specs.Promises.{LocatePromise, AskFilePromise, FileAsScan}
-use Rattle.file_to_answers.proofs.Theorems.{file-as-scan, file-buffer-as-scan}
+use Rattle.file_to_answers.proofs.Theorems.{file-is-answered}
 
 -- ---- the buffer that is looked at
 
@@ -39,42 +37,70 @@ unfolding used
 bytes-looked-at [] file a b = b
 bytes-looked-at (x ∷ embedded) file a b = a
 
--- what is found lies within it
-pub inside : (embedded file : List ℕ) → Bytes embedded → Bytes file → {bytes : List ℕ} → bytes ≡ lookedAt embedded file → (column kind : List ℕ)
-    → {l : Located} → l ≡ find bytes column kind → {start : Position} {size : ℕ} → l ≡ Located.Found start size → start .0 + size ≤ length bytes
-inside embedded file a b {bytes} x column kind e {start} {size} g =
-    found-within bytes column kind start size (rw x (bytes-looked-at embedded file a b)) (sym e ∙ g)
+-- ---- the reading of an answer
 
--- ---- Locate
+read-found : (o : Out Refusal (Sought Part)) (start : Position) (size : ℕ) → Located.Found start size ≡ locatedBy o → o ≡ ok (found (record { start = start; length = size }))
+unfolding locatedBy
+read-found (refuse r) start size e = absurd (let z : _≡_ {A = ℕ} 0 1 = cc in omega arith)
+read-found (ok absent) start size e = absurd (let z : _≡_ {A = ℕ} 0 1 = cc in omega arith)
+read-found (ok (found p)) start size e = let x : start ≡ p .start = cc in let y : size ≡ p .length = cc in rw (x, y)
 
-module _ (bytes column kind : List ℕ) (buffer : ℕ × ℕ) {l : Located} (e : l ≡ find bytes column kind) where
-  pub locate-found : {start : Position} {size : ℕ} → l ≡ Located.Found start size → {body : List ℕ} → body ≡ take size (drop (start .0) bytes)
-      → {place : ℕ × ℕ} → place ≡ (buffer .0, start .0 + buffer .1) → LocatePromise bytes column kind buffer 0 body place
-  locate-found q p h = record { number = rw (← e, q); part = rw (← e, q) p; handed-back = rw (← e, q) h }
+read-absent : (o : Out Refusal (Sought Part)) → Located.Absent ≡ locatedBy o → o ≡ ok absent
+unfolding locatedBy
+read-absent (refuse r) e = absurd (let z : _≡_ {A = ℕ} 0 1 = cc in omega arith)
+read-absent (ok absent) e = refl
+read-absent (ok (found p)) e = absurd (let z : _≡_ {A = ℕ} 0 1 = cc in omega arith)
 
-  pub locate-absent : l ≡ Located.Absent → (place : ℕ × ℕ) → LocatePromise bytes column kind buffer 255 [] place
-  locate-absent q place = record { number = rw (← e, q); part = rw (← e, q); handed-back = rw (← e, q) tt }
+read-refused : (o : Out Refusal (Sought Part)) (r : Refusal) → Located.Refused r ≡ locatedBy o → o ≡ refuse r
+unfolding locatedBy
+read-refused (refuse q) r e = cc
+read-refused (ok absent) r e = absurd (let z : _≡_ {A = ℕ} 0 1 = cc in omega arith)
+read-refused (ok (found p)) r e = absurd (let z : _≡_ {A = ℕ} 0 1 = cc in omega arith)
 
-  pub locate-refused : {r : Refusal} → l ≡ Located.Refused r → {n : ℕ} → n ≡ numberOf r → (place : ℕ × ℕ) → LocatePromise bytes column kind buffer n [] place
-  locate-refused q x place = record { number = rw (← e, q) x; part = rw (← e, q); handed-back = rw (← e, q) tt }
+module _ (bytes column kind : List ℕ) {l : Located} (e : l ≡ locatedBy (find bytes column kind)) where
+  was-found : {start : Position} {size : ℕ} → l ≡ Located.Found start size → find bytes column kind ≡ ok (found (record { start = start; length = size }))
+  was-found {start} {size} g = read-found (find bytes column kind) start size (sym g ∙ e)
+
+  was-absent : l ≡ Located.Absent → find bytes column kind ≡ ok absent
+  was-absent g = read-absent (find bytes column kind) (sym g ∙ e)
+
+  was-refused : {r : Refusal} → l ≡ Located.Refused r → find bytes column kind ≡ refuse r
+  was-refused {r} g = read-refused (find bytes column kind) r (sym g ∙ e)
+
+  -- what is found lies within the buffer that is looked at
+  pub inside : (embedded file : List ℕ) → Bytes embedded → Bytes file → bytes ≡ lookedAt embedded file → {start : Position} {size : ℕ} → l ≡ Located.Found start size
+      → start .0 + size ≤ length bytes
+  inside embedded file a b x {start} {size} g =
+      found-within bytes column kind (record { start = start; length = size }) (rw x (bytes-looked-at embedded file a b)) (was-found g)
+
+  -- ---- Locate
+
+  module _ (buffer : ℕ × ℕ) where
+    pub locate-found : {start : Position} {size : ℕ} → l ≡ Located.Found start size → {body : List ℕ} → body ≡ take size (drop (start .0) bytes)
+        → {place : ℕ × ℕ} → place ≡ (buffer .0, start .0 + buffer .1) → LocatePromise bytes column kind buffer 0 body place
+    unfolding numbersOf soughtNumbers
+    locate-found g p h = record { number = rw (was-found g); part = rw (was-found g) p; handed-back = rw (was-found g) h }
+
+    pub locate-absent : l ≡ Located.Absent → (place : ℕ × ℕ) → LocatePromise bytes column kind buffer 255 [] place
+    unfolding numbersOf soughtNumbers
+    locate-absent g place = record { number = rw (was-absent g); part = rw (was-absent g); handed-back = rw (was-absent g) tt }
+
+    pub locate-refused : {r : Refusal} → l ≡ Located.Refused r → {n : ℕ} → n ≡ numberOf r → (place : ℕ × ℕ) → LocatePromise bytes column kind buffer n [] place
+    unfolding numbersOf
+    locate-refused g x place = record { number = rw (was-refused g) x; part = rw (was-refused g); handed-back = rw (was-refused g) tt }
 
 -- ---- Locate, then Ask
 
--- Ask's answer as the one call's
-asked : (o : Out Refusal Answer) → fileAnswerBy (andThen o (λ a. ok (found a))) ≡ FileAnswer.Answered (answeredBy o)
+-- Ask's answer as the one call's, and its numbers
+asked : (o : Out Refusal Answer) → FileAnswer.Answered (answeredBy o) ≡ fileAnswerBy (andThen o (λ a. ok (found a)))
 unfolding fileAnswerBy andThen answeredBy
 asked (refuse r) = refl
 asked (ok a) = refl
 
--- the numbers of any answer are those of its reading
-numbered : (o : Out Refusal Answer) → askOut (answeredBy o) ≡ numbersOf 0 askFileNumbers (andThen o (λ a. ok (found a)))
-unfolding answeredBy numbersOf andThen askFileNumbers askOut keeps
+numbered : (o : Out Refusal Answer) → numbersOf 0 askNumbers o ≡ numbersOf 0 askFileNumbers (andThen o (λ a. ok (found a)))
+unfolding numbersOf andThen askFileNumbers
 numbered (refuse r) = refl
-numbered (ok a) = go (eqb (a .matched) 0) refl
-  where
-    go : (b : Bool) → eqb (a .matched) 0 ≡ b → askOut (cond (not b) (Answered.Keep (a .matched)) Answered.Skip) ≡ (0, a .matched)
-    go true e = let z : a .matched ≡ 0 = eqb→eq (a .matched) 0 (rw e tt) in rw z
-    go false e = refl
+numbered (ok a) = refl
 
 -- for any bytes, and so for a column's file
 abbrev pub Promise : (bytes column kind : List ℕ) (t q : ℕ) (literals before after : List ℕ) → FileAnswer → Type 0
@@ -84,32 +110,23 @@ Promise bytes column kind t q literals before after r =
 
 module _ (bytes column kind : List ℕ) (t q : ℕ) (literals before : List ℕ) (b : Bytes before) where
   both : {after : List ℕ} {r : FileAnswer} → AskFilePromise bytes column kind t q literals before after r → Promise bytes column kind t q literals before after r
-  both p = (
-    p,
-    λ cells ls f w l room. (
-      p .answer ∙ rw l (ap fileAnswerBy (file-as-scan t cells column kind bytes f before b room q ls w)),
-      p .buffer ∙ rw l (file-buffer-as-scan t cells column kind bytes f before b room q ls w),
-    ),
-  )
+  both p = (p, λ cells ls f w l room.
+    let s = file-is-answered t cells column kind bytes f before b room q ls w in
+    (p .answer ∙ rw l (ap fileAnswerBy (s .0)), p .buffer ∙ rw l (s .1)))
 
-  module _ {l : Located} (e : l ≡ find bytes column kind) where
+  module _ {l : Located} (e : l ≡ locatedBy (find bytes column kind)) where
     pub asked-absent : l ≡ Located.Absent → Promise bytes column kind t q literals before before FileAnswer.Absent
-    unfolding askFile askPart askFileBuffer askPartBuffer fileAnswerBy askFileOut askFileNumbers numbersOf
-    asked-absent g = both (record { answer = rw (← e, g); numbers = rw (← e, g); buffer = rw (← e, g) })
+    unfolding askFile askPart andThen askFileBuffer askPartBuffer fileAnswerBy askFileOut askFileNumbers numbersOf
+    asked-absent g = let x = was-absent bytes column kind e g in both (record { answer = rw x; numbers = rw x; buffer = rw x })
 
     pub asked-refused : {r : Refusal} → l ≡ Located.Refused r → Promise bytes column kind t q literals before before (FileAnswer.Answered (Answered.Refused r))
-    unfolding askFile askPart askFileBuffer askPartBuffer fileAnswerBy askFileOut askOut numbersOf
-    asked-refused g = both (record { answer = rw (← e, g); numbers = rw (← e, g); buffer = rw (← e, g) })
+    unfolding askFile andThen askFileBuffer askPartBuffer fileAnswerBy askFileOut askOut numbersOf
+    asked-refused g = let x = was-refused bytes column kind e g in both (record { answer = rw x; numbers = rw x; buffer = rw x })
 
     pub asked-found : {start : Position} {size : ℕ} → l ≡ Located.Found start size → {body : List ℕ} → body ≡ take size (drop (start .0) bytes)
-        → {y : Answered} → y ≡ answeredBy (ask t q literals body before) → {after : List ℕ} → after ≡ askBuffer t q literals body before
-        → Promise bytes column kind t q literals before after (FileAnswer.Answered y)
-    unfolding askFile askPart askFileBuffer askPartBuffer askFileOut
-    asked-found g {body} p {y} h x =
+        → {y : Answered} {after : List ℕ} → AskPromise t q literals body before after y → Promise bytes column kind t q literals before after (FileAnswer.Answered y)
+    unfolding askFile askPart andThen askFileBuffer askPartBuffer askFileOut
+    asked-found g {body} p h =
+        let x = was-found bytes column kind e g in
         let o = ask t q literals body before in
-        both (record { answer = rw (← e, g, ← p, h) (sym (asked o)); numbers = rw (← e, g, ← p, h) (numbered o); buffer = rw (← e, g, ← p) x })
-
--- what the scan answers, in numbers: accepted, and its count
-pub found-numbers : (a : Answer) → askFileOut (fileAnswerBy (ok (found a))) ≡ (0, a .matched)
-unfolding fileAnswerBy askFileOut numbersOf andThen askFileNumbers
-found-numbers a = numbered (ok a)
+        both (record { answer = rw (x, ← p, h .answer) (asked o); numbers = rw (x, ← p) (h .numbers ∙ numbered o); buffer = rw (x, ← p) (h .buffer) })

@@ -1,41 +1,34 @@
--- Demand 3, and what it says of the reading of the one call.
-use Prim.Native.Nat.{ℕ, _≤_}
-use mathlib.Core.Path.{_≡_, ap, sym, _∙_}
+-- The claims, proved.
+use Prim.Native.Nat.{ℕ}
+use mathlib.Core.Path.{ap}
 use mathlib.Core.List.{List}
-use lib.ListN.{length, drop, take}
-use Rattle.numbers.specs.Meaning.{Bytes, joined}
-use Rattle.refusal.specs.Reading.{ok, andThen}
-use Rattle.row_field.specs.Meaning.{size}
+use mathlib.Core.Logic.{⊎-elim}
+use Rattle.refusal.specs.declared.Refusal.{Refusal}
+use Rattle.refusal.specs.Reading.{Out, andThen}
 use Rattle.stored_value.specs.Meaning.{Cell}
-use Rattle.index_file.specs.Reading.{found, lookedAt, locateOut, partOf}
-use Rattle.index_file.specs.declared.Located.{Located}
-use Rattle.index_file.proofs.Theorems.{laid-is-found}
-use Rattle.bitmap_index.specs.Meaning.{Question}
-use Rattle.bitmap_index.proofs.Theorems.{AnswersAsScan, column-is-answered}
+use Rattle.index_file.specs.Reading.{Part, Sought}
+use Rattle.index_file.proofs.Theorems.{laid-out-is-found, other-version-is-not-found}
+use Rattle.bitmap_index.proofs.Theorems.{column-is-answered}
 use Rattle.file_to_answers.specs.Layout.{ColumnFile}
-use Rattle.file_to_answers.specs.Reading.{askPart, askPartBuffer, askFile, askFileBuffer}
-use Rattle.file_to_answers.specs.Claims.{scanAnswer, Demand3}
+use Rattle.file_to_answers.specs.Reading.{lookedAt, partOf, askPart, askPartBuffer, askFile, askFileBuffer}
+use Rattle.file_to_answers.specs.Claims.{FromFileToAnswers, Demand3, FileIsAnswered, OtherVersionHasNoPart}
+
+from-file-to-answers : (t : ℕ) (cells : List Cell) (column kind bytes : List ℕ) → ColumnFile t cells column kind bytes → FromFileToAnswers t cells column kind bytes
+from-file-to-answers t cells column kind bytes f =
+    let l = laid-out-is-found column kind (f .body) bytes (f .file) (f .small) in
+    record { part = l .0; is-found = l .1; answers = λ field b room. rw (l .1, l .2) (column-is-answered t cells (f .body) (f .laid) field b room) }
 
 pub demand-3 : Demand3
-demand-3 t cells column kind embedded file f =
-    let bytes = lookedAt embedded file in
-    let l = laid-is-found (f .file) (f .small) in
-    record {
-      body = f .body;
-      found = ap (λ (l : Located). locateOut l .0) (l .2);
-      handed-back = ap (λ (l : Located). partOf l bytes) (l .2) ∙ l .3;
-      answers = column-is-answered t cells (f .body) (f .laid);
-    }
+demand-3 t cells column kind embedded file f = from-file-to-answers t cells column kind (lookedAt embedded file) f
 
-module _ (t : ℕ) (cells : List Cell) (column kind bytes : List ℕ) (f : ColumnFile t cells column kind bytes) (field : List ℕ) (b : Bytes field)
-    (room : size (length cells) ≤ length field) (q : ℕ) (ls : List (List ℕ)) (w : Question t q ls) where
-  answers : AnswersAsScan t cells (f .body) field
-  answers = column-is-answered t cells (f .body) (f .laid) field b room
+pub file-is-answered : FileIsAnswered
+unfolding askFile askPart andThen askFileBuffer askPartBuffer
+file-is-answered t cells column kind bytes f field b room q ls w =
+    let c = from-file-to-answers t cells column kind bytes f in
+    let a = rw (c .is-found) at (c .answers field b room) in
+    rw (c .is-found) (rw (a .asked q ls w), a .asked-buffer q ls w)
 
-  pub file-as-scan : askFile bytes column kind t q (joined ls) field ≡ ok (found (scanAnswer q ls cells field))
-  unfolding askFile askPart andThen
-  file-as-scan = let l = laid-is-found (f .file) (f .small) in rw (l .2, l .3, answers .asked q ls w)
-
-  pub file-buffer-as-scan : askFileBuffer bytes column kind t q (joined ls) field ≡ scanAnswer q ls cells field .buffer
-  unfolding askFileBuffer askPartBuffer
-  file-buffer-as-scan = let l = laid-is-found (f .file) (f .small) in rw (l .2, l .3, answers .asked-buffer q ls w)
+pub other-version-has-no-part : OtherVersionHasNoPart
+other-version-has-no-part bytes column kind other =
+    let part : Out Refusal (Sought Part) → List ℕ = λ o. partOf o bytes in
+    ⊎-elim (λ e. ap part e) (⊎-elim (λ e. ap part e) (⊎-elim (λ e. ap part e) (λ e. ap part e))) (other-version-is-not-found bytes column kind other)

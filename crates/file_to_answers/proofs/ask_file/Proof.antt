@@ -10,8 +10,8 @@ part-requires c κs =
     let l = f .before in
     let k = l .before .before .before .before .before in
     let a = k .before .before .args in
-    inside (a .embedded .now) (a .file .now) (λ i. k .before .shared-slice-known .given i .fits) (λ i. k .shared-slice-known2 .given i .fits) (l .looked-at .ensures .0) (a .column .now) (a .kind .now)
-    (f .find .ensures .answer) (c .before .located2 .given .1)
+    inside (l .looked-at .result .now) (a .column .now) (a .kind .now) (f .find .ensures .answer) (a .embedded .now) (a .file .now)
+    (λ i. k .before .shared-slice-known .given i .fits) (λ i. k .shared-slice-known2 .given i .fits) (l .looked-at .ensures .0) (c .before .located2 .given .1)
 
 returns : tie.Need-returns
 returns c =
@@ -40,10 +40,9 @@ returns-3 c =
     let l = f .before in
     let k = l .before in
     let a = k .before .before .before .before .before .before .args in
-    let g = c .before .before .ask .ensures in
     rw (l .looked-at .ensures .0)
     at (asked-found (l .looked-at .result .now) (a .column .now) (a .kind .now) (a .t) (a .question) (a .literals .now) (a .field .now) (λ i. k .slice-known .given i .fits) (f .find .ensures .answer)
-    (p .before .before .located2 .given .1) (p .part .ensures .0) (g .0) (g .1))
+    (p .before .before .located2 .given .1) (p .part .ensures .0) (c .before .before .ask .ensures))
 
 pub ask-file-spec : {M : Type 1} → statement M
 ask-file-spec =

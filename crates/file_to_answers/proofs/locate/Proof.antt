@@ -10,8 +10,8 @@ part-requires c κs =
     let l = f .before in
     let k = l .before .before .before in
     let a = k .before .before .args in
-    inside (a .embedded .now) (a .file .now) (λ i. k .before .shared-slice-known .given i .fits) (λ i. k .shared-slice-known2 .given i .fits) (l .looked-at .ensures .0) (a .column .now) (a .kind .now)
-    (f .find .ensures .answer) (c .before .located .given .1)
+    inside (l .looked-at .result .now) (a .column .now) (a .kind .now) (f .find .ensures .answer) (a .embedded .now) (a .file .now)
+    (λ i. k .before .shared-slice-known .given i .fits) (λ i. k .shared-slice-known2 .given i .fits) (l .looked-at .ensures .0) (c .before .located .given .1)
 
 returns : tie.Need-returns
 returns c =
@@ -19,7 +19,7 @@ returns c =
     let l = f .before in
     let a = l .before .before .before .before .before .args in
     rw (← l .looked-at .ensures .0, ← l .looked-at .ensures .1)
-    (locate-found (l .looked-at .result .now) (a .column .now) (a .kind .now) (l .looked-at .result .ptr) (f .find .ensures .answer) (c .before .before .located .given .1)
+    (locate-found (l .looked-at .result .now) (a .column .now) (a .kind .now) (f .find .ensures .answer) (l .looked-at .result .ptr) (c .before .before .located .given .1)
     (c .part .ensures .0) (c .part .ensures .1))
 
 returns-2 : tie.Need-returns-2
@@ -28,7 +28,7 @@ returns-2 c =
     let l = f .before in
     let a = l .before .before .before .before .before .args in
     rw (← l .looked-at .ensures .0, ← l .looked-at .ensures .1)
-    (locate-absent (l .looked-at .result .now) (a .column .now) (a .kind .now) (l .looked-at .result .ptr) (f .find .ensures .answer) (c .before .enum-told .given .1) _)
+    (locate-absent (l .looked-at .result .now) (a .column .now) (a .kind .now) (f .find .ensures .answer) (l .looked-at .result .ptr) (c .before .enum-told .given .1) _)
 
 returns-3 : tie.Need-returns-3
 returns-3 c =
@@ -36,7 +36,7 @@ returns-3 c =
     let l = f .before in
     let a = l .before .before .before .before .before .args in
     rw (← l .looked-at .ensures .0, ← l .looked-at .ensures .1)
-    (locate-refused (l .looked-at .result .now) (a .column .now) (a .kind .now) (l .looked-at .result .ptr) (f .find .ensures .answer) (c .before .before .before .located2 .given .1)
+    (locate-refused (l .looked-at .result .now) (a .column .now) (a .kind .now) (f .find .ensures .answer) (l .looked-at .result .ptr) (c .before .before .before .located2 .given .1)
     (c .before .number .ensures) _)
 
 pub locate-spec : {M : Type 1} → statement M
