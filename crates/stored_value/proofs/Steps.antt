@@ -22,11 +22,11 @@ use Rattle.refusal.specs.declared.Refusal.{Refusal}
 use Rattle.refusal.specs.declared.Refusal.the-variants.{Literal, Limit}
 use Rattle.stored_value.specs.declared.Sized.{Sized}
 use Rattle.stored_value.specs.declared.Counted.{Counted}
-use Rattle.stored_value.specs.Meaning.{types, width, isString, longestString, booleanOk, signedNumber, bytesLess, less, mostLiterals}
+use Rattle.stored_value.specs.Meaning.{types, width, isString, longestString, booleanOk, signedNumber, bytesLess, less}
 use Rattle.refusal.specs.Reading.{Out, refuse, ok, check, numbersOf}
 use Rattle.stored_value.specs.Promises.{sizedBy, SizePromise, countedBy, CountPromise}
 use Rattle.stored_value.specs.Reading.{valueSize, literals}
-use Rattle.stored_value.proofs.Laws.{stringSize, size-unknown, size-number, size-string, value-read, literals-end, literals-full, literals-refused, literals-next}
+use Rattle.stored_value.proofs.Laws.{stringSize, size-number, size-string, value-read, literals-end, literals-full, literals-refused, literals-next}
 
 -- ---- `bytes_less`
 
