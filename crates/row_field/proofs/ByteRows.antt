@@ -14,7 +14,7 @@ use lib.Pow.{shr-shr, pow-add, pow-lt}
 use lib.Bits.{bitOr, bitAnd, or-step, or-zero-l, or-zero-r, or-comm, or-shifted, and-step, and-zero-r}
 use borrow.Author.Tests.{eq-eqb, ne-eqb}
 use Rattle.row_field.specs.Meaning.{markAll, anySet, Rising, rowsFrom}
-use Rattle.row_field.specs.Promises.{anySeen, byteRows}
+use Rattle.row_field.specs.Promises.{byteRows, MarkedInTurn}
 use Rattle.row_field.proofs.Laws.{bit-at, mark-at}
 use Rattle.row_field.proofs.RowLists.{rising-cond, rowsFrom-rising, rowsFrom-append}
 use Rattle.row_field.proofs.Marks.{Past, anySeen-rising, rising-past}
@@ -129,17 +129,14 @@ mark-byte f at x j (suc k) l h b =
 
 -- ---- what the code computes of a byte, said by the definitions
 
-pub byte-answer : (f : List ℕ) (at x : ℕ) → x < 256 → not (eqb (bitAnd (getD f at 0) x) 0) ≡ anySeen f (byteRows x (at * 8) 8)
-byte-answer f at x h =
+pub byte-marked : (f : List ℕ) (at x : ℕ) → at < length f → x < 256
+    → MarkedInTurn f (set f at (bitOr (getD f at 0) x)) (byteRows x (at * 8) 8) (not (eqb (bitAnd (getD f at 0) x) 0))
+byte-marked f at x l h =
     let g : at * 8 + 0 ≡ at * 8 = omega arith in
     let d : getD f at 0 / 1 ≡ getD f at 0 = omega arith in
-    sym (anySeen-rising f 0 (at * 8 + 8) (byteRows x (at * 8) 8) (byteRows-rising x 0 (at * 8 + 8) (at * 8) 8 (omega arith) (omega arith)) ∙ (rw (g, d) at (any-byte f at x 0 8 (omega arith) h)))
-
-pub byte-store : (f : List ℕ) (at x : ℕ) → at < length f → x < 256 → set f at (bitOr (getD f at 0) x) ≡ markAll f (byteRows x (at * 8) 8)
-byte-store f at x l h =
-    let g : at * 8 + 0 ≡ at * 8 = omega arith in
-    let d : x * 1 ≡ x = omega arith in
-    sym (rw (g, d) at (mark-byte f at x 0 8 l (omega arith) h))
+    let y : x * 1 ≡ x = omega arith in
+    let s = anySeen-rising f 0 (at * 8 + 8) (byteRows x (at * 8) 8) (byteRows-rising x 0 (at * 8 + 8) (at * 8) 8 (omega arith) (omega arith)) in
+    record { seen = sym (s ∙ (rw (g, d) at (any-byte f at x 0 8 (omega arith) h))); marked = sym (rw (g, y) at (mark-byte f at x 0 8 l (omega arith) h)) }
 
 -- ---- the rows of a field, byte by byte
 

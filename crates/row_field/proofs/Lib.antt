@@ -2,8 +2,8 @@
 pub mod Laws
 pub mod RowLists
 pub mod Marks
+pub mod Loops
 pub mod Counts
 pub mod Fronts
 pub mod ByteRows
 pub mod RunRows
-pub mod Subtracts

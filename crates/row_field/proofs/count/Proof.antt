@@ -1,5 +1,4 @@
 -- `row_field::count` meets its contract. `count-last` joins the whole bytes' count and the last byte's; where the field ends before, `count-past`.
---
 use mathlib.Core.Path.{sym, ap, _∙_}
 use native.Mathlib.Omega.{arith}
 use lib.Count.{ones}

@@ -1,13 +1,12 @@
--- `row_field::subtract_bytes` meets its contract. The loop's invariant: the field is without the rows of the bytes passed (`subtracted-byte`).
---
+-- `subtract_bytes` meets its contract. The loop's invariant: the field is without the rows of the bytes passed (`subtracted-byte`).
 use Prim.Native.Nat.{_≤_, _*_, _-_}
 use mathlib.Core.Path.{_≡_, sym, ap, _∙_}
 use native.Mathlib.Omega.{arith}
 use lib.ListN.{length}
-use Rattle.row_field.specs.Meaning.{subtracted}
-use Rattle.row_field.proofs.Subtracts.{subtracted-none, subtracted-byte, length-subtracted}
-use Rattle.row_field.proofs.subtract_bytes.Statement.{statement}
-use Rattle.row_field.proofs.subtract_bytes.Tie as tie
+use Rattle.subtract.specs.Meaning.{subtracted}
+use Rattle.subtract.proofs.Laws.{subtracted-none, subtracted-byte, length-subtracted}
+use Rattle.subtract.proofs.subtract_bytes.Statement.{statement}
+use Rattle.subtract.proofs.subtract_bytes.Tie as tie
 
 abbrev Inv-loop : tie.InvT-loop
 Inv-loop first₀ second end i₀ first i = (i ≤ end) × (first ≡ subtracted (i * 8) first₀ second)
@@ -26,9 +25,11 @@ clear-bits-requires c κs =
 
 loop-again : tie.Need-loop-again Inv-loop μ-loop
 loop-again c =
-    let a = c .before .before .before .before .before .before .before .before .before .args in
-    let l = c .before .before .before .before .before .before .loop in
-    let b = subtracted-byte (a .first .now) (a .second .now) (l .i) (omega arith) (λ j. c .before .before .before .before .before .before .before .before .slice-known .given j .fits) (c .before .before .before .before .before .before .before .shared-slice-known .given (l .i) .fits) in
+    let at = c .before .before .before .before .before .before in
+    let start = at .before .before .before in
+    let l = at .loop in
+    let a = start .args in
+    let b = subtracted-byte (a .first .now) (a .second .now) (l .i) (omega arith) (λ j. at .before .before .slice-known .given j .fits) (at .before .shared-slice-known .given (l .i) .fits) in
     (omega arith, c .before .before .clear-bits .ensures ∙ rw (l .inv .1) (sym b))
 
 same-length : tie.Need-same-length Inv-loop μ-loop
@@ -36,7 +37,7 @@ same-length c = ap length (c .before .loop .inv .1) ∙ length-subtracted _ _ _
 
 returns : tie.Need-returns Inv-loop μ-loop
 returns c =
-    let e : c .before .loop .i ≡ c .before .before .before .before .args .end = omega arith in
+    let e : c .before .loop .i ≡ c .before .before .before .before .args .end .0 = omega arith in
     rw e at (c .before .loop .inv .1)
 
 pub subtract-bytes-spec : {M : Type 1} → statement M

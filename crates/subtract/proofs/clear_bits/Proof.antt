@@ -1,7 +1,7 @@
--- `row_field::clear_bits` meets its contract: the store is what it says.
+-- `clear_bits` meets its contract: the store is what it says.
 use borrow.Author.Needs.{needs}
-use Rattle.row_field.proofs.clear_bits.Statement.{statement}
-use Rattle.row_field.proofs.clear_bits.Tie as tie
+use Rattle.subtract.proofs.clear_bits.Statement.{statement}
+use Rattle.subtract.proofs.clear_bits.Tie as tie
 
 pub clear-bits-spec : {M : Type 1} → statement M
 clear-bits-spec =
