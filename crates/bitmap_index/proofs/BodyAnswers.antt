@@ -1,5 +1,5 @@
 -- A body of a column: its literals fit a buffer, its dictionary is read, and then it is answered as the scan.
-use mathlib.Core.Path.{_≡_, ap}
+use mathlib.Core.Path.{_≡_, ap, _∙_}
 use mathlib.Core.Logic.{⊎-elim}
 use Prim.Native.Nat.{ℕ, zero, suc, _*_, _≤_, _<_}
 use mathlib.Core.List.{List, [], _∷_, _++_}
@@ -9,17 +9,18 @@ use lib.ListN.{length, getD, length-append}
 use Rattle.numbers.specs.Meaning.{be, big, joined, Bytes}
 use Rattle.numbers.proofs.Laws.{length-spelled}
 use Rattle.refusal.specs.Meaning.{limit}
+use Rattle.refusal.specs.declared.Refusal.{Refusal}
 use Rattle.roaring.specs.Layout.{fourBytes}
 use Rattle.row_field.specs.Meaning.{size, cleared}
 use Rattle.stored_value.specs.Meaning.{Cell, widths, width, Value, number, string, Literals}
-use Rattle.refusal.specs.Reading.{ok, check, andThen}
+use Rattle.refusal.specs.Reading.{Out, ok, check, andThen}
 use Rattle.stored_value.proofs.Laws.{literals-laid}
 use Rattle.dictionary.specs.Promises.{Patterns}
 use Rattle.dictionary.specs.Layout.{Entry, entries1, null1, body1, blocks, directory, null2, body2}
-use Rattle.dictionary.specs.Reading.{dictionary}
+use Rattle.dictionary.specs.Reading.{Dictionary, dictionary}
 use Rattle.bitmap_index.specs.Meaning.{questions, Question}
 use Rattle.bitmap_index.specs.Layout.{EntryRows, single, bitmap, ExactRows}
-use Rattle.bitmap_index.specs.Reading.{roomFor, prepared, audit, zeroedFrom, auditBuffer, wellFormed, ask, answerBuffer, askBuffer, auditedAnswer}
+use Rattle.bitmap_index.specs.Reading.{audited, roomFor, prepared, audit, zeroedFrom, auditBuffer, wellFormed, ask, answerBuffer, askBuffer, auditedAnswer}
 use Rattle.bitmap_index.specs.Claims.{scanAnswer, AnswersAsScan}
 use Rattle.bitmap_index.proofs.ScanAnswers.{Whole, audited-whole, answered-whole}
 
@@ -62,7 +63,9 @@ module _ (t : ℕ) (cells : List Cell) (es : List Entry) (region body field : Li
 
   audit-well : audit t body field ≡ ok (length cells)
   unfolding audit andThen
-  audit-well = rw prepared-well (audited-whole cells es region field w b h)
+  audit-well =
+      ap (λ (o : Out Refusal Dictionary). andThen o (λ d. audited d (cleared (d .rows) field))) prepared-well
+      ∙ audited-whole cells es region field w b h
 
   audit-buffer : auditBuffer t body field ≡ cleared (length cells) field
   unfolding auditBuffer zeroedFrom
