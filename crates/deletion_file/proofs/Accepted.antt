@@ -14,7 +14,7 @@ use Rattle.refusal.specs.Meaning.{limit}
 use Rattle.refusal.specs.declared.Refusal.{Refusal}
 use Rattle.refusal.specs.declared.Refusal.the-variants.{Short, Version, Room, Limit}
 use Rattle.crc32.specs.Meaning.{checksum}
-use Rattle.row_field.specs.Meaning.{size, markAll, count, cleared, Below}
+use Rattle.row_field.specs.Meaning.{size, markAll, cleared, Below}
 use Rattle.roaring.specs.declared.Extent.the-variants.{Exactly}
 use Rattle.roaring.specs.Layout.{Bitmap}
 use Rattle.roaring.specs.Reading.{lengthIs, measured}
@@ -155,7 +155,7 @@ ready-back file n buffer clear e =
       is-cleared = sym (ok-same _ _ (o .1));
     }
 
-pub deleted-back : (n : ℕ) (o : Out Refusal (List ℕ)) {k : ℕ} → deletionsBy n o ≡ Deleted k → (after : List ℕ) × (o ≡ ok after) × (k ≡ count after n)
+pub deleted-back : (n : ℕ) (o : Out Refusal (List ℕ)) {k : ℕ} → deletionsBy n o ≡ Deleted k → (after : List ℕ) × (o ≡ ok after)
 unfolding deletionsBy
 deleted-back n (refuse r) e = let z : _≡_ {A = ℕ} 0 1 = cc in absurd (omega arith)
-deleted-back n (ok after) e = (after, refl, cc)
+deleted-back n (ok after) e = (after, refl)

@@ -18,8 +18,8 @@ use Rattle.roaring.specs.Promises.{MarkPromise}
 use Rattle.deletion_file.specs.declared.Deletions.the-variants.{Deleted}
 use Rattle.deletion_file.specs.declared.Deletions.{Deletions}
 use Rattle.refusal.specs.Reading.{Out, refuse, ok, check, andThen, numbersOf}
-use Rattle.deletion_file.specs.Reading.{bitmapIn, markBitmap, markBin, deletionsReady, deletions, leftBy, deletionsBuffer, deletionsBy, deletionsOut}
-use Rattle.deletion_file.specs.Promises.{part, MarksRows, ClearsIfRoom, ReadsDeletions}
+use Rattle.deletion_file.specs.Reading.{bitmapIn, markBitmap, markBin, deletionsReady, deletions, leftBy, deletionsBuffer, deletionsBy, deletionsOut, deletionsNumbers}
+use Rattle.deletion_file.specs.Promises.{part, MarksRows, ClearsIfRoom, DeletionsPromise}
 
 -- ---- what was marked
 
@@ -70,38 +70,38 @@ module _ (file : List ℕ) (b n : ℕ) (field : List ℕ) where
   unfolding markBin andThen
   bin-marked e m = record { answer = m .answer ∙ rw e; field = m .field ∙ rw e }
 
-  numbers-so : (o : Out Refusal (List ℕ)) → deletionsOut (deletionsBy n o) ≡ numbersOf 0 (λ marked. (0, count marked n)) o
-  unfolding deletionsBy deletionsOut numbersOf
+  numbers-so : (o : Out Refusal (List ℕ)) → deletionsOut (deletionsBy n o) ≡ numbersOf 0 (deletionsNumbers n) o
+  unfolding deletionsBy deletionsOut deletionsNumbers numbersOf
   numbers-so (refuse r) = refl
   numbers-so (ok marked) = refl
 
   -- what the call comes to by the two readings
   said : {answer : Deletions} {after : List ℕ} (o ready : Out Refusal (List ℕ)) → deletionsReady file n field ≡ ready → deletions file b n field ≡ o
-      → answer ≡ deletionsBy n o → after ≡ leftBy o (leftBy ready field) → ReadsDeletions file b n field after answer
+      → answer ≡ deletionsBy n o → after ≡ leftBy o (leftBy ready field) → DeletionsPromise file b n field after answer
   unfolding deletionsBuffer
   said o ready i e a f = record { answer = rw e a; numbers = rw e (ap deletionsOut a ∙ numbers-so o); buffer = rw (e, i) f }
 
-  refused : {r : Refusal} → deletionsReady file n field ≡ refuse r → ReadsDeletions file b n field field (Deletions.Refused r)
+  refused : {r : Refusal} → deletionsReady file n field ≡ refuse r → DeletionsPromise file b n field field (Deletions.Refused r)
   unfolding deletions andThen deletionsBy leftBy
   refused {r} i = said (refuse r) (refuse r) i (rw i) refl refl
 
-  pub long-file : limit < length file → ReadsDeletions file b n field field (Deletions.Refused Limit)
+  pub long-file : limit < length file → DeletionsPromise file b n field field (Deletions.Refused Limit)
   unfolding deletionsReady check
   long-file h = refused (rw (lt-leb (length file) limit h))
 
-  pub many-rows : length file ≤ limit → limit < n → ReadsDeletions file b n field field (Deletions.Refused Limit)
+  pub many-rows : length file ≤ limit → limit < n → DeletionsPromise file b n field field (Deletions.Refused Limit)
   unfolding deletionsReady check
   many-rows h k = refused (rw (le-leb (length file) limit h, lt-leb n limit k))
 
   -- whether there was room, and what the field was then
   module _ (h : length file ≤ limit) (k : n ≤ limit) {room : Bool} {clear : List ℕ} (e : ClearsIfRoom n field clear room) where
-    pub no-room : room ≡ false → ReadsDeletions file b n field clear (Deletions.Refused Room)
+    pub no-room : room ≡ false → DeletionsPromise file b n field clear (Deletions.Refused Room)
     unfolding deletionsReady check
     no-room t =
         let same : clear ≡ field = e .field ∙ rw t in
         rw same (refused (rw (le-leb (length file) limit h, le-leb n limit k, ← e .room, t)))
 
-    pub with-room : room ≡ true → {answer : Deletions} {after : List ℕ} → MarksRows n (markBin file b n) clear after answer → ReadsDeletions file b n field after answer
+    pub with-room : room ≡ true → {answer : Deletions} {after : List ℕ} → MarksRows n (markBin file b n) clear after answer → DeletionsPromise file b n field after answer
     unfolding deletionsReady deletions check andThen leftBy
     with-room t m =
         let i : deletionsReady file n field ≡ ok clear = rw (le-leb (length file) limit h, le-leb n limit k, ← e .room, t) (ap ok (sym (e .field ∙ rw t))) in

@@ -81,7 +81,6 @@ accepted-was-laid-out file b n buffer k t e =
       rows = r .rows;
       laid-out = file-has-bin (f .between) (r .is-bitmap) (f .framed) (f .cut);
       allowed = w;
-      counted = a .2 ∙ c;
       answers = answers file b n buffer (r .rows) w c m (a .1);
     }
 

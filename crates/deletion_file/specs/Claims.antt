@@ -39,16 +39,15 @@ LaidOutIsRead =
 
 -- 2. What is accepted is what 1 asks for: the bin was laid out, and the answer is its rows. Nothing is said of what the other bins hold: they are not
 -- looked at.
-pub record Accepted (file : List ℕ) (b n : ℕ) (buffer : List ℕ) (k : ℕ) : Type 0 where
+pub record Accepted (file : List ℕ) (b n : ℕ) (buffer : List ℕ) : Type 0 where
   pub rows : List ℕ
   pub laid-out : HasBin b rows file
   pub allowed : Allowed file n buffer rows
-  pub counted : k ≡ length rows
   pub answers : AnswersRows file b n buffer rows
 
 abbrev pub AcceptedWasLaidOut : Type 0
 AcceptedWasLaidOut =
-    (file : List ℕ) (b n : ℕ) (buffer : List ℕ) (k : ℕ) → Bytes file → deletionsBy n (deletions file b n buffer) ≡ Deleted k → Accepted file b n buffer k
+    (file : List ℕ) (b n : ℕ) (buffer : List ℕ) (k : ℕ) → Bytes file → deletionsBy n (deletions file b n buffer) ≡ Deleted k → Accepted file b n buffer
 
 -- 3. A file whose first byte is not 1 is VERSION, unless LIMIT, ROOM or SHORT comes first: it yields no rows.
 abbrev pub OtherVersion : Type 0

@@ -99,3 +99,7 @@ deletionsBy n (ok marked) = Deleted (count marked n)
 unfoldable pub deletionsOut : Deletions → ℕ × ℕ
 deletionsOut (Deletions.Refused r) = (numberOf r, 0)
 deletionsOut (Deleted n) = (0, n)
+
+-- what an accepted reading stands for in numbers
+unfoldable pub deletionsNumbers : ℕ → List ℕ → ℕ × ℕ
+deletionsNumbers n marked = (0, count marked n)

@@ -2,7 +2,7 @@
 ghost use Prim.Native.Nat.{_≤_};
 ghost use lib.ListN.{length};
 ghost use Rattle.deletion_file.specs.Reading.{markBitmap, markBin};
-ghost use Rattle.deletion_file.specs.Promises.{part, BinFits, PartFits, FindsBin, OpensBin, FindsBitmap, MarksRows, ClearsIfRoom, ReadsDeletions};
+ghost use Rattle.deletion_file.specs.Promises.{part, BinFits, PartFits, FindsBin, OpensBin, FindsBitmap, MarksRows, ClearsIfRoom, DeletionsPromise};
 use numbers::Position;
 use refusal::LIMIT;
 use refusal::Refusal;
@@ -152,7 +152,7 @@ fn clear_if_room(field: &mut [u8], rows: u64) -> bool
 
 // Read deletions: the rows of bin number `bin` of a deletion file are set in the field for `rows` rows, and no others. Bytes behind the field stay.
 pub fn read_deletions(file: &[u8], bin: u64, rows: u64, field: &mut [u8]) -> Deletions
-    ensures { λ r. ⌜ ReadsDeletions (now (file .entry)) bin rows (now (field .entry)) (now (field .exit)) r ⌝ }
+    ensures { λ r. ⌜ DeletionsPromise (now (file .entry)) bin rows (now (field .entry)) (now (field .exit)) r ⌝ }
 {
     if LIMIT < file.len() as u64 {
         return Deletions::Refused(Refusal::Limit);
