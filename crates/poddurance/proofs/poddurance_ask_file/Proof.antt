@@ -1,7 +1,7 @@
 -- `poddurance_ask_file` meets its contract: the answer of the call that it wraps, case by case, and so of a column's file the scan's.
 use mathlib.Core.Path.{refl}
 use Rattle.file_to_answers.specs.Reading.{lookedAt, askFileOut}
-use Rattle.poddurance.proofs.Laws.{in-case, as-scan}
+use Rattle.poddurance.proofs.Laws.{in-case, ask-file}
 use borrow.Author.Needs.{needs}
 use Rattle.poddurance.proofs.poddurance_ask_file.Statement.{statement}
 use Rattle.poddurance.proofs.poddurance_ask_file.Tie as tie
@@ -12,8 +12,8 @@ returns c =
     let k = c .before .before .before .before .before .before in
     let a = k .before .before .before .before .before .before .args in
     let g = c .before .before .before .before .ask-file .ensures .0 in
-    let p = record { numbers = in-case askFileOut (g .numbers) (c .enum-told .given .1) refl; buffer = g .buffer } in
-    (p, as-scan (lookedAt (a .embedded .now) (a .file .now)) (a .column .now) (a .kind .now) (a .t) (a .question) (a .literals .now) (a .field .now) (λ i. k .slice-known .given i .fits) p)
+    ask-file (lookedAt (a .embedded .now) (a .file .now)) (a .column .now) (a .kind .now) (a .t) (a .question) (a .literals .now) (a .field .now) (λ i. k .slice-known .given i .fits)
+    (in-case askFileOut (g .numbers) (c .enum-told .given .1) refl) (g .buffer)
 
 returns-2 : tie.Need-returns-2
 unfolding askFileOut
@@ -22,8 +22,8 @@ returns-2 c =
     let k = e .before .before .before .before .before .before in
     let a = k .before .before .before .before .before .before .args in
     let g = e .before .before .before .before .ask-file .ensures .0 in
-    let p = record { numbers = in-case askFileOut (g .numbers) (e .answer .given .1) (c .answered .ensures); buffer = g .buffer } in
-    (p, as-scan (lookedAt (a .embedded .now) (a .file .now)) (a .column .now) (a .kind .now) (a .t) (a .question) (a .literals .now) (a .field .now) (λ i. k .slice-known .given i .fits) p)
+    ask-file (lookedAt (a .embedded .now) (a .file .now)) (a .column .now) (a .kind .now) (a .t) (a .question) (a .literals .now) (a .field .now) (λ i. k .slice-known .given i .fits)
+    (in-case askFileOut (g .numbers) (e .answer .given .1) (c .answered .ensures)) (g .buffer)
 
 pub poddurance-ask-file-spec : {M : Type 1} → statement M
 poddurance-ask-file-spec =
