@@ -1,8 +1,8 @@
 // The C interface (include/poddurance.h). Each function answers a number, 0 for accepted, 255 for Locate's ABSENT and else the refusal's number in
 // document 01, and writes counts through pointers; with ABSENT and a refusal the counts are 0.
 ghost use mathlib.Core.Path.{_≡_};
-ghost use Rattle.index_file.specs.Reading.{lookedAt};
 ghost use Rattle.bitmap_index.specs.Reading.{askOut};
+ghost use Rattle.file_to_answers.specs.Reading.{lookedAt};
 ghost use Rattle.file_to_answers.specs.Promises.{FileAsScan};
 ghost use Rattle.poddurance.specs.Promises.{ReadDeletions, Subtract, Locate, Audit, Ask, AskFile};
 use bitmap_index::Answered;
@@ -10,7 +10,7 @@ use bitmap_index::Audited;
 use deletion_file::Deletions;
 use file_to_answers::FileAnswer;
 use index_file::Located;
-use row_field::Subtracted;
+use subtract::Subtracted;
 
 const ACCEPTED: u8 = 0;
 
@@ -47,7 +47,7 @@ pub extern "C" fn poddurance_subtract(
 ) -> u8
     ensures { λ r. ⌜ Subtract (now (second .entry)) rows (now (first .entry)) (now (first .exit)) r (now (left .exit)) (now (removed .exit)) ⌝ }
 {
-    let answer = row_field::subtract(first, second, rows);
+    let answer = subtract::subtract(first, second, rows);
     match answer {
         Subtracted::Refused(r) => {
             *left = 0;

@@ -5,7 +5,7 @@ use Rattle.poddurance.proofs.poddurance_ask.Statement.{statement}
 use Rattle.poddurance.proofs.poddurance_ask.Tie as tie
 
 returns : tie.Need-returns
-returns c = let a = c .before .before .before .before .ask in record { numbers = c .answered .ensures ∙ a .ensures .2; buffer = a .ensures .1 }
+returns c = let a = c .before .before .before .before .ask .ensures in record { numbers = c .answered .ensures ∙ a .numbers; buffer = a .buffer }
 
 pub poddurance-ask-spec : {M : Type 1} → statement M
 poddurance-ask-spec =

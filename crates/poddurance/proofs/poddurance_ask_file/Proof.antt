@@ -1,7 +1,7 @@
--- `poddurance_ask_file` meets its contract: the answer of the call that it wraps, case by case.
-use mathlib.Core.Path.{refl, _∙_}
-use Rattle.file_to_answers.specs.Reading.{askFileOut}
-use Rattle.poddurance.proofs.Laws.{in-case, as-scan}
+-- `poddurance_ask_file` meets its contract: the answer of the call that it wraps, case by case, and so of a column's file the scan's.
+use mathlib.Core.Path.{refl}
+use Rattle.file_to_answers.specs.Reading.{lookedAt, askFileOut}
+use Rattle.poddurance.proofs.Laws.{in-case, ask-file}
 use borrow.Author.Needs.{needs}
 use Rattle.poddurance.proofs.poddurance_ask_file.Statement.{statement}
 use Rattle.poddurance.proofs.poddurance_ask_file.Tie as tie
@@ -9,17 +9,21 @@ use Rattle.poddurance.proofs.poddurance_ask_file.Tie as tie
 returns : tie.Need-returns
 unfolding askFileOut
 returns c =
-    let a = c .before .before .before .before .ask-file .ensures in
-    let n = in-case askFileOut refl (c .enum-told .given .1) refl in
-    (record { numbers = n ∙ a .0 .numbers; buffer = a .0 .buffer }, λ cells ls f w l room. let s = a .1 cells ls f w l room in (as-scan n _ (s .0) .0, as-scan n _ (s .0) .1, s .1))
+    let k = c .before .before .before .before .before .before in
+    let a = k .before .before .before .before .before .before .args in
+    let g = c .before .before .before .before .ask-file .ensures .0 in
+    ask-file (lookedAt (a .embedded .now) (a .file .now)) (a .column .now) (a .kind .now) (a .t) (a .question) (a .literals .now) (a .field .now) (λ i. k .slice-known .given i .fits)
+    (in-case askFileOut (g .numbers) (c .enum-told .given .1) refl) (g .buffer)
 
 returns-2 : tie.Need-returns-2
 unfolding askFileOut
 returns-2 c =
-    let g = c .before .before .before in
-    let a = g .before .before .before .before .ask-file .ensures in
-    let n = in-case askFileOut refl (g .answer .given .1) (c .answered .ensures) in
-    (record { numbers = n ∙ a .0 .numbers; buffer = a .0 .buffer }, λ cells ls f w l room. let s = a .1 cells ls f w l room in (as-scan n _ (s .0) .0, as-scan n _ (s .0) .1, s .1))
+    let e = c .before .before .before in
+    let k = e .before .before .before .before .before .before in
+    let a = k .before .before .before .before .before .before .args in
+    let g = e .before .before .before .before .ask-file .ensures .0 in
+    ask-file (lookedAt (a .embedded .now) (a .file .now)) (a .column .now) (a .kind .now) (a .t) (a .question) (a .literals .now) (a .field .now) (λ i. k .slice-known .given i .fits)
+    (in-case askFileOut (g .numbers) (e .answer .given .1) (c .answered .ensures)) (g .buffer)
 
 pub poddurance-ask-file-spec : {M : Type 1} → statement M
 poddurance-ask-file-spec =

@@ -1,5 +1,5 @@
 -- `poddurance_audit` meets its contract: the answer of the call that it wraps, case by case.
-use mathlib.Core.Path.{refl, ap}
+use mathlib.Core.Path.{refl}
 use Rattle.bitmap_index.specs.Reading.{auditOut}
 use Rattle.poddurance.proofs.Laws.{in-case}
 use borrow.Author.Needs.{needs}
@@ -11,14 +11,14 @@ unfolding auditOut
 returns c =
     let g = c .before .before in
     let a = g .before .before .before .before .audit .ensures in
-    record { numbers = in-case auditOut (a .2) (g .answer .given .1) (rw (c .number .ensures)); buffer = a .1 }
+    record { numbers = in-case auditOut (a .numbers) (g .answer .given .1) (rw (c .number .ensures)); buffer = a .buffer }
 
 returns-2 : tie.Need-returns-2
 unfolding auditOut
 returns-2 c =
     let g = c .before in
     let a = g .before .before .before .before .audit .ensures in
-    record { numbers = in-case auditOut (a .2) (g .answer2 .given .1) refl; buffer = a .1 }
+    record { numbers = in-case auditOut (a .numbers) (g .answer2 .given .1) refl; buffer = a .buffer }
 
 pub poddurance-audit-spec : {M : Type 1} → statement M
 poddurance-audit-spec =

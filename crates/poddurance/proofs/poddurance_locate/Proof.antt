@@ -7,12 +7,15 @@ use Rattle.poddurance.proofs.poddurance_locate.Statement.{statement}
 use Rattle.poddurance.proofs.poddurance_locate.Tie as tie
 
 returns : tie.Need-returns
+unfolding locateOut
 returns c = let g = c .before in record { numbers = in-case locateOut (g .before .before .find .ensures .numbers) (g .answer .given .1) refl }
 
 returns-2 : tie.Need-returns-2
+unfolding locateOut
 returns-2 c = record { numbers = in-case locateOut (c .before .before .find .ensures .numbers) (c .enum-told .given .1) refl }
 
 returns-3 : tie.Need-returns-3
+unfolding locateOut
 returns-3 c = let g = c .before .before in record { numbers = in-case locateOut (g .before .before .find .ensures .numbers) (g .answer2 .given .1) (rw (c .number .ensures)) }
 
 pub poddurance-locate-spec : {M : Type 1} → statement M

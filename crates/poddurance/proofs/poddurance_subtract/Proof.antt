@@ -1,6 +1,6 @@
 -- `poddurance_subtract` meets its contract: the answer of the call that it wraps, case by case.
-use mathlib.Core.Path.{refl, ap}
-use Rattle.row_field.specs.Reading.{subtractOut}
+use mathlib.Core.Path.{refl}
+use Rattle.subtract.specs.Reading.{subtractOut}
 use Rattle.poddurance.proofs.Laws.{in-case}
 use borrow.Author.Needs.{needs}
 use Rattle.poddurance.proofs.poddurance_subtract.Statement.{statement}
@@ -11,14 +11,14 @@ unfolding subtractOut
 returns c =
     let g = c .before .before in
     let a = g .before .before .before .before .subtract .ensures in
-    record { numbers = in-case subtractOut (ap subtractOut (a .0)) (g .answer .given .1) (rw (c .number .ensures)); buffer = rw (a .0) at (a .1) }
+    record { numbers = in-case subtractOut (a .numbers) (g .answer .given .1) (rw (c .number .ensures)); buffer = a .buffer }
 
 returns-2 : tie.Need-returns-2
 unfolding subtractOut
 returns-2 c =
     let g = c .before in
     let a = g .before .before .before .before .subtract .ensures in
-    record { numbers = in-case subtractOut (ap subtractOut (a .0)) (g .answer2 .given .1) refl; buffer = rw (a .0) at (a .1) }
+    record { numbers = in-case subtractOut (a .numbers) (g .answer2 .given .1) refl; buffer = a .buffer }
 
 pub poddurance-subtract-spec : {M : Type 1} → statement M
 poddurance-subtract-spec =
