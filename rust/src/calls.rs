@@ -202,6 +202,65 @@ pub fn ask(body: &[u8], question: Question, literals: &Literals, mut field: RowF
     Ok(Answer { field, count })
 }
 
+/// From the file to the answer in one call: finds the index as [`locate`] does, checks its whole body as [`audit`] does, then
+/// answers the question as [`ask`] does.
+///
+/// **None says that there is no such index, so that all rows are to be read.** That is not [skip](Answer::is_skip), with which none
+/// is. The field is lent by value: neither without an index nor with a refusal does it come back, and none of its rows can be taken
+/// for an answer.
+///
+/// The type is that of the literals. An index with another row count than the field's is [`Error::RowsDiffer`], or
+/// [`Refusal::Room`] where it needs more bytes than the field has.
+///
+/// ```
+/// use poddurance::{ask_file, Error, Literals, Question, Refusal, RowField, Type};
+///
+/// // The TINYINT column s with the rows 7, 9, null.
+/// let mut file = [
+///     0, 5, 0x4E, 0x4E, 0xD0, 0x1A, 0x35, 0xAE, 0, 0, 0, 1, 0, 0, 0, 47, 0, 0, 0, 1, // head up to the column number
+///     0, 1, b's', 0, 0, 0, 1, 0, 6, b'b', b'i', b't', b'm', b'a', b'p', 0, 0, 0, 47, 0, 0, 0, 24, 0, 0, 0, 0,
+///     1, 0, 0, 0, 3, 0, 0, 0, 2, 1, 255, 255, 255, 253, 7, 255, 255, 255, 255, 9, 255, 255, 255, 254, // body
+/// ];
+/// let row_count = 3; // as the table's metadata has it
+/// let seven = Literals::of(Type::TinyInt, [7])?;
+///
+/// let rows = match ask_file(&[], &file, "s", "bitmap", Question::NotEqual, &seven, RowField::for_rows(row_count)?)? {
+///     Some(answer) => answer.into_field(),
+///     None => RowField::all_of(row_count)?, // without an index all rows are to be read
+/// };
+/// assert!(rows.iter().eq([1, 2])); // 9 and null
+///
+/// let asked = ask_file(&[], &file, "t", "bitmap", Question::NotEqual, &seven, RowField::for_rows(row_count)?);
+/// assert_eq!(asked, Ok(None));
+///
+/// file[70] = 255; // 9 is now at row 0, where 7 is, and no longer at row 1
+/// let asked = ask_file(&[], &file, "s", "bitmap", Question::NotEqual, &seven, RowField::for_rows(row_count)?);
+/// assert_eq!(asked, Err(Error::Refused(Refusal::Twice)));
+/// # Ok::<(), Error>(())
+/// ```
+pub fn ask_file(
+    embedded: &[u8],
+    file: &[u8],
+    column: &str,
+    kind: &str,
+    question: Question,
+    literals: &Literals,
+    mut field: RowField,
+) -> Result<Option<Answer>, Error> {
+    let (ty, question) = (literals.ty().number(), question.number());
+    let (column_bytes, kind_bytes) = (column.as_bytes(), kind.as_bytes());
+    let (answer, count) =
+        raw::ask_file(embedded, file, column_bytes, kind_bytes, ty, question, literals.as_bytes(), field.bytes_mut());
+    if answer == raw::ABSENT {
+        return Ok(None);
+    }
+    accepted(answer)?;
+    // The call answers no row count. An accepted body has the one that stands in its bytes, and Locate finds the same body again.
+    let body = locate(embedded, file, column, kind)?.expect("the index that was asked is there");
+    same_rows(&field, RowField::claim(body))?;
+    Ok(Some(Answer { field, count }))
+}
+
 /// The answer to a question: the rows it chooses.
 ///
 /// ```

@@ -1,11 +1,5 @@
 use crate::{Refusal, Type};
 
-/// Document 01's limit of literals in one question.
-const MOST_LITERALS: usize = 1_024;
-
-/// Document 01's limit of a stored string's bytes.
-const MOST_STRING_BYTES: usize = 65_535;
-
 /// One value to ask for, before it has the form in which its type is stored.
 ///
 /// ```
@@ -90,9 +84,9 @@ impl<'a> From<&'a [u8]> for Value<'a> {
 
 /// The literals of a question, in the stored form of one type.
 ///
-/// They carry the type to [`ask`](crate::ask): literals read as another type than they were written for could fit it by chance
-/// and choose wrong rows. A value that doesn't fit is [`Refusal::Literal`] here already, as it would be there, and what passes
-/// document 01's limits is [`Refusal::Limit`].
+/// They carry the type to [`ask`](crate::ask) and [`ask_file`](crate::ask_file): literals read as another type than they were
+/// written for could fit it by chance and choose wrong rows. A value that has no stored form of the type is [`Refusal::Literal`]
+/// here already. Whether they fit the question, and keep document 01's limits, is for those calls to say.
 ///
 /// ```
 /// use poddurance::{Literals, Refusal, Type};
@@ -152,15 +146,10 @@ impl Literals {
     /// # Ok::<(), Refusal>(())
     /// ```
     pub fn push<'a>(&mut self, value: impl Into<Value<'a>>) -> Result<(), Refusal> {
-        if self.number == MOST_LITERALS {
-            return Err(Refusal::Limit);
-        }
         match (self.ty, value.into()) {
             (Type::Boolean, Value::Boolean(boolean)) => self.bytes.push(boolean.into()),
             (Type::Char | Type::VarChar | Type::String, Value::String(bytes)) => {
-                if bytes.len() > MOST_STRING_BYTES {
-                    return Err(Refusal::Limit);
-                }
+                // A length that has no four bytes is far over the limit.
                 let length = u32::try_from(bytes.len()).map_err(|_| Refusal::Limit)?;
                 self.bytes.extend(length.to_be_bytes());
                 self.bytes.extend(bytes);

@@ -326,6 +326,36 @@ fn every_refusal_of_literals() {
         r#"{"answer":"refused","file":null,"name":"LIMIT","number":12,"meaning":"a limit is passed"}"#,
     );
 
+    // Literals are read before the body, and the head of the file before them.
+    let damaged = |at: usize, byte: u8| {
+        let mut bytes = index_file("s", "bitmap", &SMALL);
+        bytes[at] = byte;
+        folder.write("damaged", &bytes)
+    };
+    let mut line = many(1_025);
+    let twice = damaged(70, 0xFF);
+    line[1] = &twice;
+    says(&line, 3, "refused: LIMIT (12), a limit is passed");
+    says(&["ask", &twice, "s", "TINYINT", "EQUAL"], 3, misfit);
+    let magic = damaged(0, 1);
+    line[1] = &magic;
+    says(&line, 3, "refused: MAGIC (2), index file or bin magic differs");
+    says(&["ask", &magic, "s", "TINYINT", "EQUAL"], 3, "refused: MAGIC (2), index file or bin magic differs");
+    says(&["ask", file, "x", "TINYINT", "EQUAL"], 1, "absent: no bitmap index on column \"x\"");
+    // The same numbers, of the body and not of the literals.
+    let limit = damaged(54, 0x11);
+    says(
+        &["ask", &limit, "s", "TINYINT", "EQUAL", "7", "--json"],
+        3,
+        r#"{"answer":"refused","file":"index","name":"LIMIT","number":12,"meaning":"a limit is passed"}"#,
+    );
+    let empty = folder.write("empty", &index_file("s", "bitmap", &[]));
+    says(
+        &["ask", &empty, "s", "TINYINT", "EQUAL", "7", "--json"],
+        3,
+        r#"{"answer":"refused","file":"index","name":"SHORT","number":1,"meaning":"the bytes end inside a field that is due, outside bitmaps"}"#,
+    );
+
     let strings = &folder.write("strings", &index_file("state", "bitmap", &events()));
     let long = |length: usize| ["ask", strings, "state", "STRING", "EQUAL", &"x".repeat(length)].map(String::from);
     says(&long(65_535), 1, "skip: no row of 6");

@@ -132,10 +132,20 @@ fn sound_files_answer_as_a_scan() {
         let about_one = one.flat_map(|value| [types::EQUAL, types::NOT_EQUAL, types::IN, types::NOT_IN].map(|q| (q, value)));
         let about_null = [types::IS_NULL, types::IS_NOT_NULL].map(|question| (question, &values[..0]));
         for (question, values) in about_one.chain(about_null) {
-            let mut field = [0; 3];
-            let answer = raw::ask(&body, cells.ty, question, &types::literals(cells.ty, values), &mut field);
+            let literals = types::literals(cells.ty, values);
             let (expected, count) = scan(cells, question, values);
-            assert_eq!((answer, field.to_vec()), ((raw::ACCEPTED, count), expected), "{name} {column} {question} {values:?}");
+            let expected = ((raw::ACCEPTED, count), expected);
+            let mut field = [0xA5; 3];
+            let answer = raw::ask(&body, cells.ty, question, &literals, &mut field);
+            assert_eq!((answer, field.to_vec()), expected, "{name} {column} {question} {values:?}");
+            // From the file, and with the same bytes embedded in a manifest.
+            let file = demo(name);
+            for (embedded, file) in [(&[][..], &file[..]), (&file, &[])] {
+                let mut field = [0xA5; 3];
+                let (column, kind) = (column.as_bytes(), b"bitmap");
+                let answer = raw::ask_file(embedded, file, column, kind, cells.ty, question, &literals, &mut field);
+                assert_eq!((answer, field.to_vec()), expected, "{name} {question} {values:?}");
+            }
         }
     }
     for name in ["pumps-v1.index", "pumps-v2.index"] {
@@ -149,6 +159,18 @@ fn damaged_files_are_refused() {
     for (name, refusal) in [("pumps-row-lost.index", Refusal::Missing), ("pumps-row-doubled.index", Refusal::Twice)] {
         assert_eq!(audit(name, "state", types::STRING), (refusal.number(), 0), "{name}");
         assert_eq!(audit(name, "alarm", types::BOOLEAN), (raw::ACCEPTED, 24), "{name}");
+
+        let fault = types::literals(types::STRING, &["fault"]);
+        let asked = |column: &[u8], field: &mut [u8]| {
+            raw::ask_file(&[], &demo(name), column, b"bitmap", types::STRING, types::EQUAL, &fault, field)
+        };
+        // Whichever value is asked for, and with no row in the field; where there is no index the field is as it was.
+        let mut field = [0xA5; 4];
+        assert_eq!(asked(b"state", &mut field), (refusal.number(), 0), "{name}");
+        assert_eq!(field, [0, 0, 0, 0xA5], "{name}");
+        let mut field = [0xA5; 4];
+        assert_eq!(asked(b"pressure", &mut field), (raw::ABSENT, 0), "{name}");
+        assert_eq!(field, [0xA5; 4], "{name}");
     }
 }
 

@@ -1,8 +1,7 @@
 //! The functions at the top of the crate: what a field holds after each call, and what they don't let happen.
 
-use poddurance::{
-    ask, audit, locate, raw, read_deletions, subtract, Error, Literals, Question, Refusal, RowField, Subtracted, Type, Value,
-};
+use poddurance::{ask, ask_file, audit, locate, raw, read_deletions, subtract};
+use poddurance::{Answer, Error, Literals, Question, Refusal, RowField, Subtracted, Type, Value};
 
 /// TINYINT 7, 9, null.
 const SMALL: [u8; 24] = [1, 0, 0, 0, 3, 0, 0, 0, 2, 1, 255, 255, 255, 253, 7, 255, 255, 255, 255, 9, 255, 255, 255, 254];
@@ -12,6 +11,16 @@ const SMALL_2: [u8; 62] = [
     2, 0, 0, 0, 3, 0, 0, 0, 2, 1, 255, 255, 255, 253, 255, 255, 255, 255, 0, 0, 0, 2, 7, 0, 0, 0, 0, 9, 0, 0, 0, 13, 0, 0, 0, 26,
     0, 0, 0, 1, 7, 255, 255, 255, 255, 255, 255, 255, 255, 0, 0, 0, 1, 9, 255, 255, 255, 254, 255, 255, 255, 255,
 ];
+
+/// A body as the bitmap index on column `s`, as document 01 writes it out.
+fn small_file(body: &[u8]) -> Vec<u8> {
+    let mut file = vec![0, 5, 0x4E, 0x4E, 0xD0, 0x1A, 0x35, 0xAE, 0, 0, 0, 1, 0, 0, 0, 47, 0, 0, 0, 1];
+    file.extend(b"\0\x01s\0\0\0\x01\0\x06bitmap\0\0\0\x2F");
+    file.extend((body.len() as u32).to_be_bytes());
+    file.extend([0; 4]);
+    file.extend(body);
+    file
+}
 
 /// One bin with rows 0, 2 and 5.
 const DELETIONS: [u8; 35] = [
@@ -143,9 +152,7 @@ fn fields_sized_by_the_claim_of_a_body() {
 
 #[test]
 fn locate_hands_back_a_part_of_the_buffer_it_looks_at() {
-    let mut file = vec![0, 5, 0x4E, 0x4E, 0xD0, 0x1A, 0x35, 0xAE, 0, 0, 0, 1, 0, 0, 0, 47, 0, 0, 0, 1];
-    file.extend(b"\0\x01s\0\0\0\x01\0\x06bitmap\0\0\0\x2F\0\0\0\x18\0\0\0\0");
-    file.extend(SMALL);
+    let file = small_file(&SMALL);
     let other = [0];
     assert_eq!(locate(&file, &other, "s", "bitmap").unwrap().unwrap().as_ptr(), file[47..].as_ptr());
     assert_eq!(locate(&[], &file, "s", "bitmap").unwrap().unwrap().as_ptr(), file[47..].as_ptr());
@@ -156,9 +163,90 @@ fn locate_hands_back_a_part_of_the_buffer_it_looks_at() {
 
 #[test]
 fn an_index_of_length_0_is_found() {
-    let mut file = vec![0, 5, 0x4E, 0x4E, 0xD0, 0x1A, 0x35, 0xAE, 0, 0, 0, 1, 0, 0, 0, 47, 0, 0, 0, 1];
-    file.extend(b"\0\x01s\0\0\0\x01\0\x06bitmap\0\0\0\x2F\0\0\0\0\0\0\0\0");
+    let file = small_file(&[]);
     assert_eq!(locate(&[], &file, "s", "bitmap"), Ok(Some(&[][..])));
+    assert_eq!(asked(&file, "s", Question::IsNull, &none(), 0), Err(Error::Refused(Refusal::Short)));
+}
+
+/// Asks the bitmap index on a column of a file that holds rows of an earlier answer in its field.
+fn asked(file: &[u8], column: &str, question: Question, literals: &Literals, rows: u64) -> Result<Option<Answer>, Error> {
+    ask_file(&[], file, column, "bitmap", question, literals, used(rows))
+}
+
+#[test]
+fn the_file_that_document_01_writes_out_is_asked() {
+    assert_eq!(small_file(&SMALL).len(), 71);
+    for body in [&SMALL[..], &SMALL_2] {
+        let file = small_file(body);
+        let eight = Literals::of(Type::TinyInt, [8]).unwrap();
+        for (question, literals, field, count) in [
+            (Question::Equal, &seven(), 0b001, 1),
+            (Question::NotEqual, &seven(), 0b110, 2),
+            (Question::Equal, &eight, 0, 0),
+            (Question::In, &none(), 0, 0),
+            (Question::NotIn, &none(), 0b111, 3),
+            (Question::IsNull, &none(), 0b100, 1),
+            (Question::IsNotNull, &none(), 0b011, 2),
+        ] {
+            let answer = asked(&file, "s", question, literals, 3).unwrap().unwrap();
+            assert_eq!((answer.field().as_bytes(), answer.count(), answer.is_skip()), (&[field][..], count, count == 0));
+            assert_eq!(Ok(answer.clone()), ask(body, question, literals, used(3)));
+            // Embedded, it is looked at alone.
+            let embedded = ask_file(&file, &[0], "s", "bitmap", question, literals, used(3));
+            assert_eq!(embedded, Ok(Some(answer)));
+        }
+    }
+}
+
+#[test]
+fn an_index_that_is_not_there_is_no_answer() {
+    let file = small_file(&SMALL);
+    for (column, kind) in [("t", "bitmap"), ("s", "bsi"), ("", "bitmap"), ("s", "")] {
+        assert_eq!(ask_file(&[], &file, column, kind, Question::Equal, &seven(), used(3)), Ok(None));
+        assert_eq!(ask_file(&file, &[], column, kind, Question::Equal, &seven(), used(3)), Ok(None));
+        // It is said before literals that don't fit, and whatever rows the field is for.
+        assert_eq!(ask_file(&[], &file, column, kind, Question::Equal, &none(), used(1_000)), Ok(None));
+    }
+}
+
+#[test]
+fn a_file_is_refused_as_locate_and_then_ask_refuse() {
+    let file = small_file(&SMALL);
+    let changed = |at: usize, byte: u8| {
+        let mut bytes = file.clone();
+        bytes[at] = byte;
+        bytes
+    };
+    for (bytes, refusal) in [
+        (vec![], Refusal::Short),
+        (changed(7, 0), Refusal::Magic),
+        (changed(11, 2), Refusal::Version),
+        (file[..70].to_vec(), Refusal::Head),
+        (changed(66, 7), Refusal::Dict),
+        (changed(67, 0), Refusal::Bitmap),
+        (changed(70, 0xFC), Refusal::Range),
+        (changed(70, 0xFF), Refusal::Twice),
+        (changed(51, 4), Refusal::Missing),
+        (changed(51, 9), Refusal::Room),
+        (changed(54, 0x11), Refusal::Limit),
+    ] {
+        assert_eq!(asked(&bytes, "s", Question::Equal, &seven(), 3), Err(Error::Refused(refusal)));
+    }
+    // The literals are read before the body, and the head before them.
+    assert_eq!(asked(&file, "s", Question::Equal, &none(), 3), Err(Error::Refused(Refusal::Literal)));
+    assert_eq!(asked(&changed(70, 0xFF), "s", Question::Equal, &none(), 3), Err(Error::Refused(Refusal::Literal)));
+    assert_eq!(asked(&file[..70], "s", Question::Equal, &none(), 3), Err(Error::Refused(Refusal::Head)));
+}
+
+#[test]
+fn a_file_of_fewer_or_more_rows_is_no_answer() {
+    let file = small_file(&SMALL);
+    for rows in [1, 2, 4, 8, 9, 1_000] {
+        let expected = Err(Error::RowsDiffer { expected: rows, found: 3 });
+        assert_eq!(asked(&file, "s", Question::Equal, &seven(), rows), expected);
+        assert_eq!(ask_file(&file, &[], "s", "bitmap", Question::Equal, &seven(), used(rows)), expected);
+    }
+    assert_eq!(asked(&file, "s", Question::Equal, &seven(), 0), Err(Error::Refused(Refusal::Room)));
 }
 
 #[test]

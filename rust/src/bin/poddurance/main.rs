@@ -13,9 +13,11 @@ use std::io::{self, BufWriter, Read, Write};
 use std::path::Path;
 use std::process::ExitCode;
 
-use poddurance::{ask, audit, locate, raw, read_deletions, subtract, Error, Literals, Refusal, RowField, LIMIT};
+use poddurance::{ask, ask_file, audit, locate, raw, read_deletions, subtract};
+use poddurance::{Error, Literals, Question, Refusal, RowField, LIMIT};
 
 use args::{Command, Deletions, IndexOf, Job, BITMAP};
+use literal::Literal;
 use output::{Outcome, Part};
 
 /// Wrong usage, a file that can't be read, or an answer that can't be written.
@@ -57,20 +59,9 @@ fn carry_out(command: Command) -> Result<Outcome, String> {
     Ok(match command {
         Command::Help | Command::Version => unreachable!("these have been answered"),
         Command::Locate { file, column, kind } => place(&read(&file)?, column, kind),
-        Command::Audit { index } => in_index(&index, |body| {
-            let rows = audit(body, index.ty, RowField::for_body(body))?.rows();
-            Ok(differing(rows, index.data_rows).unwrap_or(Outcome::Accepted { rows }))
-        })?,
+        Command::Audit { index } => audited(&read(&index.file)?, &index),
         Command::Ask { index, question, literals, deletions } => {
-            let answered = in_index(&index, |body| {
-                let literals = match Literals::of(index.ty, &literals) {
-                    Ok(literals) => literals,
-                    Err(refusal) => return Ok(Outcome::Refused { refusal, part: Part::Literals }),
-                };
-                let field = ask(body, question, &literals, RowField::for_body(body))?.into_field();
-                Ok(differing(field.rows(), index.data_rows).unwrap_or(Outcome::Answered { field, removed: None }))
-            })?;
-            match (answered, deletions) {
+            match (asked(&read(&index.file)?, &index, question, &literals), deletions) {
                 (Outcome::Answered { field, .. }, Some(deletions)) => without(field, &deletions)?,
                 (outcome, _) => outcome,
             }
@@ -97,18 +88,51 @@ fn place(bytes: &[u8], column: String, kind: String) -> Outcome {
     }
 }
 
-/// What the bitmap index on the column answers.
-fn in_index(index: &IndexOf, answer: impl FnOnce(&[u8]) -> Result<Outcome, Error>) -> Result<Outcome, String> {
-    let bytes = read(&index.file)?;
-    let answered = match locate(&[], &bytes, &index.column, BITMAP) {
-        Ok(Some(body)) => answer(body),
-        Ok(None) => Ok(Outcome::Absent { column: index.column.clone(), kind: BITMAP.to_string() }),
-        Err(refusal) => Err(refusal.into()),
+/// Whether the bitmap index on the column gives each row one place.
+fn audited(bytes: &[u8], index: &IndexOf) -> Outcome {
+    let body = match locate(&[], bytes, &index.column, BITMAP) {
+        Ok(Some(body)) => body,
+        Ok(None) => return absent(index),
+        Err(refusal) => return Outcome::Refused { refusal, part: Part::Index },
     };
-    Ok(answered.unwrap_or_else(|error| match refusal_of(error) {
-        refusal @ Refusal::Literal => Outcome::Refused { refusal, part: Part::Literals },
-        refusal => Outcome::Refused { refusal, part: Part::Index },
-    }))
+    match audit(body, index.ty, RowField::for_body(body)) {
+        Ok(audited) => differing(audited.rows(), index.data_rows).unwrap_or(Outcome::Accepted { rows: audited.rows() }),
+        Err(error) => Outcome::Refused { refusal: refusal_of(error), part: Part::Index },
+    }
+}
+
+/// Which rows the bitmap index on the column answers.
+fn asked(bytes: &[u8], index: &IndexOf, question: Question, literals: &[Literal]) -> Outcome {
+    let literals = match Literals::of(index.ty, literals) {
+        Ok(literals) => literals,
+        Err(refusal) => return Outcome::Refused { refusal, part: Part::Literals },
+    };
+    // The call wants a field of the index's row count, and who asks needn't know it. So the index is located beforehand, only to
+    // make the field for the rows that its body claims. Whether it is there, and whether the claim is true, the call itself says.
+    let body = locate(&[], bytes, &index.column, BITMAP);
+    let field = RowField::for_body(body.ok().flatten().unwrap_or_default());
+    match ask_file(&[], bytes, &index.column, BITMAP, question, &literals, field) {
+        Ok(Some(answer)) => {
+            let field = answer.into_field();
+            differing(field.rows(), index.data_rows).unwrap_or(Outcome::Answered { field, removed: None })
+        }
+        Ok(None) => absent(index),
+        Err(error) => {
+            let refusal = refusal_of(error);
+            let part = if body.is_ok() && of_literals(refusal, question, &literals) { Part::Literals } else { Part::Index };
+            Outcome::Refused { refusal, part }
+        }
+    }
+}
+
+/// Whether a refusal is of the literals: then a body of no bytes gets it too, since they are read before it.
+fn of_literals(refusal: Refusal, question: Question, literals: &Literals) -> bool {
+    let empty = ask(&[], question, literals, RowField::for_body(&[]));
+    refusal != Refusal::Short && empty == Err(Error::Refused(refusal))
+}
+
+fn absent(index: &IndexOf) -> Outcome {
+    Outcome::Absent { column: index.column.clone(), kind: BITMAP.to_string() }
 }
 
 /// The outcome where an accepted index has another row count than the data file: it is of another one, or of the same before it
