@@ -19,6 +19,7 @@ use crate::{raw, Literals, Question, Refusal, RowField, Type};
 /// # Ok::<(), Error>(())
 /// ```
 #[derive(Clone, Copy, Debug, PartialEq, Eq, Hash)]
+#[non_exhaustive]
 pub enum Error {
     /// The library refused the bytes.
     Refused(Refusal),
@@ -355,7 +356,9 @@ impl Answer {
 ///     1, 0, 0, 0, 26, 0x5E, 0x43, 0xF2, 0xD0, 0x3A, 0x30, 0, 0, 1, 0, 0, 0, 0, 0, 2, 0, 0x10, 0, 0, 0, 0, 0, 2, 0, 5, 0,
 ///     0x80, 0x72, 0x25, 0x2B,
 /// ];
-/// assert!(read_deletions(&file, 0, RowField::for_rows(6)?)?.iter().eq([0, 2, 5]));
+/// let deleted = read_deletions(&file, 0, RowField::for_rows(6)?)?;
+/// assert_eq!(deleted.count(), 3);
+/// assert!(deleted.field().iter().eq([0, 2, 5]));
 /// assert_eq!(read_deletions(&file, 0, RowField::for_rows(5)?), Err(Refusal::Range));
 /// assert_eq!(read_deletions(&file, 1, RowField::for_rows(6)?), Err(Refusal::NoBin));
 ///
@@ -363,11 +366,76 @@ impl Answer {
 /// assert_eq!(read_deletions(&file, 0, RowField::for_rows(6)?), Err(Refusal::Checksum));
 /// # Ok::<(), Refusal>(())
 /// ```
-pub fn read_deletions(file: &[u8], bin: u64, mut field: RowField) -> Result<RowField, Refusal> {
+pub fn read_deletions(file: &[u8], bin: u64, mut field: RowField) -> Result<Deleted, Refusal> {
     let rows = field.rows();
-    let (answer, _) = raw::read_deletions(file, bin, rows, field.bytes_mut());
+    let (answer, count) = raw::read_deletions(file, bin, rows, field.bytes_mut());
     accepted(answer)?;
-    Ok(field)
+    Ok(Deleted { field, count })
+}
+
+/// The answer of [`read_deletions`] to a file that it accepts: the rows that are deleted.
+///
+/// ```
+/// use poddurance::{read_deletions, subtract, RowField};
+///
+/// let file = [
+///     1, 0, 0, 0, 26, 0x5E, 0x43, 0xF2, 0xD0, 0x3A, 0x30, 0, 0, 1, 0, 0, 0, 0, 0, 2, 0, 0x10, 0, 0, 0, 0, 0, 2, 0, 5, 0,
+///     0x80, 0x72, 0x25, 0x2B,
+/// ];
+/// let deleted = read_deletions(&file, 0, RowField::for_rows(6)?)?;
+/// let mut rows = RowField::all_of(6)?;
+/// assert_eq!(subtract(&mut rows, deleted.field())?.removed, deleted.count());
+/// # Ok::<(), poddurance::Error>(())
+/// ```
+#[derive(Clone, Debug, PartialEq, Eq)]
+pub struct Deleted {
+    field: RowField,
+    count: u64,
+}
+
+impl Deleted {
+    /// How many rows are deleted.
+    ///
+    /// ```
+    /// # use poddurance::{read_deletions, RowField};
+    /// // One bin without rows.
+    /// let file = [1, 0, 0, 0, 12, 0x5E, 0x43, 0xF2, 0xD0, 0x3A, 0x30, 0, 0, 0, 0, 0, 0, 0x5D, 0xE5, 0xC7, 0xE9];
+    /// assert_eq!(read_deletions(&file, 0, RowField::for_rows(6)?)?.count(), 0);
+    /// # Ok::<(), poddurance::Refusal>(())
+    /// ```
+    #[must_use]
+    pub fn count(&self) -> u64 {
+        self.count
+    }
+
+    /// The rows that are deleted, to [`subtract`].
+    ///
+    /// ```
+    /// # use poddurance::{read_deletions, RowField};
+    /// // One bin without rows.
+    /// let file = [1, 0, 0, 0, 12, 0x5E, 0x43, 0xF2, 0xD0, 0x3A, 0x30, 0, 0, 0, 0, 0, 0, 0x5D, 0xE5, 0xC7, 0xE9];
+    /// assert!(!read_deletions(&file, 0, RowField::for_rows(6)?)?.field().contains(5));
+    /// # Ok::<(), poddurance::Refusal>(())
+    /// ```
+    #[must_use]
+    pub fn field(&self) -> &RowField {
+        &self.field
+    }
+
+    /// The rows that are deleted, or the field to lend to the next call.
+    ///
+    /// ```
+    /// # use poddurance::{read_deletions, RowField};
+    /// // One bin without rows.
+    /// let file = [1, 0, 0, 0, 12, 0x5E, 0x43, 0xF2, 0xD0, 0x3A, 0x30, 0, 0, 0, 0, 0, 0, 0x5D, 0xE5, 0xC7, 0xE9];
+    /// let field = read_deletions(&file, 0, RowField::for_rows(6)?)?.into_field();
+    /// assert_eq!(field, RowField::for_rows(6)?);
+    /// # Ok::<(), poddurance::Refusal>(())
+    /// ```
+    #[must_use]
+    pub fn into_field(self) -> RowField {
+        self.field
+    }
 }
 
 /// Clears in `first` each row that is set in `second`.

@@ -32,10 +32,16 @@
 //! assert!(rows.iter().eq([1, 2]));
 //!
 //! let deleted = read_deletions(&deletion_file, 0, RowField::for_rows(row_count)?)?;
-//! assert_eq!(subtract(&mut rows, &deleted)?.left, 1);
+//! assert_eq!(subtract(&mut rows, deleted.field())?.left, 1);
 //! assert!(rows.iter().eq([2]));
 //! # Ok::<(), poddurance::Error>(())
 //! ```
+//!
+//! # The archive
+//!
+//! The build step makes it with `rt staticlib poddurance` where it is missing or older than its sources. That proves every crate, takes
+//! minutes and needs the Rattle kit. Where the archive was made elsewhere, PODDURANCE_LIB_DIR names the folder, by an absolute path, of
+//! the `libpoddurance.a` to link as it is; neither `rt` nor the sources are looked at.
 //!
 //! The crate is of the standard library alone. The [`raw`] calls, over buffers that the caller keeps, hold its only `unsafe`
 //! blocks.
@@ -51,7 +57,7 @@ pub mod raw;
 mod refusal;
 mod row_field;
 
-pub use calls::{ask, ask_file, audit, locate, read_deletions, subtract, Answer, Audited, Error, Subtracted};
+pub use calls::{ask, ask_file, audit, locate, read_deletions, subtract, Answer, Audited, Deleted, Error, Subtracted};
 pub use literals::{Literals, Value};
 pub use names::{Question, Type, UnknownName};
 pub use refusal::Refusal;

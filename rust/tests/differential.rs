@@ -1,4 +1,4 @@
-//! The library and the plain reader answer alike: on sound files with the scan's answer, on damaged ones with the same
+//! The library and the reference reader answer alike: on sound files with the scan's answer, on damaged ones with the same
 //! refusal, field and bytes behind the field.
 //!
 //! The environment variables PODDURANCE_SEED (where the seeds start) and PODDURANCE_CASES (how many calls at least) ask
@@ -13,15 +13,15 @@ mod support;
 use std::fs::File;
 use std::os::unix::fs::FileExt;
 
-use plain::random::{self, Random};
-use plain::reader;
-use plain::scan::scan;
-use plain::types::{self, BIGINT, BOOLEAN, EQUAL, IN, INT, IS_NULL, NOT_EQUAL, NOT_IN, STRING, TINYINT};
-use plain::writer::{
+use poddurance::raw;
+use reference::random::{self, Random};
+use reference::reader;
+use reference::scan::scan;
+use reference::types::{self, BIGINT, BOOLEAN, EQUAL, IN, INT, IS_NULL, NOT_EQUAL, NOT_IN, STRING, TINYINT};
+use reference::writer::{
     bitmap, body, body_of, body_traced, deletion_file, fix_checksums, index_file, index_file_traced, BitmapForm, Column,
     ContainerForm, Content, FileLayout, Groups, Index, IndexedColumn, Layout, Place,
 };
-use poddurance::raw;
 use support::{hex, number_from_environment, say, Lender, Tally, CALLS};
 
 const LOCATE: usize = 0;
@@ -100,7 +100,7 @@ impl Comparison {
         let same = found == expected && lent.0 == embedded && lent.1 == file && lent.2 == column && lent.3 == kind;
         if !same {
             let inputs = [("embedded", embedded), ("file", file), ("column", column), ("kind", kind)];
-            self.fail("Locate", &inputs, &format!("library {found:?}, plain reader {expected:?}"));
+            self.fail("Locate", &inputs, &format!("library {found:?}, reference reader {expected:?}"));
         }
         self.tally.add(LOCATE, found.0);
         found
@@ -118,9 +118,9 @@ impl Comparison {
                 ("body", body),
                 ("field before", field),
                 ("field after, library", &found_field),
-                ("field after, plain reader", &expected_field),
+                ("field after, reference reader", &expected_field),
             ];
-            self.fail("Audit", &inputs, &format!("type {ty}: library {found:?}, plain reader {expected:?}"));
+            self.fail("Audit", &inputs, &format!("type {ty}: library {found:?}, reference reader {expected:?}"));
         }
         self.tally.add(AUDIT, found.0);
         (found.0, found.1, expected_field)
@@ -139,9 +139,9 @@ impl Comparison {
                 ("literals", literals),
                 ("field before", field),
                 ("field after, library", &found_field),
-                ("field after, plain reader", &expected_field),
+                ("field after, reference reader", &expected_field),
             ];
-            let answers = format!("type {ty}, question {question}: library {found:?}, plain reader {expected:?}");
+            let answers = format!("type {ty}, question {question}: library {found:?}, reference reader {expected:?}");
             self.fail("Ask", &inputs, &answers);
         }
         self.tally.add(ASK, found.0);
@@ -167,9 +167,9 @@ impl Comparison {
                 ("literals", literals),
                 ("field before", field),
                 ("field after, library", &found_field),
-                ("field after, plain reader", &expected_field),
+                ("field after, reference reader", &expected_field),
             ];
-            let answers = format!("type {ty}, question {question}: library {found:?}, plain reader {expected:?}");
+            let answers = format!("type {ty}, question {question}: library {found:?}, reference reader {expected:?}");
             self.fail("Ask file", &inputs, &answers);
         }
         self.tally.add(ASK_FILE, found.0);
@@ -188,9 +188,9 @@ impl Comparison {
                 ("file", file),
                 ("field before", field),
                 ("field after, library", &found_field),
-                ("field after, plain reader", &expected_field),
+                ("field after, reference reader", &expected_field),
             ];
-            let answers = format!("bin {bin}, rows {rows}: library {found:?}, plain reader {expected:?}");
+            let answers = format!("bin {bin}, rows {rows}: library {found:?}, reference reader {expected:?}");
             self.fail("Read deletions", &inputs, &answers);
         }
         self.tally.add(READ_DELETIONS, found.0);
@@ -209,9 +209,9 @@ impl Comparison {
                 ("first before", first),
                 ("second", second),
                 ("first after, library", &found_first),
-                ("first after, plain reader", &expected_first),
+                ("first after, reference reader", &expected_first),
             ];
-            self.fail("Subtract", &inputs, &format!("rows {rows}: library {found:?}, plain reader {expected:?}"));
+            self.fail("Subtract", &inputs, &format!("rows {rows}: library {found:?}, reference reader {expected:?}"));
         }
         self.tally.add(SUBTRACT, found.0);
         (found.0, found.1, found.2, expected_first)
@@ -916,7 +916,7 @@ fn most_rows(both: &mut Comparison) {
 
     let mut field = Lender::guarded();
     let field = field.lend_anything(bytes);
-    let mut plain_field = vec![0; bytes];
+    let mut reference_field = vec![0; bytes];
     let compare = |tally: &mut Tally, call: usize, found: (u8, u64), expected: (u8, u64), sound: (u8, u64), same: bool| {
         assert_eq!(found, expected, "{} of the most rows", CALLS[call]);
         assert_eq!(found, sound, "{} of the most rows", CALLS[call]);
@@ -924,16 +924,16 @@ fn most_rows(both: &mut Comparison) {
         tally.add(call, found.0);
     };
     let found = raw::audit(&body, INT, field);
-    let expected = reader::audit(&body, INT, &mut plain_field);
-    compare(&mut both.tally, AUDIT, found, expected, (0, MAX), *field == *plain_field);
+    let expected = reader::audit(&body, INT, &mut reference_field);
+    compare(&mut both.tally, AUDIT, found, expected, (0, MAX), *field == *reference_field);
     let found = raw::ask(&body, INT, NOT_IN, &int(6), field);
-    let expected = reader::ask(&body, INT, NOT_IN, &int(6), &mut plain_field);
-    compare(&mut both.tally, ASK, found, expected, (0, MAX - 1), *field == *plain_field);
+    let expected = reader::ask(&body, INT, NOT_IN, &int(6), &mut reference_field);
+    compare(&mut both.tally, ASK, found, expected, (0, MAX - 1), *field == *reference_field);
     let found = raw::read_deletions(&file, 0, MAX, field);
-    let expected = reader::read_deletions(&file, 0, MAX, &mut plain_field);
-    compare(&mut both.tally, READ_DELETIONS, found, expected, (0, MAX - 1), *field == *plain_field);
-    // The plain reader's field is the library's second field, so that a third of this size isn't needed.
-    let found = raw::subtract(field, &plain_field, MAX);
+    let expected = reader::read_deletions(&file, 0, MAX, &mut reference_field);
+    compare(&mut both.tally, READ_DELETIONS, found, expected, (0, MAX - 1), *field == *reference_field);
+    // The reference reader's field is the library's second field, so that a third of this size isn't needed.
+    let found = raw::subtract(field, &reference_field, MAX);
     assert_eq!(found, (0, 0, MAX - 1));
     assert!(field.iter().all(|byte| *byte == 0));
     both.tally.add(SUBTRACT, found.0);
@@ -1019,7 +1019,7 @@ impl SeedNote {
 }
 
 #[test]
-fn library_and_plain_reader_agree() {
+fn library_and_reference_reader_agree() {
     let asked_seed = number_from_environment("PODDURANCE_SEED");
     let first_seed = asked_seed.unwrap_or(DEFAULT_SEED);
     let cases = number_from_environment("PODDURANCE_CASES").unwrap_or(DEFAULT_CASES);
@@ -1054,7 +1054,7 @@ fn library_and_plain_reader_agree() {
     let calls = both.tally.calls();
     let accepted = both.tally.accepted();
     say(&format!(
-        "\n{calls} calls of library and plain reader agree ({fixed} of them fixed); seeds {first_seed} to {seed}; \
+        "\n{calls} calls of library and reference reader agree ({fixed} of them fixed); seeds {first_seed} to {seed}; \
          {}% accepted\n{}",
         100 * accepted / calls,
         both.tally.table()

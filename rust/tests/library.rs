@@ -85,7 +85,9 @@ fn the_answers_that_document_01_writes_out() {
 fn a_field_with_rows_of_an_earlier_answer_holds_the_new_answer_alone() {
     let answer = ask(&SMALL, Question::IsNull, &none(), used(3)).unwrap();
     assert!(answer.field().iter().eq([2]));
-    assert!(read_deletions(&DELETIONS, 0, used(6)).unwrap().iter().eq([0, 2, 5]));
+    let deleted = read_deletions(&DELETIONS, 0, used(6)).unwrap();
+    assert_eq!(deleted.count(), 3);
+    assert!(deleted.field().iter().eq([0, 2, 5]));
     assert_eq!(audit(&SMALL, Type::TinyInt, used(3)).unwrap().into_field().count(), 0);
 }
 
@@ -115,7 +117,7 @@ fn a_field_of_another_data_file_is_not_subtracted() {
 #[test]
 fn subtracts() {
     let mut rows = used(6);
-    let deleted = read_deletions(&DELETIONS, 0, RowField::for_rows(6).unwrap()).unwrap();
+    let deleted = read_deletions(&DELETIONS, 0, RowField::for_rows(6).unwrap()).unwrap().into_field();
     assert_eq!(subtract(&mut rows, &deleted), Ok(Subtracted { left: 3, removed: 3 }));
     assert!(rows.iter().eq([1, 3, 4]));
     assert_eq!(subtract(&mut rows, &deleted), Ok(Subtracted { left: 3, removed: 0 }));
@@ -296,15 +298,19 @@ fn literals_have_the_width_of_their_type() {
 #[test]
 fn literals_that_do_not_fit_change_nothing() {
     for (ty, least, most) in [
-        (Type::TinyInt, -128, 127),
-        (Type::SmallInt, -32_768, 32_767),
+        (Type::TinyInt, i64::from(i8::MIN), i64::from(i8::MAX)),
+        (Type::SmallInt, i64::from(i16::MIN), i64::from(i16::MAX)),
         (Type::Int, i64::from(i32::MIN), i64::from(i32::MAX)),
         (Type::Date, i64::from(i32::MIN), i64::from(i32::MAX)),
         (Type::Time, i64::from(i32::MIN), i64::from(i32::MAX)),
+        (Type::BigInt, i64::MIN, i64::MAX),
+        (Type::Timestamp, i64::MIN, i64::MAX),
+        (Type::LocalZonedTimestamp, i64::MIN, i64::MAX),
     ] {
         let mut literals = Literals::of(ty, [least, most]).unwrap();
         let before = literals.clone();
-        for value in [Value::Number(least - 1), Value::Number(most + 1), Value::Boolean(true), Value::String(b"1")] {
+        let (below, above) = (i128::from(least) - 1, i128::from(most) + 1);
+        for value in [Value::Number(below), Value::Number(above), Value::Boolean(true), Value::String(b"1")] {
             assert_eq!(literals.push(value), Err(Refusal::Literal));
         }
         assert_eq!(literals, before);
@@ -312,6 +318,47 @@ fn literals_that_do_not_fit_change_nothing() {
     assert_eq!(Literals::of(Type::Boolean, [1]), Err(Refusal::Literal));
     assert_eq!(Literals::of(Type::String, [1]), Err(Refusal::Literal));
     assert_eq!(Literals::of(Type::BigInt, [i64::MIN, i64::MAX]).unwrap().as_bytes()[7..9], [0, 0x7F]);
+}
+
+#[test]
+fn literals_of_what_a_caller_has() {
+    // Numbers of every width, by value and by reference.
+    let seven = [0, 7];
+    macro_rules! numbers {
+        ($($number:ty)*) => {$(
+            let number: $number = 7;
+            assert_eq!(Literals::of(Type::SmallInt, [number]).unwrap().as_bytes(), seven);
+            assert_eq!(Literals::of(Type::SmallInt, &[number]).unwrap().as_bytes(), seven);
+            assert_eq!(Value::from(<$number>::MAX), Value::Number(i128::try_from(<$number>::MAX).unwrap()));
+            assert_eq!(Value::from(<$number>::MIN), Value::Number(i128::try_from(<$number>::MIN).unwrap()));
+        )*};
+    }
+    numbers!(i8 i16 i32 i64 i128 isize u8 u16 u32 u64 usize);
+    assert_eq!(Literals::of(Type::BigInt, [u64::MAX]), Err(Refusal::Literal));
+    assert_eq!(Literals::of(Type::TinyInt, [200u8]), Err(Refusal::Literal));
+    assert_eq!(Literals::of(Type::Int, 1..=3).unwrap().len(), 3);
+    assert_eq!(Literals::of(Type::Int, [1, 2].iter().rev()).unwrap().len(), 2);
+
+    let alarms = [true, false];
+    assert_eq!(Literals::of(Type::Boolean, alarms.iter()).unwrap(), Literals::of(Type::Boolean, alarms).unwrap());
+
+    // Text and bytes, however they are held.
+    let stored = b"\0\0\0\x02on";
+    let text = |literals: Result<Literals, Refusal>| assert_eq!(literals.unwrap().as_bytes(), stored);
+    let (owned, bytes) = ("on".to_string(), b"on".to_vec());
+    text(Literals::of(Type::String, ["on"]));
+    text(Literals::of(Type::String, ["on"].iter()));
+    text(Literals::of(Type::String, [&owned]));
+    text(Literals::of(Type::String, std::slice::from_ref(&owned)));
+    text(Literals::of(Type::String, &[std::borrow::Cow::from("on")]));
+    text(Literals::of(Type::Char, [b"on"]));
+    text(Literals::of(Type::Char, [&b"on"[..]]));
+    text(Literals::of(Type::Char, [&b"on"[..]].iter()));
+    text(Literals::of(Type::VarChar, [&bytes]));
+    text(Literals::of(Type::VarChar, std::slice::from_ref(&bytes)));
+    let mut pushed = Literals::none(Type::String);
+    pushed.push(owned.as_str()).unwrap();
+    assert_eq!(pushed.as_bytes(), stored);
 }
 
 #[test]
@@ -352,7 +399,7 @@ fn field_of(rows: u64, set: &[u64]) -> RowField {
         (0..8).fold(crc ^ u32::from(*byte), |crc, _| if crc & 1 == 1 { (crc >> 1) ^ 0xEDB8_8320 } else { crc >> 1 })
     });
     file.extend(crc.to_be_bytes());
-    read_deletions(&file, 0, used(rows)).unwrap()
+    read_deletions(&file, 0, used(rows)).unwrap().into_field()
 }
 
 #[test]
@@ -377,6 +424,6 @@ fn reset_leaves_no_row_of_before() {
 
 #[test]
 fn a_field_shows_its_rows() {
-    let field = read_deletions(&DELETIONS, 0, used(6)).unwrap();
+    let field = read_deletions(&DELETIONS, 0, used(6)).unwrap().into_field();
     assert_eq!(format!("{field:?}"), "RowField for 6 rows {0..=0, 2..=2, 5..=5}");
 }

@@ -1,14 +1,14 @@
-//! A plain Rust reader and writer of Apache Paimon's bitmap file indexes and deletion files.
+//! A reference reader and writer of Apache Paimon's bitmap file indexes and deletion files.
 //!
 //! It is written from the rules of the formats alone and shares no code with the proved library, so that the two can
 //! be compared: `reader` has the library's calls, `writer` makes files in every permitted layout, `scan` answers
 //! questions from the column itself, and `random` draws columns, questions, layouts and damage.
 //!
 //! ```
-//! use plain::reader;
-//! use plain::scan::scan;
-//! use plain::types::{literals, EQUAL, STRING};
-//! use plain::writer::{bitmap, body_of, deletion_file, index_file, BitmapForm, Column, Layout};
+//! use reference::reader;
+//! use reference::scan::scan;
+//! use reference::types::{literals, EQUAL, STRING};
+//! use reference::writer::{bitmap, body_of, deletion_file, index_file, BitmapForm, Column, Layout};
 //!
 //! let column = Column::strings(&[Some("on"), None, Some("off"), Some("on")]);
 //! let body = body_of(&column, &Layout::version(2));
