@@ -2,7 +2,8 @@
  *
  * Link the archive that `rt staticlib poddurance` writes to target/staticlib/libpoddurance.a (x86-64 Linux).
  * Every call ends, reads and writes only inside the buffers it is lent, allocates nothing and keeps no state.
- * A buffer that is written must not overlap another of the call. A pointer may not be NULL, even where its length is 0.
+ * A buffer that is written must not overlap another of the call. A pointer may not be NULL, even where its length is 0. Each count, start and length is
+ * written to a uint64_t of its own, aligned as the compiler aligns it, distinct from the others of the call and outside its buffers.
  *
  * A row field for n rows is the first (n + 7) / 8 bytes of a buffer: row r is the bit of weight 1 << (r % 8) in byte r / 8, and the spare bits of its
  * last byte are 0. Bytes of the buffer behind the field never change.
@@ -45,6 +46,52 @@
 extern "C" {
 #endif
 
+/* What a call answers. */
+enum {
+    PODDURANCE_ACCEPTED = 0,
+    PODDURANCE_REFUSED_SHORT = 1,
+    PODDURANCE_REFUSED_MAGIC = 2,
+    PODDURANCE_REFUSED_VERSION = 3,
+    PODDURANCE_REFUSED_HEAD = 4,
+    PODDURANCE_REFUSED_DICT = 5,
+    PODDURANCE_REFUSED_BITMAP = 6,
+    PODDURANCE_REFUSED_RANGE = 7,
+    PODDURANCE_REFUSED_TWICE = 8,
+    PODDURANCE_REFUSED_MISSING = 9,
+    PODDURANCE_REFUSED_ROOM = 10,
+    PODDURANCE_REFUSED_LITERAL = 11,
+    PODDURANCE_REFUSED_LIMIT = 12,
+    PODDURANCE_REFUSED_CHECKSUM = 13,
+    PODDURANCE_REFUSED_NOBIN = 14,
+    PODDURANCE_ABSENT = 255 /* no such index: read all rows. Accepted with 0 matched rows says skip: read none */
+};
+
+/* The column's type, for Audit and Ask. */
+enum {
+    PODDURANCE_TYPE_TINYINT = 0,
+    PODDURANCE_TYPE_BOOLEAN = 1,
+    PODDURANCE_TYPE_SMALLINT = 2,
+    PODDURANCE_TYPE_INT = 3,
+    PODDURANCE_TYPE_DATE = 4,
+    PODDURANCE_TYPE_TIME = 5,
+    PODDURANCE_TYPE_BIGINT = 6,
+    PODDURANCE_TYPE_TIMESTAMP = 7,
+    PODDURANCE_TYPE_LOCAL_ZONED_TIMESTAMP = 8,
+    PODDURANCE_TYPE_CHAR = 9,
+    PODDURANCE_TYPE_VARCHAR = 10,
+    PODDURANCE_TYPE_STRING = 11
+};
+
+/* The question, for Ask. */
+enum {
+    PODDURANCE_QUESTION_EQUAL = 0,       /* one literal */
+    PODDURANCE_QUESTION_NOT_EQUAL = 1,   /* one literal; chooses null rows too */
+    PODDURANCE_QUESTION_IN = 2,          /* any number of literals */
+    PODDURANCE_QUESTION_NOT_IN = 3,      /* any number; chooses null rows too */
+    PODDURANCE_QUESTION_IS_NULL = 4,     /* none */
+    PODDURANCE_QUESTION_IS_NOT_NULL = 5  /* none */
+};
+
 /* Read deletions: the rows of bin number `bin` (from 0) of a deletion file, into a field for `rows` rows, and how many they are. */
 uint8_t poddurance_read_deletions(const uint8_t *file, size_t file_len, uint64_t bin, uint64_t rows,
                                   uint8_t *field, size_t field_len, uint64_t *deleted);
@@ -61,10 +108,7 @@ uint8_t poddurance_locate(const uint8_t *embedded, size_t embedded_len, const ui
                           const uint8_t *column, size_t column_len, const uint8_t *kind, size_t kind_len,
                           uint64_t *start, uint64_t *length);
 
-/* Types, for Audit and Ask: TINYINT 0, BOOLEAN 1, SMALLINT 2, INT 3, DATE 4, TIME 5, BIGINT 6, TIMESTAMP 7, LOCAL ZONED TIMESTAMP 8, CHAR 9, VARCHAR 10,
- * STRING 11. Questions: EQUAL 0, NOT EQUAL 1, IN 2, NOT IN 3, IS NULL 4, IS NOT NULL 5.
- *
- * Audit: whether the body gives every row exactly one place; the row count. Accepted or refused behind ROOM, the field's bytes are zero. */
+/* Audit: whether the body gives every row exactly one place; the row count. Accepted or refused behind ROOM, the field's bytes are zero. */
 uint8_t poddurance_audit(const uint8_t *body, size_t body_len, uint32_t type,
                          uint8_t *field, size_t field_len, uint64_t *rows);
 

@@ -1,4 +1,4 @@
-//! How long the library's calls take beside those of the plain Rust reader: `cargo bench`.
+//! How long the library's calls take beside those of the reference reader: `cargo bench`.
 //!
 //! Both are given the same bytes and a cleared field, one call at a time and in changing order, and the median of all times counts.
 //! Clearing the field is not timed. Before that, answers, counts and fields of both are compared.
@@ -11,11 +11,11 @@ use std::hint::black_box;
 use std::process::Command;
 use std::time::{Duration, Instant};
 
-use plain::random::Random;
-use plain::reader;
-use plain::types;
-use plain::writer::{bitmap, body, deletion_file, BitmapForm, ContainerForm, Groups, Layout};
 use poddurance::raw;
+use reference::random::Random;
+use reference::reader;
+use reference::types;
+use reference::writer::{bitmap, body, deletion_file, BitmapForm, ContainerForm, Groups, Layout};
 
 /// The rows of one Roaring container.
 const CONTAINER: u32 = 65_536;
@@ -30,7 +30,7 @@ fn main() {
     let (two, one, rows) = if quick { (1_000, 1_000, 1_000_000) } else { (10_000, 4_096, 10_000_000) };
 
     print_machine();
-    print_line("input", "call", ["library", "plain", "ratio", "library/memcpy", "plain/memcpy"].map(str::to_string));
+    print_line("input", "call", ["library", "reference", "ratio", "library/memcpy", "reference/memcpy"].map(str::to_string));
     print_line("---", "---", ["--:"; 5].map(str::to_string));
 
     let mut random = Random::new(1);
@@ -65,7 +65,7 @@ fn main() {
 }
 
 const LEGEND: &str = "
-Median times. ratio: library's time / plain reader's. /memcpy: share of memcpy's speed, that is, the time of a memcpy of as many bytes as
+Median times. ratio: library's time / reference reader's. /memcpy: share of memcpy's speed, that is, the time of a memcpy of as many bytes as
 the body or file has (Subtract: as the first field has) / the reader's time.
 one run: all rows have one value. bits: each row has one of two values at random. 4,000 scattered: these rows at random have a value, in an
 array, the others are null, in bits. strings: 65,536 rows, each with a name of 10 bytes at random. Ask IN has every tenth of the names as
@@ -191,7 +191,7 @@ impl Call<'_> {
         }
     }
 
-    fn plain(&self, field: &mut [u8]) -> Answer {
+    fn reference(&self, field: &mut [u8]) -> Answer {
         let one = |(answer, count)| (answer, count, 0);
         match *self {
             Call::Audit { body, ty } => one(reader::audit(body, ty, field)),
@@ -213,7 +213,7 @@ fn compare(call: &Call, rows: u32) {
         buffer
     };
     let (mut ours, mut theirs) = (lent(), lent());
-    let (answer, expected) = (call.library(&mut ours), call.plain(&mut theirs));
+    let (answer, expected) = (call.library(&mut ours), call.reference(&mut theirs));
     assert_eq!(answer, expected, "{}: the answers differ", call.name());
     assert_eq!(answer.0, raw::ACCEPTED, "{}: refused", call.name());
     assert_ne!(answer.1, 0, "{}: no row to count", call.name());
@@ -243,7 +243,7 @@ fn measure(what: &str, call: &Call, rows: u32, counted: Option<usize>, patience:
     compare(call, rows);
     let (mut ours, mut theirs) = (vec![0; field_size(rows)], vec![0; field_size(rows)]);
     let mut copy = counted.map(|bytes| (vec![1u8; bytes], vec![0u8; bytes]));
-    let (mut library, mut plain, mut memcpy) = (Vec::new(), Vec::new(), Vec::new());
+    let (mut library, mut reference, mut memcpy) = (Vec::new(), Vec::new(), Vec::new());
 
     let started = Instant::now();
     while library.len() < patience.least || library.len() < patience.most && started.elapsed() < patience.time {
@@ -255,7 +255,7 @@ fn measure(what: &str, call: &Call, rows: u32, counted: Option<usize>, patience:
                 library.push(time(|| call.library(black_box(&mut ours))));
             } else {
                 call.ready(&mut theirs);
-                plain.push(time(|| call.plain(black_box(&mut theirs))));
+                reference.push(time(|| call.reference(black_box(&mut theirs))));
             }
         }
         if let Some((from, to)) = &mut copy {
@@ -263,17 +263,17 @@ fn measure(what: &str, call: &Call, rows: u32, counted: Option<usize>, patience:
         }
     }
 
-    let (library, plain) = (median(library), median(plain));
+    let (library, reference) = (median(library), median(reference));
     let shares = match copy {
         None => ["".to_string(), "".to_string()],
         Some(_) => {
             let memcpy = median(memcpy).as_secs_f64();
-            [library, plain].map(|one| format!("{:.1} %", 100.0 * memcpy / one.as_secs_f64()))
+            [library, reference].map(|one| format!("{:.1} %", 100.0 * memcpy / one.as_secs_f64()))
         }
     };
-    let [of_library, of_plain] = shares;
-    let ratio = format!("{:.2}", library.as_secs_f64() / plain.as_secs_f64());
-    print_line(what, call.name(), [shown(library), shown(plain), ratio, of_library, of_plain]);
+    let [of_library, of_reference] = shares;
+    let ratio = format!("{:.2}", library.as_secs_f64() / reference.as_secs_f64());
+    print_line(what, call.name(), [shown(library), shown(reference), ratio, of_library, of_reference]);
 }
 
 fn time<R>(call: impl FnOnce() -> R) -> Duration {
@@ -292,8 +292,8 @@ fn median(mut times: Vec<Duration>) -> Duration {
 // Printing
 
 fn print_line(what: &str, call: &str, numbers: [String; 5]) {
-    let [library, plain, ratio, of_library, of_plain] = numbers;
-    println!("| {what:<28} | {call:<14} | {library:>9} | {plain:>9} | {ratio:>7} | {of_library:>14} | {of_plain:>12} |");
+    let [library, reference, ratio, of_library, of_reference] = numbers;
+    println!("| {what:<28} | {call:<14} | {library:>9} | {reference:>9} | {ratio:>7} | {of_library:>14} | {of_reference:>16} |");
 }
 
 fn shown(time: Duration) -> String {

@@ -13,7 +13,7 @@ fn main() -> Result<(), Box<dyn std::error::Error>> {
         None => RowField::all_of(row_count)?, // no index: all rows are to be read
     };
     let deleted = read_deletions(&deletions, 0, RowField::for_rows(row_count)?)?;
-    let left = subtract(&mut rows, &deleted)?.left;
+    let left = subtract(&mut rows, deleted.field())?.left;
     println!("{left} rows left: {:?}", rows.iter().collect::<Vec<_>>()); // 2 rows left: [10, 16]
     Ok(())
 }

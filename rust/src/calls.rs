@@ -19,6 +19,7 @@ use crate::{raw, Literals, Question, Refusal, RowField, Type};
 /// # Ok::<(), Error>(())
 /// ```
 #[derive(Clone, Copy, Debug, PartialEq, Eq, Hash)]
+#[non_exhaustive]
 pub enum Error {
     /// The library refused the bytes.
     Refused(Refusal),
@@ -202,6 +203,65 @@ pub fn ask(body: &[u8], question: Question, literals: &Literals, mut field: RowF
     Ok(Answer { field, count })
 }
 
+/// From the file to the answer in one call: finds the index as [`locate`] does, checks its whole body as [`audit`] does, then
+/// answers the question as [`ask`] does.
+///
+/// **None says that there is no such index, so that all rows are to be read.** That is not [skip](Answer::is_skip), with which none
+/// is. The field is lent by value: neither without an index nor with a refusal does it come back, and none of its rows can be taken
+/// for an answer.
+///
+/// The type is that of the literals. An index with another row count than the field's is [`Error::RowsDiffer`], or
+/// [`Refusal::Room`] where it needs more bytes than the field has.
+///
+/// ```
+/// use poddurance::{ask_file, Error, Literals, Question, Refusal, RowField, Type};
+///
+/// // The TINYINT column s with the rows 7, 9, null.
+/// let mut file = [
+///     0, 5, 0x4E, 0x4E, 0xD0, 0x1A, 0x35, 0xAE, 0, 0, 0, 1, 0, 0, 0, 47, 0, 0, 0, 1, // head up to the column number
+///     0, 1, b's', 0, 0, 0, 1, 0, 6, b'b', b'i', b't', b'm', b'a', b'p', 0, 0, 0, 47, 0, 0, 0, 24, 0, 0, 0, 0,
+///     1, 0, 0, 0, 3, 0, 0, 0, 2, 1, 255, 255, 255, 253, 7, 255, 255, 255, 255, 9, 255, 255, 255, 254, // body
+/// ];
+/// let row_count = 3; // as the table's metadata has it
+/// let seven = Literals::of(Type::TinyInt, [7])?;
+///
+/// let rows = match ask_file(&[], &file, "s", "bitmap", Question::NotEqual, &seven, RowField::for_rows(row_count)?)? {
+///     Some(answer) => answer.into_field(),
+///     None => RowField::all_of(row_count)?, // without an index all rows are to be read
+/// };
+/// assert!(rows.iter().eq([1, 2])); // 9 and null
+///
+/// let asked = ask_file(&[], &file, "t", "bitmap", Question::NotEqual, &seven, RowField::for_rows(row_count)?);
+/// assert_eq!(asked, Ok(None));
+///
+/// file[70] = 255; // 9 is now at row 0, where 7 is, and no longer at row 1
+/// let asked = ask_file(&[], &file, "s", "bitmap", Question::NotEqual, &seven, RowField::for_rows(row_count)?);
+/// assert_eq!(asked, Err(Error::Refused(Refusal::Twice)));
+/// # Ok::<(), Error>(())
+/// ```
+pub fn ask_file(
+    embedded: &[u8],
+    file: &[u8],
+    column: &str,
+    kind: &str,
+    question: Question,
+    literals: &Literals,
+    mut field: RowField,
+) -> Result<Option<Answer>, Error> {
+    let (ty, question) = (literals.ty().number(), question.number());
+    let (column_bytes, kind_bytes) = (column.as_bytes(), kind.as_bytes());
+    let (answer, count) =
+        raw::ask_file(embedded, file, column_bytes, kind_bytes, ty, question, literals.as_bytes(), field.bytes_mut());
+    if answer == raw::ABSENT {
+        return Ok(None);
+    }
+    accepted(answer)?;
+    // The call answers no row count. An accepted body has the one that stands in its bytes, and Locate finds the same body again.
+    let body = locate(embedded, file, column, kind)?.expect("the index that was asked is there");
+    same_rows(&field, RowField::claim(body))?;
+    Ok(Some(Answer { field, count }))
+}
+
 /// The answer to a question: the rows it chooses.
 ///
 /// ```
@@ -296,7 +356,9 @@ impl Answer {
 ///     1, 0, 0, 0, 26, 0x5E, 0x43, 0xF2, 0xD0, 0x3A, 0x30, 0, 0, 1, 0, 0, 0, 0, 0, 2, 0, 0x10, 0, 0, 0, 0, 0, 2, 0, 5, 0,
 ///     0x80, 0x72, 0x25, 0x2B,
 /// ];
-/// assert!(read_deletions(&file, 0, RowField::for_rows(6)?)?.iter().eq([0, 2, 5]));
+/// let deleted = read_deletions(&file, 0, RowField::for_rows(6)?)?;
+/// assert_eq!(deleted.count(), 3);
+/// assert!(deleted.field().iter().eq([0, 2, 5]));
 /// assert_eq!(read_deletions(&file, 0, RowField::for_rows(5)?), Err(Refusal::Range));
 /// assert_eq!(read_deletions(&file, 1, RowField::for_rows(6)?), Err(Refusal::NoBin));
 ///
@@ -304,11 +366,76 @@ impl Answer {
 /// assert_eq!(read_deletions(&file, 0, RowField::for_rows(6)?), Err(Refusal::Checksum));
 /// # Ok::<(), Refusal>(())
 /// ```
-pub fn read_deletions(file: &[u8], bin: u64, mut field: RowField) -> Result<RowField, Refusal> {
+pub fn read_deletions(file: &[u8], bin: u64, mut field: RowField) -> Result<Deleted, Refusal> {
     let rows = field.rows();
-    let (answer, _) = raw::read_deletions(file, bin, rows, field.bytes_mut());
+    let (answer, count) = raw::read_deletions(file, bin, rows, field.bytes_mut());
     accepted(answer)?;
-    Ok(field)
+    Ok(Deleted { field, count })
+}
+
+/// The answer of [`read_deletions`] to a file that it accepts: the rows that are deleted.
+///
+/// ```
+/// use poddurance::{read_deletions, subtract, RowField};
+///
+/// let file = [
+///     1, 0, 0, 0, 26, 0x5E, 0x43, 0xF2, 0xD0, 0x3A, 0x30, 0, 0, 1, 0, 0, 0, 0, 0, 2, 0, 0x10, 0, 0, 0, 0, 0, 2, 0, 5, 0,
+///     0x80, 0x72, 0x25, 0x2B,
+/// ];
+/// let deleted = read_deletions(&file, 0, RowField::for_rows(6)?)?;
+/// let mut rows = RowField::all_of(6)?;
+/// assert_eq!(subtract(&mut rows, deleted.field())?.removed, deleted.count());
+/// # Ok::<(), poddurance::Error>(())
+/// ```
+#[derive(Clone, Debug, PartialEq, Eq)]
+pub struct Deleted {
+    field: RowField,
+    count: u64,
+}
+
+impl Deleted {
+    /// How many rows are deleted.
+    ///
+    /// ```
+    /// # use poddurance::{read_deletions, RowField};
+    /// // One bin without rows.
+    /// let file = [1, 0, 0, 0, 12, 0x5E, 0x43, 0xF2, 0xD0, 0x3A, 0x30, 0, 0, 0, 0, 0, 0, 0x5D, 0xE5, 0xC7, 0xE9];
+    /// assert_eq!(read_deletions(&file, 0, RowField::for_rows(6)?)?.count(), 0);
+    /// # Ok::<(), poddurance::Refusal>(())
+    /// ```
+    #[must_use]
+    pub fn count(&self) -> u64 {
+        self.count
+    }
+
+    /// The rows that are deleted, to [`subtract`].
+    ///
+    /// ```
+    /// # use poddurance::{read_deletions, RowField};
+    /// // One bin without rows.
+    /// let file = [1, 0, 0, 0, 12, 0x5E, 0x43, 0xF2, 0xD0, 0x3A, 0x30, 0, 0, 0, 0, 0, 0, 0x5D, 0xE5, 0xC7, 0xE9];
+    /// assert!(!read_deletions(&file, 0, RowField::for_rows(6)?)?.field().contains(5));
+    /// # Ok::<(), poddurance::Refusal>(())
+    /// ```
+    #[must_use]
+    pub fn field(&self) -> &RowField {
+        &self.field
+    }
+
+    /// The rows that are deleted, or the field to lend to the next call.
+    ///
+    /// ```
+    /// # use poddurance::{read_deletions, RowField};
+    /// // One bin without rows.
+    /// let file = [1, 0, 0, 0, 12, 0x5E, 0x43, 0xF2, 0xD0, 0x3A, 0x30, 0, 0, 0, 0, 0, 0, 0x5D, 0xE5, 0xC7, 0xE9];
+    /// let field = read_deletions(&file, 0, RowField::for_rows(6)?)?.into_field();
+    /// assert_eq!(field, RowField::for_rows(6)?);
+    /// # Ok::<(), poddurance::Refusal>(())
+    /// ```
+    #[must_use]
+    pub fn into_field(self) -> RowField {
+        self.field
+    }
 }
 
 /// Clears in `first` each row that is set in `second`.

@@ -2,13 +2,13 @@
 //! graph**.
 //!
 //! A thin layer over an archive that is written and proved in Rattle. Document 01, the rules and scope of the library, decides
-//! what each call answers and which [`Refusal`] it gives. There are five calls: [`locate`], [`audit`], [`ask`],
-//! [`read_deletions`] and [`subtract`].
+//! what each call answers and which [`Refusal`] it gives. [`ask_file`] goes from an index file to the answer; [`locate`],
+//! [`audit`] and [`ask`] are its steps. [`read_deletions`] and [`subtract`] take the deleted rows away.
 //!
 //! Which rows of a data file don't hold 7, without the deleted ones?
 //!
 //! ```
-//! use poddurance::{ask, locate, read_deletions, subtract, Literals, Question, RowField, Type};
+//! use poddurance::{ask_file, read_deletions, subtract, Literals, Question, RowField, Type};
 //!
 //! // The TINYINT column s with the rows 7, 9, null.
 //! let index_file = [
@@ -24,17 +24,24 @@
 //! let row_count = 3; // as the table's metadata has it
 //!
 //! let seven = Literals::of(Type::TinyInt, [7])?;
-//! let mut rows = match locate(&[], &index_file, "s", "bitmap")? {
-//!     Some(body) => ask(body, Question::NotEqual, &seven, RowField::for_rows(row_count)?)?.into_field(),
+//! let field = RowField::for_rows(row_count)?;
+//! let mut rows = match ask_file(&[], &index_file, "s", "bitmap", Question::NotEqual, &seven, field)? {
+//!     Some(answer) => answer.into_field(),
 //!     None => RowField::all_of(row_count)?, // without an index all rows are to be read
 //! };
 //! assert!(rows.iter().eq([1, 2]));
 //!
 //! let deleted = read_deletions(&deletion_file, 0, RowField::for_rows(row_count)?)?;
-//! assert_eq!(subtract(&mut rows, &deleted)?.left, 1);
+//! assert_eq!(subtract(&mut rows, deleted.field())?.left, 1);
 //! assert!(rows.iter().eq([2]));
 //! # Ok::<(), poddurance::Error>(())
 //! ```
+//!
+//! # The archive
+//!
+//! The build step makes it with `rt staticlib poddurance` where it is missing or older than its sources. That proves every crate, takes
+//! minutes and needs the Rattle kit. Where the archive was made elsewhere, PODDURANCE_LIB_DIR names the folder, by an absolute path, of
+//! the `libpoddurance.a` to link as it is; neither `rt` nor the sources are looked at.
 //!
 //! The crate is of the standard library alone. The [`raw`] calls, over buffers that the caller keeps, hold its only `unsafe`
 //! blocks.
@@ -50,7 +57,7 @@ pub mod raw;
 mod refusal;
 mod row_field;
 
-pub use calls::{ask, audit, locate, read_deletions, subtract, Answer, Audited, Error, Subtracted};
+pub use calls::{ask, ask_file, audit, locate, read_deletions, subtract, Answer, Audited, Deleted, Error, Subtracted};
 pub use literals::{Literals, Value};
 pub use names::{Question, Type, UnknownName};
 pub use refusal::Refusal;

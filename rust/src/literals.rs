@@ -1,10 +1,6 @@
+use std::borrow::Cow;
+
 use crate::{Refusal, Type};
-
-/// Document 01's limit of literals in one question.
-const MOST_LITERALS: usize = 1_024;
-
-/// Document 01's limit of a stored string's bytes.
-const MOST_STRING_BYTES: usize = 65_535;
 
 /// One value to ask for, before it has the form in which its type is stored.
 ///
@@ -12,9 +8,13 @@ const MOST_STRING_BYTES: usize = 65_535;
 /// use poddurance::Value;
 ///
 /// assert_eq!(Value::from(7), Value::Number(7));
+/// assert_eq!(Value::from(u64::MAX), Value::Number(18_446_744_073_709_551_615));
 /// assert_eq!(Value::from(true), Value::Boolean(true));
 /// assert_eq!(Value::from("login"), Value::String(b"login"));
+/// assert_eq!(Value::from(b"login"), Value::String(b"login"));
 /// ```
+///
+/// Each converts by reference too, so that [`Literals::of`] takes what a caller has: arrays, slices, vectors, other iterators.
 ///
 /// A date is the days since 1970-01-01, a time the milliseconds of the day, a timestamp the milliseconds or the microseconds since
 /// 1970-01-01. A number in another unit fits as well, and finds no row or the wrong ones:
@@ -32,37 +32,33 @@ const MOST_STRING_BYTES: usize = 65_535;
 pub enum Value<'a> {
     /// A number of TINYINT, SMALLINT, INT or BIGINT; the days since 1970-01-01 of a DATE; the milliseconds of the day of a TIME;
     /// the milliseconds since 1970-01-01 of a TIMESTAMP or LOCAL ZONED TIMESTAMP whose column has a precision up to 3, and the
-    /// microseconds of one above it.
-    Number(i64),
+    /// microseconds of one above it. One that its type can't hold is [`Refusal::Literal`] to [`Literals`].
+    Number(i128),
     /// A BOOLEAN.
     Boolean(bool),
     /// The bytes of CHAR, VARCHAR or STRING.
     String(&'a [u8]),
 }
 
-impl From<i8> for Value<'_> {
-    fn from(number: i8) -> Self {
-        Value::Number(number.into())
-    }
+/// Numbers, by value and by reference, as the items of an array and of a slice are.
+macro_rules! from_numbers {
+    ($($number:ty)*) => {$(
+        impl From<$number> for Value<'_> {
+            fn from(number: $number) -> Self {
+                // None of these types is wider.
+                Value::Number(number as i128)
+            }
+        }
+
+        impl From<&$number> for Value<'_> {
+            fn from(number: &$number) -> Self {
+                Value::from(*number)
+            }
+        }
+    )*};
 }
 
-impl From<i16> for Value<'_> {
-    fn from(number: i16) -> Self {
-        Value::Number(number.into())
-    }
-}
-
-impl From<i32> for Value<'_> {
-    fn from(number: i32) -> Self {
-        Value::Number(number.into())
-    }
-}
-
-impl From<i64> for Value<'_> {
-    fn from(number: i64) -> Self {
-        Value::Number(number)
-    }
-}
+from_numbers!(i8 i16 i32 i64 i128 isize u8 u16 u32 u64 usize);
 
 impl From<bool> for Value<'_> {
     fn from(boolean: bool) -> Self {
@@ -70,8 +66,44 @@ impl From<bool> for Value<'_> {
     }
 }
 
+impl From<&bool> for Value<'_> {
+    fn from(boolean: &bool) -> Self {
+        Value::Boolean(*boolean)
+    }
+}
+
+impl<'a> From<&'a [u8]> for Value<'a> {
+    fn from(bytes: &'a [u8]) -> Self {
+        Value::String(bytes)
+    }
+}
+
+impl<'a> From<&&'a [u8]> for Value<'a> {
+    fn from(bytes: &&'a [u8]) -> Self {
+        Value::String(bytes)
+    }
+}
+
+impl<'a, const N: usize> From<&'a [u8; N]> for Value<'a> {
+    fn from(bytes: &'a [u8; N]) -> Self {
+        Value::String(bytes)
+    }
+}
+
+impl<'a> From<&'a Vec<u8>> for Value<'a> {
+    fn from(bytes: &'a Vec<u8>) -> Self {
+        Value::String(bytes)
+    }
+}
+
 impl<'a> From<&'a str> for Value<'a> {
     fn from(text: &'a str) -> Self {
+        Value::String(text.as_bytes())
+    }
+}
+
+impl<'a> From<&&'a str> for Value<'a> {
+    fn from(text: &&'a str) -> Self {
         Value::String(text.as_bytes())
     }
 }
@@ -82,17 +114,17 @@ impl<'a> From<&'a String> for Value<'a> {
     }
 }
 
-impl<'a> From<&'a [u8]> for Value<'a> {
-    fn from(bytes: &'a [u8]) -> Self {
-        Value::String(bytes)
+impl<'a> From<&'a Cow<'_, str>> for Value<'a> {
+    fn from(text: &'a Cow<'_, str>) -> Self {
+        Value::String(text.as_bytes())
     }
 }
 
 /// The literals of a question, in the stored form of one type.
 ///
-/// They carry the type to [`ask`](crate::ask): literals read as another type than they were written for could fit it by chance
-/// and choose wrong rows. A value that doesn't fit is [`Refusal::Literal`] here already, as it would be there, and what passes
-/// document 01's limits is [`Refusal::Limit`].
+/// They carry the type to [`ask`](crate::ask) and [`ask_file`](crate::ask_file): literals read as another type than they were
+/// written for could fit it by chance and choose wrong rows. A value that has no stored form of the type is [`Refusal::Literal`]
+/// here already. Whether they fit the question, and keep document 01's limits, is for those calls to say.
 ///
 /// ```
 /// use poddurance::{Literals, Refusal, Type};
@@ -152,15 +184,10 @@ impl Literals {
     /// # Ok::<(), Refusal>(())
     /// ```
     pub fn push<'a>(&mut self, value: impl Into<Value<'a>>) -> Result<(), Refusal> {
-        if self.number == MOST_LITERALS {
-            return Err(Refusal::Limit);
-        }
         match (self.ty, value.into()) {
             (Type::Boolean, Value::Boolean(boolean)) => self.bytes.push(boolean.into()),
             (Type::Char | Type::VarChar | Type::String, Value::String(bytes)) => {
-                if bytes.len() > MOST_STRING_BYTES {
-                    return Err(Refusal::Limit);
-                }
+                // A length that has no four bytes is far over the limit.
                 let length = u32::try_from(bytes.len()).map_err(|_| Refusal::Limit)?;
                 self.bytes.extend(length.to_be_bytes());
                 self.bytes.extend(bytes);
@@ -169,7 +196,7 @@ impl Literals {
             (Type::SmallInt, Value::Number(n)) => self.extend(i16::try_from(n).map(i16::to_be_bytes))?,
             (Type::Int | Type::Date | Type::Time, Value::Number(n)) => self.extend(i32::try_from(n).map(i32::to_be_bytes))?,
             (Type::BigInt | Type::Timestamp | Type::LocalZonedTimestamp, Value::Number(n)) => {
-                self.bytes.extend(n.to_be_bytes());
+                self.extend(i64::try_from(n).map(i64::to_be_bytes))?;
             }
             _ => return Err(Refusal::Literal),
         }

@@ -1,12 +1,12 @@
-//! The five calls as the archive has them: numbers in, numbers out, over buffers that the caller keeps.
+//! The six calls as the archive has them: numbers in, numbers out, over buffers that the caller keeps.
 //!
-//! Each call answers [`ACCEPTED`], [`ABSENT`] ([`locate`] alone) or the number of a [`Refusal`](crate::Refusal), and then its
-//! counts, which are 0 unless the call accepts. These functions are for callers that reuse their own buffers; the functions at
+//! Each call answers [`ACCEPTED`], [`ABSENT`] ([`locate`] and [`ask_file`] alone) or the number of a [`Refusal`](crate::Refusal),
+//! and then its counts, which are 0 unless the call accepts. These functions are for callers that reuse their own buffers; the functions at
 //! the top of the crate keep a field and its row count together and are harder to use wrongly.
 //!
 //! A row field for n rows is the first ceil(n/8) bytes of the lent buffer. **Bytes behind it never change**, so that a buffer
-//! longer than that may hold rows of an earlier call behind the field: read no more than ceil(n/8) bytes of it. LIMIT, ROOM and
-//! the refusals before ROOM leave the whole buffer as it was, with the rows of an earlier call.
+//! longer than that may hold rows of an earlier call behind the field: read no more than ceil(n/8) bytes of it. ABSENT, LIMIT,
+//! ROOM and the refusals before ROOM leave the whole buffer as it was, with the rows of an earlier call.
 //!
 //! ```
 //! use poddurance::raw;
@@ -29,7 +29,8 @@
 /// ```
 pub const ACCEPTED: u8 = 0;
 
-/// The answer of [`locate`] when the column, or the kind in it, is not listed.
+/// The answer of [`locate`] and [`ask_file`] when the column, or the kind in it, is not listed. It says that all rows are to be
+/// read, where 0 matched rows say that none is.
 ///
 /// ```
 /// // A head without columns.
@@ -64,6 +65,23 @@ mod c {
         pub fn poddurance_ask(
             body: *const u8,
             body_len: usize,
+            ty: u32,
+            question: u32,
+            literals: *const u8,
+            literals_len: usize,
+            field: *mut u8,
+            field_len: usize,
+            matched: *mut u64,
+        ) -> u8;
+        pub fn poddurance_ask_file(
+            embedded: *const u8,
+            embedded_len: usize,
+            file: *const u8,
+            file_len: usize,
+            column: *const u8,
+            column_len: usize,
+            kind: *const u8,
+            kind_len: usize,
             ty: u32,
             question: u32,
             literals: *const u8,
@@ -165,6 +183,63 @@ pub fn ask(body: &[u8], ty: u32, question: u32, literals: &[u8], field: &mut [u8
         c::poddurance_ask(
             body.as_ptr(),
             body.len(),
+            ty,
+            question,
+            literals.as_ptr(),
+            literals.len(),
+            field.as_mut_ptr(),
+            field.len(),
+            &mut matched,
+        )
+    };
+    (answer, matched)
+}
+
+/// From the file to the answer: [`locate`], then [`ask`] on the part that it hands back. The answer, and how many rows the question
+/// chooses. Accepted, those rows are set in the field; 0 says skip. With [`ABSENT`] and with a refusal of Locate the field's buffer
+/// is as it was.
+///
+/// ```
+/// use poddurance::raw::{ask_file, ABSENT};
+///
+/// let file = [
+///     0, 5, 0x4E, 0x4E, 0xD0, 0x1A, 0x35, 0xAE, 0, 0, 0, 1, 0, 0, 0, 47, 0, 0, 0, 1, // head up to the column number
+///     0, 1, b's', 0, 0, 0, 1, 0, 6, b'b', b'i', b't', b'm', b'a', b'p', 0, 0, 0, 47, 0, 0, 0, 24, 0, 0, 0, 0,
+///     1, 0, 0, 0, 3, 0, 0, 0, 2, 1, 255, 255, 255, 253, 7, 255, 255, 255, 255, 9, 255, 255, 255, 254, // body
+/// ];
+/// let mut field = [0xAA];
+/// assert_eq!(ask_file(&[], &file, b"t", b"bitmap", 0, 1, &[7], &mut field), (ABSENT, 0));
+/// assert_eq!(field, [0xAA]);
+/// assert_eq!(ask_file(&[], &file, b"s", b"bitmap", 0, 1, &[7], &mut field), (0, 2)); // TINYINT, NOT EQUAL 7
+/// assert_eq!(field, [0b110]);
+/// ```
+// The archive's call has these parameters; what belongs together is put together at the top of the crate.
+#[allow(clippy::too_many_arguments)]
+#[must_use]
+pub fn ask_file(
+    embedded: &[u8],
+    file: &[u8],
+    column: &[u8],
+    kind: &[u8],
+    ty: u32,
+    question: u32,
+    literals: &[u8],
+    field: &mut [u8],
+) -> (u8, u64) {
+    let mut matched = 0;
+    // SAFETY: a slice's pointer is never null and is good for its length, `field`'s for writing too; the result is a local good
+    // for writing. All live through the call, which keeps none of them. `field` is borrowed mutably, so that it overlaps no other
+    // buffer; the others are read alone and may share bytes.
+    let answer = unsafe {
+        c::poddurance_ask_file(
+            embedded.as_ptr(),
+            embedded.len(),
+            file.as_ptr(),
+            file.len(),
+            column.as_ptr(),
+            column.len(),
+            kind.as_ptr(),
+            kind.len(),
             ty,
             question,
             literals.as_ptr(),

@@ -10,6 +10,7 @@ use std::fmt;
 /// assert_eq!(error.downcast_ref(), Some(&Refusal::Twice));
 /// ```
 #[derive(Clone, Copy, Debug, PartialEq, Eq, Hash)]
+#[non_exhaustive]
 #[repr(u8)]
 pub enum Refusal {
     /// The bytes end inside a field that is due, outside bitmaps.

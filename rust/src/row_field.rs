@@ -7,8 +7,8 @@ use crate::{Refusal, LIMIT};
 /// A set of the rows of one data file: row r is the bit of weight 2^(r mod 8) in byte r/8.
 ///
 /// A field knows its row count and has no byte and no bit beyond it, so that what it counts and iterates over are rows of that
-/// file and nothing else. [`ask`](crate::ask), [`audit`](crate::audit) and [`read_deletions`](crate::read_deletions) take a field
-/// as memory to work in and give it back with their answer. A refusal gives none back: there is no field left in which an earlier
+/// file and nothing else. [`ask_file`](crate::ask_file), [`ask`](crate::ask), [`audit`](crate::audit) and
+/// [`read_deletions`](crate::read_deletions) take a field as memory to work in and give it back with their answer. A refusal gives none back: there is no field left in which an earlier
 /// answer, or nothing at all, could be taken for the answer.
 ///
 /// ```
@@ -18,7 +18,7 @@ use crate::{Refusal, LIMIT};
 ///     1, 0, 0, 0, 26, 0x5E, 0x43, 0xF2, 0xD0, 0x3A, 0x30, 0, 0, 1, 0, 0, 0, 0, 0, 2, 0, 0x10, 0, 0, 0, 0, 0, 2, 0, 5, 0,
 ///     0x80, 0x72, 0x25, 0x2B,
 /// ];
-/// let deleted = read_deletions(&file, 0, RowField::for_rows(6)?)?;
+/// let deleted = read_deletions(&file, 0, RowField::for_rows(6)?)?.into_field();
 /// assert_eq!(deleted.count(), 3);
 /// assert!(deleted.iter().eq([0, 2, 5]));
 /// # Ok::<(), poddurance::Refusal>(())
@@ -117,7 +117,7 @@ impl RowField {
         self.rows
     }
 
-    /// How many rows are set.
+    /// How many rows are set. They are counted here, in Rust; an answer has the count that the library gave with it.
     ///
     /// ```
     /// assert_eq!(poddurance::RowField::all_of(6)?.count(), 6);

@@ -2,8 +2,9 @@
 
 use std::ffi::OsStr;
 use std::fs::{self, File};
+use std::io::Write;
 use std::path::{Path, PathBuf};
-use std::process::{Command, Stdio};
+use std::process::{Command, Output, Stdio};
 use std::sync::atomic::{AtomicUsize, Ordering};
 
 /// A folder of its own for each test, removed with it.
@@ -33,9 +34,26 @@ impl Drop for Folder {
 
 /// Exit status, standard output, standard error.
 fn run<S: AsRef<OsStr>>(words: &[S]) -> (i32, String, String) {
-    let output = Command::new(env!("CARGO_BIN_EXE_poddurance")).args(words).stdin(Stdio::null()).output().unwrap();
+    told(Command::new(env!("CARGO_BIN_EXE_poddurance")).args(words).stdin(Stdio::null()).output().unwrap())
+}
+
+fn told(output: Output) -> (i32, String, String) {
     let text = |bytes: Vec<u8>| String::from_utf8(bytes).unwrap();
     (output.status.code().unwrap(), text(output.stdout), text(output.stderr))
+}
+
+/// Runs with these bytes as standard input, and expects a status, a first line and nothing on standard error.
+#[track_caller]
+fn says_of_input(words: &[&str], input: &[u8], status: i32, line: &str) {
+    let mut program = Command::new(env!("CARGO_BIN_EXE_poddurance"))
+        .args(words)
+        .stdin(Stdio::piped())
+        .stdout(Stdio::piped())
+        .stderr(Stdio::piped())
+        .spawn()
+        .unwrap();
+    program.stdin.take().unwrap().write_all(input).unwrap();
+    assert_eq!(told(program.wait_with_output().unwrap()), (status, format!("{line}\n"), String::new()), "{words:?}");
 }
 
 /// Runs and expects a status, a first line and nothing on standard error.
@@ -123,10 +141,120 @@ fn locates() {
     let file = &folder.write("index", &index_file("s", "bitmap", &SMALL));
     says(&["locate", file, "s"], 0, "found: bitmap index on column \"s\", 24 bytes at 47");
     says(&["locate", file, "s", "bitmap"], 0, "found: bitmap index on column \"s\", 24 bytes at 47");
-    says(&["locate", file, "x"], 1, "absent: no bitmap index on column \"x\"");
-    says(&["locate", file, "s", "bloom-filter"], 1, "absent: no bloom-filter index on column \"s\"");
+    says(&["locate", file, "x"], 4, "absent: no bitmap index on column \"x\"");
+    says(&["locate", file, "s", "bloom-filter"], 4, "absent: no bloom-filter index on column \"s\"");
     says(&["locate", file, "s", "--json"], 0, r#"{"answer":"found","column":"s","kind":"bitmap","start":47,"length":24}"#);
-    says(&["locate", file, "\"\n", "--json"], 1, r#"{"answer":"absent","column":"\"\u000a","kind":"bitmap"}"#);
+    says(&["locate", file, "\"\n", "--json"], 4, r#"{"answer":"absent","column":"\"\u000a","kind":"bitmap"}"#);
+}
+
+#[test]
+fn lists_columns() {
+    let folder = Folder::new();
+    let file = &folder.write("index", &index_file("s", "bitmap", &SMALL));
+    says(&["columns", file], 0, "column \"s\": bitmap index, 24 bytes at 47");
+    says(
+        &["columns", file, "--json"],
+        0,
+        r#"{"answer":"listed","indexes":[{"column":"s","kind":"bitmap","start":47,"length":24}]}"#,
+    );
+    // It lists what stands there, also where the library finds no sound index, and nothing of a broken head.
+    let file = &folder.write("no-body", &index_file("s", "bitmap", &SMALL)[..47]);
+    says(&["columns", file], 0, "column \"s\": bitmap index, 24 bytes at 47");
+    says(&["locate", file, "s"], 3, "refused: HEAD (4), index file head breaks a rule");
+    let file = &folder.write("cut", &index_file("s", "bitmap", &SMALL)[..46]);
+    says(&["columns", file], 3, "refused: the head's length is 47, of a file of 46 bytes");
+    says(
+        &["columns", file, "--json"],
+        3,
+        r#"{"answer":"refused","file":"index","name":null,"number":null,"meaning":"the head's length is 47, of a file of 46 bytes"}"#,
+    );
+    let file = &folder.write("deletions", &deletion_file(&[bitmap(&[0])]));
+    says(&["columns", file], 3, "refused: no index file: its magic differs");
+    says_of_input(&["columns", "-"], &[], 3, "refused: no index file: its first fields take 16 bytes, and there are 0");
+}
+
+#[test]
+fn names_in_a_file_do_not_control_the_terminal() {
+    let folder = Folder::new();
+    // Red letters, a new title for the window, and the cursor up over the line before.
+    let file = &folder.write("index", &index_file("\x1B[31ms\x1B]0;title\x07", "\x1B[A\r\u{9B}A\u{202E}", &SMALL));
+    says(&["columns", file], 0, r#"column "\u{1b}[31ms\u{1b}]0;title\u{7}": \u{1b}[A\r\u{9b}A\u{202e} index, 24 bytes at 66"#);
+    says(
+        &["columns", file, "--json"],
+        0,
+        r#"{"answer":"listed","indexes":[{"column":"\u001b[31ms\u001b]0;title\u0007","kind":"\u001b[A\u000d\u009bA\u202e","start":66,"length":24}]}"#,
+    );
+    says(&["locate", file, "\x1B[A", "\u{9B}A"], 4, r#"absent: no \u{9b}A index on column "\u{1b}[A""#);
+    says(&["locate", file, "\u{9B}A", "--json"], 4, r#"{"answer":"absent","column":"\u009bA","kind":"bitmap"}"#);
+    complains(&["locate", "/no such folder/\x1B[A", "s"], r"can't read /no such folder/\u{1b}[A: ");
+}
+
+#[test]
+fn embedded_bytes_go_before_the_file() {
+    let folder = Folder::new();
+    let embedded = &folder.write("embedded", &index_file("s", "bitmap", &SMALL));
+    let other = &folder.write("other", &index_file("state", "bitmap", &events()));
+    let empty = &folder.write("empty", &[]);
+    let asks = |file: &str, embedded: &str, status: i32, line: &str| {
+        says(&["ask", file, "s", "TINYINT", "EQUAL", "7", "--rows", "--embedded", embedded], status, line);
+    };
+    let kept = "keep: 1 of 3 rows\nrows: 0";
+    for file in [other, "none", "/no such folder/f", "-"] {
+        asks(file, embedded, 0, kept);
+        says(&["locate", file, "s", "--embedded", embedded], 0, "found: bitmap index on column \"s\", 24 bytes at 47");
+        says(&["audit", file, "s", "TINYINT", "--embedded", embedded], 0, "accepted: 3 rows, each in exactly one place");
+    }
+    // Where none are embedded it is the file that is looked at.
+    asks(embedded, empty, 0, kept);
+    asks(other, empty, 4, "absent: no bitmap index on column \"s\"");
+    says(&["locate", embedded, "s", "--embedded", empty], 0, "found: bitmap index on column \"s\", 24 bytes at 47");
+    complains(&["locate", "none", "s", "--embedded", empty], "can't read none: ");
+    complains(&["locate", embedded, "s", "--embedded", "/no such folder/e"], "can't read /no such folder/e: ");
+    // What is embedded is refused by itself, whatever the file has.
+    let short = &folder.write("short", &[0]);
+    asks(embedded, short, 3, "refused: SHORT (1), the bytes end inside a field that is due, outside bitmaps");
+    asks(embedded, other, 4, "absent: no bitmap index on column \"s\"");
+}
+
+#[test]
+fn reads_standard_input() {
+    let folder = Folder::new();
+    let index = index_file("s", "bitmap", &SMALL);
+    let deletions = deletion_file(&[bitmap(&[0])]);
+    says_of_input(&["columns", "-"], &index, 0, "column \"s\": bitmap index, 24 bytes at 47");
+    says_of_input(&["locate", "-", "s"], &index, 0, "found: bitmap index on column \"s\", 24 bytes at 47");
+    says_of_input(&["audit", "-", "s", "TINYINT"], &index, 0, "accepted: 3 rows, each in exactly one place");
+    let ask = ["ask", "-", "s", "TINYINT", "EQUAL", "7"];
+    says_of_input(&ask, &index, 0, "keep: 1 of 3 rows");
+    says_of_input(&ask, &[], 3, "refused: SHORT (1), the bytes end inside a field that is due, outside bitmaps");
+    says_of_input(&["ask", "none", "s", "TINYINT", "EQUAL", "7", "--embedded", "-"], &index, 0, "keep: 1 of 3 rows");
+    says_of_input(&["deletions", "-", "0", "3", "--rows"], &deletions, 0, "deleted: 1 of 3 rows\nrows: 0");
+    let file = folder.write("index", &index);
+    says_of_input(
+        &["ask", &file, "s", "TINYINT", "NOT-IN", "--deletions", "-", "--bin", "0"],
+        &deletions,
+        0,
+        "keep: 2 of 3 rows, 1 deleted row removed",
+    );
+    // A file may be called so.
+    folder.write("-", &index);
+    let output = Command::new(env!("CARGO_BIN_EXE_poddurance")).args(["columns", "./-"]).current_dir(&folder.0).output().unwrap();
+    assert_eq!(told(output), (0, "column \"s\": bitmap index, 24 bytes at 47\n".to_string(), String::new()));
+    // Standard input that can't be read.
+    let output = Command::new(env!("CARGO_BIN_EXE_poddurance")).args(ask).stdin(File::open(&folder.0).unwrap()).output().unwrap();
+    let (status, out, err) = told(output);
+    assert_eq!((status, out.as_str()), (2, ""));
+    assert!(err.starts_with("poddurance: can't read standard input: "), "{err}");
+}
+
+/// Absent says that all rows are to be read, and skip that none is. A script that takes one for the other loses a file's rows.
+#[test]
+fn each_answer_has_its_exit_status() {
+    let folder = Folder::new();
+    let file = &folder.write("index", &index_file("s", "bitmap", &SMALL));
+    let status = |column: &str, literal: &str| run(&["ask", file, column, "TINYINT", "EQUAL", literal]).0;
+    assert_eq!((status("s", "7"), status("s", "8"), status("s", "x"), status("t", "7")), (0, 1, 2, 4));
+    assert_eq!(run(&["ask", file, "s", "SMALLINT", "EQUAL", "7"]).0, 3);
 }
 
 #[test]
@@ -144,9 +272,9 @@ fn audits() {
     let file = &folder.write("index", &index_file("s", "bitmap", &SMALL));
     says(&["audit", file, "s", "TINYINT"], 0, "accepted: 3 rows, each in exactly one place");
     says(&["audit", file, "s", "tinyint", "--json"], 0, r#"{"answer":"accepted","rows":3}"#);
-    says(&["audit", file, "x", "TINYINT"], 1, "absent: no bitmap index on column \"x\"");
+    says(&["audit", file, "x", "TINYINT"], 4, "absent: no bitmap index on column \"x\"");
     let other = &folder.write("other", &index_file("s", "bloom-filter", &SMALL));
-    says(&["audit", other, "s", "TINYINT"], 1, "absent: no bitmap index on column \"s\"");
+    says(&["audit", other, "s", "TINYINT"], 4, "absent: no bitmap index on column \"s\"");
 }
 
 #[test]
@@ -175,7 +303,7 @@ fn asks() {
         1,
         r#"{"answer":"skip","count":0,"rows":6,"removed":null,"ranges":[]}"#,
     );
-    says(&["ask", file, "x", "STRING", "IS NULL"], 1, "absent: no bitmap index on column \"x\"");
+    says(&["ask", file, "x", "STRING", "IS NULL"], 4, "absent: no bitmap index on column \"x\"");
 }
 
 #[test]
@@ -183,16 +311,16 @@ fn an_index_of_another_row_count_than_the_data_file() {
     let folder = Folder::new();
     let file = &folder.write("index", &index_file("s", "bitmap", &SMALL));
     let (audit, ask) = (["audit", file, "s", "TINYINT"], ["ask", file, "s", "TINYINT", "EQUAL"]);
-    says(&[&audit[..], &["--of", "3"]].concat(), 0, "accepted: 3 rows, each in exactly one place");
-    says(&[&ask[..], &["7", "--of", "3"]].concat(), 0, "keep: 1 of 3 rows");
+    says(&[&audit[..], &["--row-count", "3"]].concat(), 0, "accepted: 3 rows, each in exactly one place");
+    says(&[&ask[..], &["7", "--row-count", "3"]].concat(), 0, "keep: 1 of 3 rows");
     for rows in ["0", "2", "4", "8", "9", "1000", "18446744073709551615"] {
         let line = &format!("refused: the index is of 3 rows, the data file has {rows}");
-        says(&[&audit[..], &["--of", rows]].concat(), 3, line);
-        says(&[&ask[..], &["7", "--of", rows]].concat(), 3, line);
-        says(&[&ask[..], &["8", "--of", rows]].concat(), 3, line);
+        says(&[&audit[..], &["--row-count", rows]].concat(), 3, line);
+        says(&[&ask[..], &["7", "--row-count", rows]].concat(), 3, line);
+        says(&[&ask[..], &["8", "--row-count", rows]].concat(), 3, line);
     }
     says(
-        &[&ask[..], &["7", "--of", "1000", "--json", "--deletions", "/no such folder/f", "--bin", "0"]].concat(),
+        &[&ask[..], &["7", "--row-count", "1000", "--json", "--deletions", "/no such folder/f", "--bin", "0"]].concat(),
         3,
         r#"{"answer":"refused","file":"index","name":null,"number":null,"meaning":"the index is of 3 rows, the data file has 1000"}"#,
     );
@@ -200,8 +328,8 @@ fn an_index_of_another_row_count_than_the_data_file() {
     let mut body = SMALL;
     body[4] = 4;
     let lost = &folder.write("lost", &index_file("s", "bitmap", &body));
-    says(&["audit", lost, "s", "TINYINT", "--of", "3"], 3, "refused: MISSING (9), a row never placed");
-    says(&["audit", file, "x", "TINYINT", "--of", "1000"], 1, "absent: no bitmap index on column \"x\"");
+    says(&["audit", lost, "s", "TINYINT", "--row-count", "3"], 3, "refused: MISSING (9), a row never placed");
+    says(&["audit", file, "x", "TINYINT", "--row-count", "1000"], 4, "absent: no bitmap index on column \"x\"");
 }
 
 #[test]
@@ -326,6 +454,36 @@ fn every_refusal_of_literals() {
         r#"{"answer":"refused","file":null,"name":"LIMIT","number":12,"meaning":"a limit is passed"}"#,
     );
 
+    // Literals are read before the body, and the head of the file before them.
+    let damaged = |at: usize, byte: u8| {
+        let mut bytes = index_file("s", "bitmap", &SMALL);
+        bytes[at] = byte;
+        folder.write("damaged", &bytes)
+    };
+    let mut line = many(1_025);
+    let twice = damaged(70, 0xFF);
+    line[1] = &twice;
+    says(&line, 3, "refused: LIMIT (12), a limit is passed");
+    says(&["ask", &twice, "s", "TINYINT", "EQUAL"], 3, misfit);
+    let magic = damaged(0, 1);
+    line[1] = &magic;
+    says(&line, 3, "refused: MAGIC (2), index file or bin magic differs");
+    says(&["ask", &magic, "s", "TINYINT", "EQUAL"], 3, "refused: MAGIC (2), index file or bin magic differs");
+    says(&["ask", file, "x", "TINYINT", "EQUAL"], 4, "absent: no bitmap index on column \"x\"");
+    // The same numbers, of the body and not of the literals.
+    let limit = damaged(54, 0x11);
+    says(
+        &["ask", &limit, "s", "TINYINT", "EQUAL", "7", "--json"],
+        3,
+        r#"{"answer":"refused","file":"index","name":"LIMIT","number":12,"meaning":"a limit is passed"}"#,
+    );
+    let empty = folder.write("empty", &index_file("s", "bitmap", &[]));
+    says(
+        &["ask", &empty, "s", "TINYINT", "EQUAL", "7", "--json"],
+        3,
+        r#"{"answer":"refused","file":"index","name":"SHORT","number":1,"meaning":"the bytes end inside a field that is due, outside bitmaps"}"#,
+    );
+
     let strings = &folder.write("strings", &index_file("state", "bitmap", &events()));
     let long = |length: usize| ["ask", strings, "state", "STRING", "EQUAL", &"x".repeat(length)].map(String::from);
     says(&long(65_535), 1, "skip: no row of 6");
@@ -398,7 +556,9 @@ fn literals_of_every_type() {
 fn wrong_usage() {
     let folder = Folder::new();
     let file = &folder.write("index", &index_file("s", "bitmap", &SMALL));
-    complains(&[], "a command: locate, audit, ask or deletions is missing");
+    complains(&[], "a command: columns, locate, audit, ask or deletions is missing");
+    complains(&["audit", file, "s", "TINYINT", "--of", "3"], "\"--of\" is no option");
+    complains(&["locate", "-", "s", "--embedded", "-"], "standard input can be read once, and - is there twice");
     complains(&["find", file], "\"find\" is no command");
     complains(&["locate", file], "COLUMN is missing");
     complains(&["audit", file, "s", "DECIMAL"], "TYPE \"DECIMAL\" is none of TINYINT, ");
@@ -461,6 +621,9 @@ fn help_and_version() {
         let (status, out, err) = run(words);
         assert_eq!((status, err.as_str()), (0, ""));
         assert!(out.contains("poddurance ask FILE COLUMN TYPE QUESTION [LITERAL..] [--deletions FILE --bin N]"));
+        // The one reader that isn't proved says so.
+        assert!(out.contains("A plain reader lists them, which\n             is not proved"));
+        assert!(out.lines().all(|line| line.len() <= 120 && !line.ends_with(' ')));
     }
     says(&["--version"], 0, concat!("poddurance ", env!("CARGO_PKG_VERSION")));
 }

@@ -9,10 +9,10 @@ use std::fs::{self, File};
 use std::path::{Path, PathBuf};
 use std::process::{Command, Stdio};
 
-use plain::random::{self, Random};
-use plain::types::{EQUAL, INT, IS_NULL, NOT_EQUAL};
-use plain::writer::{bitmap, deletion_file};
 use poddurance::raw;
+use reference::random::{self, Random};
+use reference::types::{EQUAL, INT, IS_NULL, NOT_EQUAL};
+use reference::writer::{bitmap, deletion_file};
 use support::{say, Lender};
 
 const SEED: u64 = 7_401;

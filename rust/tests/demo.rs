@@ -2,20 +2,18 @@
 
 #[path = "../examples/demo_files/mod.rs"]
 mod demo_files;
+mod support;
 
 use std::collections::BTreeSet;
 use std::fs;
 use std::path::{Path, PathBuf};
-use std::process::{Command, Stdio};
 
 use demo_files::{alarm, files, state, DELETED, DELETED_ELSEWHERE, SAMPLES};
-use plain::scan::scan;
-use plain::types;
-use plain::writer::Column;
 use poddurance::{raw, Refusal};
-
-/// The command line as the README calls it.
-const PROGRAM: &str = "rust/target/release/poddurance";
+use reference::scan::scan;
+use reference::types;
+use reference::writer::Column;
+use support::shown;
 
 fn root() -> PathBuf {
     Path::new(env!("CARGO_MANIFEST_DIR")).join("..")
@@ -41,59 +39,15 @@ fn files_are_as_made() {
     assert_eq!(there.collect::<BTreeSet<_>>(), names);
 }
 
-/// A command of the README, and what it shows.
-#[derive(Debug)]
-struct Shown {
-    words: Vec<String>,
-    output: String,
-    status: i32,
-}
-
-/// The commands begin with `$`, and what is indented below them is their output. Behind `; echo $?` the last line is the exit status.
-fn shown(readme: &str) -> Vec<Shown> {
-    let mut shown: Vec<Shown> = Vec::new();
-    let mut with_status = false;
-    let mut within = false;
-    for line in readme.lines() {
-        let Some(text) = line.strip_prefix("    ") else {
-            within = false;
-            continue;
-        };
-        if let Some(command) = text.strip_prefix("$ ") {
-            let bare = command.strip_suffix("; echo $?");
-            with_status = bare.is_some();
-            let words = bare.unwrap_or(command).split(' ').map(str::to_string).collect();
-            shown.push(Shown { words, output: String::new(), status: 0 });
-            within = true;
-            continue;
-        }
-        assert!(within, "output without a command: {line}");
-        let last = shown.last_mut().expect("a command was shown");
-        match text.parse() {
-            Ok(status) if with_status => last.status = status,
-            _ => last.output += &format!("{text}\n"),
-        }
-    }
-    shown
-}
-
 #[test]
 fn commands_answer_as_shown() {
-    let shown = shown(&readme());
-    for Shown { words, output, status } in &shown {
-        assert_eq!(words[0], PROGRAM);
-        let ran = Command::new(env!("CARGO_BIN_EXE_poddurance"))
-            .args(&words[1..])
-            .current_dir(root())
-            .stdin(Stdio::null())
-            .output()
-            .unwrap();
-        let said = (String::from_utf8(ran.stdout).unwrap(), String::from_utf8(ran.stderr).unwrap(), ran.status.code());
-        assert_eq!(said, (output.clone(), String::new(), Some(*status)), "{words:?}");
-    }
+    let (shown, others) = shown(&readme());
+    assert_eq!(others, [""; 0], "output without a command");
+    let statuses: Vec<i32> = shown.iter().map(|one| one.check(&root())).collect();
     // A reader of the README that finds nothing would pass too.
-    assert_eq!(shown.len(), 6);
-    assert_eq!(shown.iter().map(|one| one.status).collect::<Vec<_>>(), [0, 0, 0, 1, 3, 3]);
+    assert_eq!(statuses, [0, 0, 0, 0, 1, 4, 3, 3, 0]);
+    // Where none is shown it is 0.
+    assert!(shown.iter().zip(statuses).all(|(one, status)| one.status.unwrap_or(0) == status));
 }
 
 #[test]
@@ -132,10 +86,20 @@ fn sound_files_answer_as_a_scan() {
         let about_one = one.flat_map(|value| [types::EQUAL, types::NOT_EQUAL, types::IN, types::NOT_IN].map(|q| (q, value)));
         let about_null = [types::IS_NULL, types::IS_NOT_NULL].map(|question| (question, &values[..0]));
         for (question, values) in about_one.chain(about_null) {
-            let mut field = [0; 3];
-            let answer = raw::ask(&body, cells.ty, question, &types::literals(cells.ty, values), &mut field);
+            let literals = types::literals(cells.ty, values);
             let (expected, count) = scan(cells, question, values);
-            assert_eq!((answer, field.to_vec()), ((raw::ACCEPTED, count), expected), "{name} {column} {question} {values:?}");
+            let expected = ((raw::ACCEPTED, count), expected);
+            let mut field = [0xA5; 3];
+            let answer = raw::ask(&body, cells.ty, question, &literals, &mut field);
+            assert_eq!((answer, field.to_vec()), expected, "{name} {column} {question} {values:?}");
+            // From the file, and with the same bytes embedded in a manifest.
+            let file = demo(name);
+            for (embedded, file) in [(&[][..], &file[..]), (&file, &[])] {
+                let mut field = [0xA5; 3];
+                let (column, kind) = (column.as_bytes(), b"bitmap");
+                let answer = raw::ask_file(embedded, file, column, kind, cells.ty, question, &literals, &mut field);
+                assert_eq!((answer, field.to_vec()), expected, "{name} {question} {values:?}");
+            }
         }
     }
     for name in ["pumps-v1.index", "pumps-v2.index"] {
@@ -149,6 +113,18 @@ fn damaged_files_are_refused() {
     for (name, refusal) in [("pumps-row-lost.index", Refusal::Missing), ("pumps-row-doubled.index", Refusal::Twice)] {
         assert_eq!(audit(name, "state", types::STRING), (refusal.number(), 0), "{name}");
         assert_eq!(audit(name, "alarm", types::BOOLEAN), (raw::ACCEPTED, 24), "{name}");
+
+        let fault = types::literals(types::STRING, &["fault"]);
+        let asked = |column: &[u8], field: &mut [u8]| {
+            raw::ask_file(&[], &demo(name), column, b"bitmap", types::STRING, types::EQUAL, &fault, field)
+        };
+        // Whichever value is asked for, and with no row in the field; where there is no index the field is as it was.
+        let mut field = [0xA5; 4];
+        assert_eq!(asked(b"state", &mut field), (refusal.number(), 0), "{name}");
+        assert_eq!(field, [0, 0, 0, 0xA5], "{name}");
+        let mut field = [0xA5; 4];
+        assert_eq!(asked(b"pressure", &mut field), (raw::ABSENT, 0), "{name}");
+        assert_eq!(field, [0xA5; 4], "{name}");
     }
 }
 
@@ -156,7 +132,7 @@ fn damaged_files_are_refused() {
 fn deletions_are_as_described() {
     let deletions = |bin, rows| {
         let field = poddurance::RowField::for_rows(rows)?;
-        poddurance::read_deletions(&demo("pumps.deletions"), bin, field).map(|field| field.iter().collect::<Vec<_>>())
+        poddurance::read_deletions(&demo("pumps.deletions"), bin, field).map(|deleted| deleted.field().iter().collect::<Vec<_>>())
     };
     assert_eq!(deletions(0, 24), Ok(DELETED.map(u64::from).to_vec()));
     assert_eq!(deletions(1, 40), Ok(DELETED_ELSEWHERE.map(u64::from).to_vec()));

@@ -1,4 +1,4 @@
-//! The library and the plain reader answer alike: on sound files with the scan's answer, on damaged ones with the same
+//! The library and the reference reader answer alike: on sound files with the scan's answer, on damaged ones with the same
 //! refusal, field and bytes behind the field.
 //!
 //! The environment variables PODDURANCE_SEED (where the seeds start) and PODDURANCE_CASES (how many calls at least) ask
@@ -13,28 +13,30 @@ mod support;
 use std::fs::File;
 use std::os::unix::fs::FileExt;
 
-use plain::random::{self, Random};
-use plain::reader;
-use plain::scan::scan;
-use plain::types::{self, BIGINT, BOOLEAN, EQUAL, IN, INT, IS_NULL, NOT_EQUAL, NOT_IN, STRING, TINYINT};
-use plain::writer::{
+use poddurance::raw;
+use reference::random::{self, Random};
+use reference::reader;
+use reference::scan::scan;
+use reference::types::{self, BIGINT, BOOLEAN, EQUAL, IN, INT, IS_NULL, NOT_EQUAL, NOT_IN, STRING, TINYINT};
+use reference::writer::{
     bitmap, body, body_of, body_traced, deletion_file, fix_checksums, index_file, index_file_traced, BitmapForm, Column,
     ContainerForm, Content, FileLayout, Groups, Index, IndexedColumn, Layout, Place,
 };
-use poddurance::raw;
 use support::{hex, number_from_environment, say, Lender, Tally, CALLS};
 
 const LOCATE: usize = 0;
 const AUDIT: usize = 1;
 const ASK: usize = 2;
-const READ_DELETIONS: usize = 3;
-const SUBTRACT: usize = 4;
+const ASK_FILE: usize = 3;
+const READ_DELETIONS: usize = 4;
+const SUBTRACT: usize = 5;
 
 /// The answers that each call can give, as document 01's orders list them.
 const POSSIBLE: [&[u8]; CALLS.len()] = [
     &[0, 1, 2, 3, 4, 12, 255],
     &[0, 1, 3, 5, 6, 7, 8, 9, 10, 11, 12],
     &[0, 1, 3, 5, 6, 7, 8, 9, 10, 11, 12],
+    &[0, 1, 2, 3, 4, 5, 6, 7, 8, 9, 10, 11, 12, 255],
     &[0, 1, 2, 3, 6, 7, 10, 12, 13, 14],
     &[0, 10, 12],
 ];
@@ -53,12 +55,42 @@ struct Comparison {
     second: Lender,
     third: Lender,
     fourth: Lender,
+    fifth: Lender,
+    sixth: Lender,
+}
+
+/// What Locate is asked: two buffers, of which it looks at one, and two names.
+#[derive(Clone, Copy)]
+struct Where<'a> {
+    embedded: &'a [u8],
+    file: &'a [u8],
+    column: &'a [u8],
+    kind: &'a [u8],
+}
+
+impl<'a> Where<'a> {
+    fn in_file(file: &'a [u8], column: &'a [u8], kind: &'a [u8]) -> Where<'a> {
+        Where { embedded: &[], file, column, kind }
+    }
+
+    /// The bitmap index on a column `s`.
+    fn small(file: &'a [u8]) -> Where<'a> {
+        Where::in_file(file, b"s", b"bitmap")
+    }
+}
+
+/// What is asked of a body: type, question and literals.
+#[derive(Clone, Copy)]
+struct Asked<'a> {
+    ty: u32,
+    question: u32,
+    literals: &'a [u8],
 }
 
 impl Comparison {
     fn new() -> Comparison {
-        let [first, second, third, fourth] = [(); 4].map(|()| Lender::new());
-        Comparison { seed: None, tally: Tally::new(), first, second, third, fourth }
+        let [first, second, third, fourth, fifth, sixth] = [(); 6].map(|()| Lender::new());
+        Comparison { seed: None, tally: Tally::new(), first, second, third, fourth, fifth, sixth }
     }
 
     fn locate(&mut self, embedded: &[u8], file: &[u8], column: &[u8], kind: &[u8]) -> (u8, u64, u64) {
@@ -68,7 +100,7 @@ impl Comparison {
         let same = found == expected && lent.0 == embedded && lent.1 == file && lent.2 == column && lent.3 == kind;
         if !same {
             let inputs = [("embedded", embedded), ("file", file), ("column", column), ("kind", kind)];
-            self.fail("Locate", &inputs, &format!("library {found:?}, plain reader {expected:?}"));
+            self.fail("Locate", &inputs, &format!("library {found:?}, reference reader {expected:?}"));
         }
         self.tally.add(LOCATE, found.0);
         found
@@ -86,9 +118,9 @@ impl Comparison {
                 ("body", body),
                 ("field before", field),
                 ("field after, library", &found_field),
-                ("field after, plain reader", &expected_field),
+                ("field after, reference reader", &expected_field),
             ];
-            self.fail("Audit", &inputs, &format!("type {ty}: library {found:?}, plain reader {expected:?}"));
+            self.fail("Audit", &inputs, &format!("type {ty}: library {found:?}, reference reader {expected:?}"));
         }
         self.tally.add(AUDIT, found.0);
         (found.0, found.1, expected_field)
@@ -107,12 +139,40 @@ impl Comparison {
                 ("literals", literals),
                 ("field before", field),
                 ("field after, library", &found_field),
-                ("field after, plain reader", &expected_field),
+                ("field after, reference reader", &expected_field),
             ];
-            let answers = format!("type {ty}, question {question}: library {found:?}, plain reader {expected:?}");
+            let answers = format!("type {ty}, question {question}: library {found:?}, reference reader {expected:?}");
             self.fail("Ask", &inputs, &answers);
         }
         self.tally.add(ASK, found.0);
+        (found.0, found.1, expected_field)
+    }
+
+    fn ask_file(&mut self, at: Where, asked: Asked, field: &[u8]) -> (u8, u64, Vec<u8>) {
+        let Where { embedded, file, column, kind } = at;
+        let Asked { ty, question, literals } = asked;
+        let mut expected_field = field.to_vec();
+        let expected = reader::ask_file(embedded, file, column, kind, ty, question, literals, &mut expected_field);
+        let lent = (self.first.lend(embedded), self.second.lend(file), self.third.lend(column), self.fourth.lend(kind));
+        let (lent_literals, lent_field) = (self.fifth.lend(literals), self.sixth.lend(field));
+        let found = raw::ask_file(lent.0, lent.1, lent.2, lent.3, ty, question, lent_literals, lent_field);
+        let kept = lent.0 == embedded && lent.1 == file && lent.2 == column && lent.3 == kind && lent_literals == literals;
+        if !(found == expected && lent_field == expected_field && kept) {
+            let found_field = lent_field.to_vec();
+            let inputs = [
+                ("embedded", embedded),
+                ("file", file),
+                ("column", column),
+                ("kind", kind),
+                ("literals", literals),
+                ("field before", field),
+                ("field after, library", &found_field),
+                ("field after, reference reader", &expected_field),
+            ];
+            let answers = format!("type {ty}, question {question}: library {found:?}, reference reader {expected:?}");
+            self.fail("Ask file", &inputs, &answers);
+        }
+        self.tally.add(ASK_FILE, found.0);
         (found.0, found.1, expected_field)
     }
 
@@ -128,9 +188,9 @@ impl Comparison {
                 ("file", file),
                 ("field before", field),
                 ("field after, library", &found_field),
-                ("field after, plain reader", &expected_field),
+                ("field after, reference reader", &expected_field),
             ];
-            let answers = format!("bin {bin}, rows {rows}: library {found:?}, plain reader {expected:?}");
+            let answers = format!("bin {bin}, rows {rows}: library {found:?}, reference reader {expected:?}");
             self.fail("Read deletions", &inputs, &answers);
         }
         self.tally.add(READ_DELETIONS, found.0);
@@ -149,9 +209,9 @@ impl Comparison {
                 ("first before", first),
                 ("second", second),
                 ("first after, library", &found_first),
-                ("first after, plain reader", &expected_first),
+                ("first after, reference reader", &expected_first),
             ];
-            self.fail("Subtract", &inputs, &format!("rows {rows}: library {found:?}, plain reader {expected:?}"));
+            self.fail("Subtract", &inputs, &format!("rows {rows}: library {found:?}, reference reader {expected:?}"));
         }
         self.tally.add(SUBTRACT, found.0);
         (found.0, found.1, found.2, expected_first)
@@ -183,7 +243,8 @@ impl Comparison {
 
 fn round(both: &mut Comparison, random: &mut Random) {
     // Whether buffers of this round begin or end at a guard is the seed's choice alone, so that a round repeats without the others.
-    for lender in [&mut both.first, &mut both.second, &mut both.third, &mut both.fourth] {
+    let Comparison { first, second, third, fourth, fifth, sixth, .. } = both;
+    for lender in [first, second, third, fourth, fifth, sixth] {
         lender.place_next(random.percent(50));
     }
     match random.below(100) {
@@ -212,12 +273,12 @@ fn check_column(both: &mut Comparison, random: &mut Random, column: &Column, gro
     let (name, kind) = (random::name(random), random::name(random));
     let (columns, file_layout) = random::index_file(random, &name, &kind, body);
     let file = index_file_traced(&columns, &file_layout).bytes;
-    let (answer, start, length) = if random.percent(50) {
-        let other = random.bytes(7);
-        both.locate(&file, &other, &name, &kind)
-    } else {
-        both.locate(&[], &file, &name, &kind)
+    let other = random.bytes(7);
+    let at = match random.percent(50) {
+        true => Where { embedded: &file, file: &other, column: &name, kind: &kind },
+        false => Where::in_file(&file, &name, &kind),
     };
+    let (answer, start, length) = both.locate(at.embedded, at.file, at.column, at.kind);
     both.demand(answer == 0, "Locate of a sound file", &[("file", &file), ("column", &name), ("kind", &kind)]);
     let part = &file[start as usize..][..length as usize];
     both.demand(part == body, "the part that Locate hands back", &[("file", &file), ("body", body)]);
@@ -241,6 +302,9 @@ fn check_column(both: &mut Comparison, random: &mut Random, column: &Column, gro
         let sound =
             answer == 0 && count == expected_count && after[..needed] == expected[..] && after[needed..] == before[needed..];
         both.demand(sound, &format!("Ask {question} of a sound body"), &[("body", body), ("literals", &literals)]);
+        let asked = Asked { ty: column.ty, question, literals: &literals };
+        let from_file = both.ask_file(at, asked, &before);
+        both.demand(from_file == (answer, count, after.clone()), "Ask of a sound file", &[("file", &file)]);
         last = after;
     }
 
@@ -303,7 +367,13 @@ fn damaged_body(both: &mut Comparison, random: &mut Random) {
         both.audit(&body, ty, &before);
         let before = random::field_or_short(random, near);
         let (question, values) = random::question(random, &groups);
-        both.ask(&body, ty, question, &types::literals(column.ty, &values), &before);
+        let literals = types::literals(column.ty, &values);
+        if random.percent(30) {
+            let file = index_file(&[("s", "bitmap", &body)]);
+            both.ask_file(Where::small(&file), Asked { ty, question, literals: &literals }, &before);
+        } else {
+            both.ask(&body, ty, question, &literals, &before);
+        }
     }
 }
 
@@ -316,6 +386,8 @@ fn misfit_questions(both: &mut Comparison, random: &mut Random) {
         let body = if random.percent(70) { traced.bytes.clone() } else { random::damage(random, &traced) };
         let before = random::field_or_short(random, column.cells.len());
         both.ask(&body, ty, question, &literals, &before);
+        let file = index_file(&[("s", "bitmap", &body)]);
+        both.ask_file(Where::small(&file), Asked { ty, question, literals: &literals }, &before);
         both.audit(&body, ty, &before);
     }
 }
@@ -336,11 +408,16 @@ fn index_files(both: &mut Comparison, random: &mut Random) {
         let file = if random.percent(20) { traced.bytes.clone() } else { random::damage(random, &traced) };
         let name = if random.percent(85) { name.clone() } else { random::name(random) };
         let kind = if random.percent(85) { kind.clone() } else { random::name(random) };
-        if random.percent(20) {
-            let other = random.bytes(length);
-            both.locate(&file, &other, &name, &kind);
-        } else {
-            both.locate(&[], &file, &name, &kind);
+        let other = random.bytes(length);
+        let at = match random.percent(20) {
+            true => Where { embedded: &file, file: &other, column: &name, kind: &kind },
+            false => Where::in_file(&file, &name, &kind),
+        };
+        both.locate(at.embedded, at.file, at.column, at.kind);
+        if random.percent(30) {
+            let asked = Asked { ty: TINYINT, question: EQUAL, literals: &[7] };
+            let rows = random.below(20);
+            both.ask_file(at, asked, &random::field(random, rows));
         }
     }
 }
@@ -430,6 +507,7 @@ fn every_cut_and_flip(both: &mut Comparison) {
         }
         for file in changed(&index_file(&[("s", "bitmap", &whole)])) {
             both.locate(&[], &file, b"s", b"bitmap");
+            both.ask_file(Where::small(&file), Asked { ty: TINYINT, question: NOT_EQUAL, literals: &[7] }, &[0xA5; 2]);
         }
     }
     let bitmaps = [bitmap(&[0, 2, 5], &BitmapForm::WithoutRuns), bitmap(&[1, 2, 3, 4, 5, 6], &BitmapForm::Smallest)];
@@ -530,6 +608,7 @@ fn orders(both: &mut Comparison) {
     }
 
     locate_orders(both);
+    ask_file_orders(both);
     deletion_orders(both);
 }
 
@@ -568,6 +647,50 @@ fn locate_orders(both: &mut Comparison) {
     answers(&[column(b"t", &[index.clone(), index.clone()])], 255);
     answers(&[column(b"s", &[at(b"bsi", -1, -1), at(b"bsi", -1, -1)])], 255);
     answers(&[column(b"s", &[at(b"bitmap", 200, 0), index])], 4);
+}
+
+/// Locate goes before the literals, and these before the body. Without a body the field is as it was.
+fn ask_file_orders(both: &mut Comparison) {
+    let body = body_of(&Column::new(TINYINT, vec![Some(vec![7]), Some(vec![9]), None]), &Layout::version(1));
+    let sound = index_file(&[("s", "bitmap", &body)]);
+    let none = index_file(&[]);
+    let wrong_body = index_file(&[("s", "bitmap", &[3])]);
+    let no_body = index_file(&[("s", "bitmap", &[])]);
+    let fits = Asked { ty: TINYINT, question: EQUAL, literals: &[7] };
+    let misfits = [
+        Asked { ty: 12, ..fits },
+        Asked { question: 6, ..fits },
+        Asked { literals: &[], ..fits },
+        Asked { literals: &[7; 2], ..fits },
+    ];
+    for (file, length, answer, answer_to_misfit) in [
+        (&sound[..], 2, 0, 11),
+        (&sound, 0, 10, 11),
+        (&[], 2, 1, 1),
+        (&[0; 16], 2, 2, 2),
+        (&sound[..70], 2, 4, 4),
+        (&none, 2, 255, 255),
+        (&wrong_body, 2, 3, 11),
+        (&no_body, 2, 1, 11),
+    ] {
+        let field = vec![0xA5; length];
+        // A refusal up to ROOM, and ABSENT, leave the field alone.
+        let expected = if answer == 0 { (0, 1, vec![0b001, 0xA5]) } else { (answer, 0, field.clone()) };
+        assert_eq!(both.ask_file(Where::small(file), fits, &field), expected, "Ask of {}", hex(file));
+        for misfit in misfits {
+            let expected = (answer_to_misfit, 0, field.clone());
+            assert_eq!(both.ask_file(Where::small(file), misfit, &field), expected, "Ask of {}", hex(file));
+        }
+    }
+    // Behind ROOM the field is zero: the value 9 at row 0, where 7 is.
+    let mut twice = sound.clone();
+    twice[70] = 0xFF;
+    assert_eq!(both.ask_file(Where::small(&twice), fits, &[0xA5; 2]), (8, 0, vec![0, 0xA5]));
+    // What is embedded is looked at, and the file is not.
+    let embedded = Where { embedded: &sound, ..Where::small(&[]) };
+    assert_eq!(both.ask_file(embedded, fits, &[0xA5]), (0, 1, vec![1]));
+    let embedded = Where { embedded: &none, ..Where::small(&sound) };
+    assert_eq!(both.ask_file(embedded, fits, &[0xA5]), (255, 0, vec![0xA5]));
 }
 
 fn deletion_orders(both: &mut Comparison) {
@@ -793,7 +916,7 @@ fn most_rows(both: &mut Comparison) {
 
     let mut field = Lender::guarded();
     let field = field.lend_anything(bytes);
-    let mut plain_field = vec![0; bytes];
+    let mut reference_field = vec![0; bytes];
     let compare = |tally: &mut Tally, call: usize, found: (u8, u64), expected: (u8, u64), sound: (u8, u64), same: bool| {
         assert_eq!(found, expected, "{} of the most rows", CALLS[call]);
         assert_eq!(found, sound, "{} of the most rows", CALLS[call]);
@@ -801,16 +924,16 @@ fn most_rows(both: &mut Comparison) {
         tally.add(call, found.0);
     };
     let found = raw::audit(&body, INT, field);
-    let expected = reader::audit(&body, INT, &mut plain_field);
-    compare(&mut both.tally, AUDIT, found, expected, (0, MAX), *field == *plain_field);
+    let expected = reader::audit(&body, INT, &mut reference_field);
+    compare(&mut both.tally, AUDIT, found, expected, (0, MAX), *field == *reference_field);
     let found = raw::ask(&body, INT, NOT_IN, &int(6), field);
-    let expected = reader::ask(&body, INT, NOT_IN, &int(6), &mut plain_field);
-    compare(&mut both.tally, ASK, found, expected, (0, MAX - 1), *field == *plain_field);
+    let expected = reader::ask(&body, INT, NOT_IN, &int(6), &mut reference_field);
+    compare(&mut both.tally, ASK, found, expected, (0, MAX - 1), *field == *reference_field);
     let found = raw::read_deletions(&file, 0, MAX, field);
-    let expected = reader::read_deletions(&file, 0, MAX, &mut plain_field);
-    compare(&mut both.tally, READ_DELETIONS, found, expected, (0, MAX - 1), *field == *plain_field);
-    // The plain reader's field is the library's second field, so that a third of this size isn't needed.
-    let found = raw::subtract(field, &plain_field, MAX);
+    let expected = reader::read_deletions(&file, 0, MAX, &mut reference_field);
+    compare(&mut both.tally, READ_DELETIONS, found, expected, (0, MAX - 1), *field == *reference_field);
+    // The reference reader's field is the library's second field, so that a third of this size isn't needed.
+    let found = raw::subtract(field, &reference_field, MAX);
     assert_eq!(found, (0, 0, MAX - 1));
     assert!(field.iter().all(|byte| *byte == 0));
     both.tally.add(SUBTRACT, found.0);
@@ -834,7 +957,7 @@ fn buffers_past_the_limit(both: &mut Comparison) {
         // The buffer that isn't looked at may be too long.
         [&file, long, b"s", b"bitmap"],
     ];
-    for (i, [embedded, file, column, kind]) in locates.into_iter().enumerate() {
+    for (i, [embedded, file, column, kind]) in locates.iter().copied().enumerate() {
         let found: Triple = raw::locate(embedded, file, column, kind);
         assert_eq!(found, reader::locate(embedded, file, column, kind));
         assert_eq!(found.0, if i == 5 { 0 } else { 12 });
@@ -850,6 +973,20 @@ fn buffers_past_the_limit(both: &mut Comparison) {
             both.tally.add(ASK, 12);
         }
     }
+    let none = index_file(&[]);
+    let mut ask_file = |[embedded, file, column, kind]: [&[u8]; 4], literals: &[u8], expected: (u8, u64)| {
+        assert_eq!(raw::ask_file(embedded, file, column, kind, TINYINT, EQUAL, literals, &mut field), expected);
+        assert_eq!(reader::ask_file(embedded, file, column, kind, TINYINT, EQUAL, literals, &mut field), expected);
+        both.tally.add(ASK_FILE, expected.0);
+    };
+    for buffers in &locates[..5] {
+        ask_file(*buffers, &[7], (12, 0));
+    }
+    ask_file([&[], &file, b"s", b"bitmap"], long, (12, 0));
+    ask_file([&file, long, b"s", b"bitmap"], long, (12, 0));
+    // Without a body the literals aren't looked at.
+    ask_file([&[], &none, b"s", b"bitmap"], long, (255, 0));
+    ask_file([&[], &[], b"s", b"bitmap"], long, (1, 0));
     assert_eq!(raw::read_deletions(long, 0, 8, &mut field), (12, 0));
     assert_eq!(reader::read_deletions(long, 0, 8, &mut field), (12, 0));
     both.tally.add(READ_DELETIONS, 12);
@@ -882,7 +1019,7 @@ impl SeedNote {
 }
 
 #[test]
-fn library_and_plain_reader_agree() {
+fn library_and_reference_reader_agree() {
     let asked_seed = number_from_environment("PODDURANCE_SEED");
     let first_seed = asked_seed.unwrap_or(DEFAULT_SEED);
     let cases = number_from_environment("PODDURANCE_CASES").unwrap_or(DEFAULT_CASES);
@@ -917,7 +1054,7 @@ fn library_and_plain_reader_agree() {
     let calls = both.tally.calls();
     let accepted = both.tally.accepted();
     say(&format!(
-        "\n{calls} calls of library and plain reader agree ({fixed} of them fixed); seeds {first_seed} to {seed}; \
+        "\n{calls} calls of library and reference reader agree ({fixed} of them fixed); seeds {first_seed} to {seed}; \
          {}% accepted\n{}",
         100 * accepted / calls,
         both.tally.table()

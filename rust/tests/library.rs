@@ -1,8 +1,7 @@
 //! The functions at the top of the crate: what a field holds after each call, and what they don't let happen.
 
-use poddurance::{
-    ask, audit, locate, raw, read_deletions, subtract, Error, Literals, Question, Refusal, RowField, Subtracted, Type, Value,
-};
+use poddurance::{ask, ask_file, audit, locate, raw, read_deletions, subtract};
+use poddurance::{Answer, Error, Literals, Question, Refusal, RowField, Subtracted, Type, Value};
 
 /// TINYINT 7, 9, null.
 const SMALL: [u8; 24] = [1, 0, 0, 0, 3, 0, 0, 0, 2, 1, 255, 255, 255, 253, 7, 255, 255, 255, 255, 9, 255, 255, 255, 254];
@@ -12,6 +11,16 @@ const SMALL_2: [u8; 62] = [
     2, 0, 0, 0, 3, 0, 0, 0, 2, 1, 255, 255, 255, 253, 255, 255, 255, 255, 0, 0, 0, 2, 7, 0, 0, 0, 0, 9, 0, 0, 0, 13, 0, 0, 0, 26,
     0, 0, 0, 1, 7, 255, 255, 255, 255, 255, 255, 255, 255, 0, 0, 0, 1, 9, 255, 255, 255, 254, 255, 255, 255, 255,
 ];
+
+/// A body as the bitmap index on column `s`, as document 01 writes it out.
+fn small_file(body: &[u8]) -> Vec<u8> {
+    let mut file = vec![0, 5, 0x4E, 0x4E, 0xD0, 0x1A, 0x35, 0xAE, 0, 0, 0, 1, 0, 0, 0, 47, 0, 0, 0, 1];
+    file.extend(b"\0\x01s\0\0\0\x01\0\x06bitmap\0\0\0\x2F");
+    file.extend((body.len() as u32).to_be_bytes());
+    file.extend([0; 4]);
+    file.extend(body);
+    file
+}
 
 /// One bin with rows 0, 2 and 5.
 const DELETIONS: [u8; 35] = [
@@ -76,7 +85,9 @@ fn the_answers_that_document_01_writes_out() {
 fn a_field_with_rows_of_an_earlier_answer_holds_the_new_answer_alone() {
     let answer = ask(&SMALL, Question::IsNull, &none(), used(3)).unwrap();
     assert!(answer.field().iter().eq([2]));
-    assert!(read_deletions(&DELETIONS, 0, used(6)).unwrap().iter().eq([0, 2, 5]));
+    let deleted = read_deletions(&DELETIONS, 0, used(6)).unwrap();
+    assert_eq!(deleted.count(), 3);
+    assert!(deleted.field().iter().eq([0, 2, 5]));
     assert_eq!(audit(&SMALL, Type::TinyInt, used(3)).unwrap().into_field().count(), 0);
 }
 
@@ -106,7 +117,7 @@ fn a_field_of_another_data_file_is_not_subtracted() {
 #[test]
 fn subtracts() {
     let mut rows = used(6);
-    let deleted = read_deletions(&DELETIONS, 0, RowField::for_rows(6).unwrap()).unwrap();
+    let deleted = read_deletions(&DELETIONS, 0, RowField::for_rows(6).unwrap()).unwrap().into_field();
     assert_eq!(subtract(&mut rows, &deleted), Ok(Subtracted { left: 3, removed: 3 }));
     assert!(rows.iter().eq([1, 3, 4]));
     assert_eq!(subtract(&mut rows, &deleted), Ok(Subtracted { left: 3, removed: 0 }));
@@ -143,9 +154,7 @@ fn fields_sized_by_the_claim_of_a_body() {
 
 #[test]
 fn locate_hands_back_a_part_of_the_buffer_it_looks_at() {
-    let mut file = vec![0, 5, 0x4E, 0x4E, 0xD0, 0x1A, 0x35, 0xAE, 0, 0, 0, 1, 0, 0, 0, 47, 0, 0, 0, 1];
-    file.extend(b"\0\x01s\0\0\0\x01\0\x06bitmap\0\0\0\x2F\0\0\0\x18\0\0\0\0");
-    file.extend(SMALL);
+    let file = small_file(&SMALL);
     let other = [0];
     assert_eq!(locate(&file, &other, "s", "bitmap").unwrap().unwrap().as_ptr(), file[47..].as_ptr());
     assert_eq!(locate(&[], &file, "s", "bitmap").unwrap().unwrap().as_ptr(), file[47..].as_ptr());
@@ -156,9 +165,90 @@ fn locate_hands_back_a_part_of_the_buffer_it_looks_at() {
 
 #[test]
 fn an_index_of_length_0_is_found() {
-    let mut file = vec![0, 5, 0x4E, 0x4E, 0xD0, 0x1A, 0x35, 0xAE, 0, 0, 0, 1, 0, 0, 0, 47, 0, 0, 0, 1];
-    file.extend(b"\0\x01s\0\0\0\x01\0\x06bitmap\0\0\0\x2F\0\0\0\0\0\0\0\0");
+    let file = small_file(&[]);
     assert_eq!(locate(&[], &file, "s", "bitmap"), Ok(Some(&[][..])));
+    assert_eq!(asked(&file, "s", Question::IsNull, &none(), 0), Err(Error::Refused(Refusal::Short)));
+}
+
+/// Asks the bitmap index on a column of a file that holds rows of an earlier answer in its field.
+fn asked(file: &[u8], column: &str, question: Question, literals: &Literals, rows: u64) -> Result<Option<Answer>, Error> {
+    ask_file(&[], file, column, "bitmap", question, literals, used(rows))
+}
+
+#[test]
+fn the_file_that_document_01_writes_out_is_asked() {
+    assert_eq!(small_file(&SMALL).len(), 71);
+    for body in [&SMALL[..], &SMALL_2] {
+        let file = small_file(body);
+        let eight = Literals::of(Type::TinyInt, [8]).unwrap();
+        for (question, literals, field, count) in [
+            (Question::Equal, &seven(), 0b001, 1),
+            (Question::NotEqual, &seven(), 0b110, 2),
+            (Question::Equal, &eight, 0, 0),
+            (Question::In, &none(), 0, 0),
+            (Question::NotIn, &none(), 0b111, 3),
+            (Question::IsNull, &none(), 0b100, 1),
+            (Question::IsNotNull, &none(), 0b011, 2),
+        ] {
+            let answer = asked(&file, "s", question, literals, 3).unwrap().unwrap();
+            assert_eq!((answer.field().as_bytes(), answer.count(), answer.is_skip()), (&[field][..], count, count == 0));
+            assert_eq!(Ok(answer.clone()), ask(body, question, literals, used(3)));
+            // Embedded, it is looked at alone.
+            let embedded = ask_file(&file, &[0], "s", "bitmap", question, literals, used(3));
+            assert_eq!(embedded, Ok(Some(answer)));
+        }
+    }
+}
+
+#[test]
+fn an_index_that_is_not_there_is_no_answer() {
+    let file = small_file(&SMALL);
+    for (column, kind) in [("t", "bitmap"), ("s", "bsi"), ("", "bitmap"), ("s", "")] {
+        assert_eq!(ask_file(&[], &file, column, kind, Question::Equal, &seven(), used(3)), Ok(None));
+        assert_eq!(ask_file(&file, &[], column, kind, Question::Equal, &seven(), used(3)), Ok(None));
+        // It is said before literals that don't fit, and whatever rows the field is for.
+        assert_eq!(ask_file(&[], &file, column, kind, Question::Equal, &none(), used(1_000)), Ok(None));
+    }
+}
+
+#[test]
+fn a_file_is_refused_as_locate_and_then_ask_refuse() {
+    let file = small_file(&SMALL);
+    let changed = |at: usize, byte: u8| {
+        let mut bytes = file.clone();
+        bytes[at] = byte;
+        bytes
+    };
+    for (bytes, refusal) in [
+        (vec![], Refusal::Short),
+        (changed(7, 0), Refusal::Magic),
+        (changed(11, 2), Refusal::Version),
+        (file[..70].to_vec(), Refusal::Head),
+        (changed(66, 7), Refusal::Dict),
+        (changed(67, 0), Refusal::Bitmap),
+        (changed(70, 0xFC), Refusal::Range),
+        (changed(70, 0xFF), Refusal::Twice),
+        (changed(51, 4), Refusal::Missing),
+        (changed(51, 9), Refusal::Room),
+        (changed(54, 0x11), Refusal::Limit),
+    ] {
+        assert_eq!(asked(&bytes, "s", Question::Equal, &seven(), 3), Err(Error::Refused(refusal)));
+    }
+    // The literals are read before the body, and the head before them.
+    assert_eq!(asked(&file, "s", Question::Equal, &none(), 3), Err(Error::Refused(Refusal::Literal)));
+    assert_eq!(asked(&changed(70, 0xFF), "s", Question::Equal, &none(), 3), Err(Error::Refused(Refusal::Literal)));
+    assert_eq!(asked(&file[..70], "s", Question::Equal, &none(), 3), Err(Error::Refused(Refusal::Head)));
+}
+
+#[test]
+fn a_file_of_fewer_or_more_rows_is_no_answer() {
+    let file = small_file(&SMALL);
+    for rows in [1, 2, 4, 8, 9, 1_000] {
+        let expected = Err(Error::RowsDiffer { expected: rows, found: 3 });
+        assert_eq!(asked(&file, "s", Question::Equal, &seven(), rows), expected);
+        assert_eq!(ask_file(&file, &[], "s", "bitmap", Question::Equal, &seven(), used(rows)), expected);
+    }
+    assert_eq!(asked(&file, "s", Question::Equal, &seven(), 0), Err(Error::Refused(Refusal::Room)));
 }
 
 #[test]
@@ -208,15 +298,19 @@ fn literals_have_the_width_of_their_type() {
 #[test]
 fn literals_that_do_not_fit_change_nothing() {
     for (ty, least, most) in [
-        (Type::TinyInt, -128, 127),
-        (Type::SmallInt, -32_768, 32_767),
+        (Type::TinyInt, i64::from(i8::MIN), i64::from(i8::MAX)),
+        (Type::SmallInt, i64::from(i16::MIN), i64::from(i16::MAX)),
         (Type::Int, i64::from(i32::MIN), i64::from(i32::MAX)),
         (Type::Date, i64::from(i32::MIN), i64::from(i32::MAX)),
         (Type::Time, i64::from(i32::MIN), i64::from(i32::MAX)),
+        (Type::BigInt, i64::MIN, i64::MAX),
+        (Type::Timestamp, i64::MIN, i64::MAX),
+        (Type::LocalZonedTimestamp, i64::MIN, i64::MAX),
     ] {
         let mut literals = Literals::of(ty, [least, most]).unwrap();
         let before = literals.clone();
-        for value in [Value::Number(least - 1), Value::Number(most + 1), Value::Boolean(true), Value::String(b"1")] {
+        let (below, above) = (i128::from(least) - 1, i128::from(most) + 1);
+        for value in [Value::Number(below), Value::Number(above), Value::Boolean(true), Value::String(b"1")] {
             assert_eq!(literals.push(value), Err(Refusal::Literal));
         }
         assert_eq!(literals, before);
@@ -224,6 +318,47 @@ fn literals_that_do_not_fit_change_nothing() {
     assert_eq!(Literals::of(Type::Boolean, [1]), Err(Refusal::Literal));
     assert_eq!(Literals::of(Type::String, [1]), Err(Refusal::Literal));
     assert_eq!(Literals::of(Type::BigInt, [i64::MIN, i64::MAX]).unwrap().as_bytes()[7..9], [0, 0x7F]);
+}
+
+#[test]
+fn literals_of_what_a_caller_has() {
+    // Numbers of every width, by value and by reference.
+    let seven = [0, 7];
+    macro_rules! numbers {
+        ($($number:ty)*) => {$(
+            let number: $number = 7;
+            assert_eq!(Literals::of(Type::SmallInt, [number]).unwrap().as_bytes(), seven);
+            assert_eq!(Literals::of(Type::SmallInt, &[number]).unwrap().as_bytes(), seven);
+            assert_eq!(Value::from(<$number>::MAX), Value::Number(i128::try_from(<$number>::MAX).unwrap()));
+            assert_eq!(Value::from(<$number>::MIN), Value::Number(i128::try_from(<$number>::MIN).unwrap()));
+        )*};
+    }
+    numbers!(i8 i16 i32 i64 i128 isize u8 u16 u32 u64 usize);
+    assert_eq!(Literals::of(Type::BigInt, [u64::MAX]), Err(Refusal::Literal));
+    assert_eq!(Literals::of(Type::TinyInt, [200u8]), Err(Refusal::Literal));
+    assert_eq!(Literals::of(Type::Int, 1..=3).unwrap().len(), 3);
+    assert_eq!(Literals::of(Type::Int, [1, 2].iter().rev()).unwrap().len(), 2);
+
+    let alarms = [true, false];
+    assert_eq!(Literals::of(Type::Boolean, alarms.iter()).unwrap(), Literals::of(Type::Boolean, alarms).unwrap());
+
+    // Text and bytes, however they are held.
+    let stored = b"\0\0\0\x02on";
+    let text = |literals: Result<Literals, Refusal>| assert_eq!(literals.unwrap().as_bytes(), stored);
+    let (owned, bytes) = ("on".to_string(), b"on".to_vec());
+    text(Literals::of(Type::String, ["on"]));
+    text(Literals::of(Type::String, ["on"].iter()));
+    text(Literals::of(Type::String, [&owned]));
+    text(Literals::of(Type::String, std::slice::from_ref(&owned)));
+    text(Literals::of(Type::String, &[std::borrow::Cow::from("on")]));
+    text(Literals::of(Type::Char, [b"on"]));
+    text(Literals::of(Type::Char, [&b"on"[..]]));
+    text(Literals::of(Type::Char, [&b"on"[..]].iter()));
+    text(Literals::of(Type::VarChar, [&bytes]));
+    text(Literals::of(Type::VarChar, std::slice::from_ref(&bytes)));
+    let mut pushed = Literals::none(Type::String);
+    pushed.push(owned.as_str()).unwrap();
+    assert_eq!(pushed.as_bytes(), stored);
 }
 
 #[test]
@@ -264,7 +399,7 @@ fn field_of(rows: u64, set: &[u64]) -> RowField {
         (0..8).fold(crc ^ u32::from(*byte), |crc, _| if crc & 1 == 1 { (crc >> 1) ^ 0xEDB8_8320 } else { crc >> 1 })
     });
     file.extend(crc.to_be_bytes());
-    read_deletions(&file, 0, used(rows)).unwrap()
+    read_deletions(&file, 0, used(rows)).unwrap().into_field()
 }
 
 #[test]
@@ -289,6 +424,6 @@ fn reset_leaves_no_row_of_before() {
 
 #[test]
 fn a_field_shows_its_rows() {
-    let field = read_deletions(&DELETIONS, 0, used(6)).unwrap();
+    let field = read_deletions(&DELETIONS, 0, used(6)).unwrap().into_field();
     assert_eq!(format!("{field:?}"), "RowField for 6 rows {0..=0, 2..=2, 5..=5}");
 }

@@ -1,7 +1,7 @@
 //! Buffers over document 01's limit are LIMIT before anything else is looked at. The memory is zeroed by the system when it is
 //! first touched, which none of these calls does, so that it takes no room.
 
-use poddurance::{raw, Literals, Refusal, RowField, Type, LIMIT};
+use poddurance::{ask, ask_file, raw, Error, Literals, Question, Refusal, RowField, Type, LIMIT};
 
 const LIMIT_PASSED: u8 = 12;
 
@@ -9,6 +9,14 @@ const LIMIT_PASSED: u8 = 12;
 const HEAD: [u8; 24] = [0, 5, 0x4E, 0x4E, 0xD0, 0x1A, 0x35, 0xAE, 0, 0, 0, 1, 0, 0, 0, 24, 0, 0, 0, 0, 0, 0, 0, 0];
 
 const BODY: [u8; 24] = [1, 0, 0, 0, 3, 0, 0, 0, 2, 1, 255, 255, 255, 253, 7, 255, 255, 255, 255, 9, 255, 255, 255, 254];
+
+/// The body as the bitmap index on column `s`.
+fn index_file() -> Vec<u8> {
+    let mut file = HEAD[..12].to_vec();
+    file.extend(b"\0\0\0\x2F\0\0\0\x01\0\x01s\0\0\0\x01\0\x06bitmap\0\0\0\x2F\0\0\0\x18\0\0\0\0");
+    file.extend(BODY);
+    file
+}
 
 fn too_long() -> Vec<u8> {
     vec![0; LIMIT as usize + 1]
@@ -95,11 +103,45 @@ fn names_within_the_limit_match_nothing() {
 }
 
 #[test]
-fn literals_are_refused_where_the_library_would() {
+fn ask_file_refuses_what_locate_and_ask_refuse() {
+    let long = too_long();
+    let mut field = [0xAA; 1];
+    let mut asked = |embedded: &[u8], file: &[u8], column: &[u8], kind: &[u8], literals: &[u8]| {
+        // 99 is no type and no question; LIMIT goes before that too.
+        raw::ask_file(embedded, file, column, kind, 99, 99, literals, &mut field)
+    };
+    let refused = (LIMIT_PASSED, 0);
+    assert_eq!(asked(&long, &[], b"s", b"bitmap", &[7]), refused);
+    assert_eq!(asked(&[], &long, b"s", b"bitmap", &[7]), refused);
+    assert_eq!(asked(&HEAD, &[], &long, b"bitmap", &[7]), refused);
+    assert_eq!(asked(&HEAD, &[], b"s", &long, &[7]), refused);
+    assert_eq!(asked(&[], &[], &long, b"bitmap", &[7]), refused);
+    assert_eq!(asked(&[], &index_file(), b"s", b"bitmap", &long), refused);
+    // The buffer that isn't looked at may be too long, and without a body the literals aren't looked at.
+    assert_eq!(asked(&HEAD, &long, b"s", b"bitmap", &[7]), (raw::ABSENT, 0));
+    assert_eq!(asked(&HEAD, &long, b"s", b"bitmap", &long), (raw::ABSENT, 0));
+    assert_eq!(asked(&[], &[], b"s", b"bitmap", &long), (1, 0));
+    // Neither is found for a name within the limit that no head can hold.
+    assert_eq!(asked(&[], &index_file(), &vec![b's'; 65_536], b"bitmap", &[7]), (raw::ABSENT, 0));
+    assert_eq!(field, [0xAA]);
+    assert_eq!(
+        ask_file(&[], &long, "s", "bitmap", Question::IsNull, &Literals::none(Type::TinyInt), RowField::for_rows(3).unwrap()),
+        Err(Error::Refused(Refusal::Limit))
+    );
+}
+
+#[test]
+fn limits_of_literals_are_the_library_s() {
     let mut field = [0];
     for (number, answer) in [(1_024, 0), (1_025, LIMIT_PASSED)] {
         assert_eq!(raw::ask(&BODY, 0, 2, &vec![7; number], &mut field).0, answer);
-        assert_eq!(Literals::of(Type::TinyInt, vec![7; number]).map_or_else(Refusal::number, |_| 0), answer);
+        let literals = Literals::of(Type::TinyInt, vec![7; number]).unwrap();
+        assert_eq!(literals.len(), number);
+        let asked = ask(&BODY, Question::In, &literals, RowField::for_body(&BODY));
+        assert_eq!(asked.map_or_else(number_of, |_| 0), answer);
+        let field = RowField::for_body(&BODY);
+        let asked = ask_file(&index_file(), &[], "s", "bitmap", Question::In, &literals, field);
+        assert_eq!(asked.map_or_else(number_of, |_| 0), answer);
     }
     // Strings of no rows.
     let body = [1, 0, 0, 0, 0, 0, 0, 0, 0, 0];
@@ -107,6 +149,13 @@ fn literals_are_refused_where_the_library_would() {
         let text = "x".repeat(length as usize);
         let stored = [&length.to_be_bytes(), text.as_bytes()].concat();
         assert_eq!(raw::ask(&body, 11, 0, &stored, &mut []).0, answer);
-        assert_eq!(Literals::of(Type::String, [&text]).map_or_else(Refusal::number, |_| 0), answer);
+        let literals = Literals::of(Type::String, [&text]).unwrap();
+        assert_eq!(literals.as_bytes(), stored);
+        let asked = ask(&body, Question::Equal, &literals, RowField::for_body(&body));
+        assert_eq!(asked.map_or_else(number_of, |_| 0), answer);
     }
+}
+
+fn number_of(error: Error) -> u8 {
+    error.refusal().expect("the row counts are the same").number()
 }

@@ -1,4 +1,4 @@
-//! The README's examples in Rust and C are what runs, and print what stands beside them.
+//! The README's commands and its examples in Rust and C are what runs, and print what stands beside them.
 
 mod support;
 
@@ -7,7 +7,7 @@ use std::os::unix::fs::symlink;
 use std::path::{Path, PathBuf};
 use std::process::{Command, Output};
 
-use support::say;
+use support::{say, shown};
 
 fn root() -> PathBuf {
     Path::new(env!("CARGO_MANIFEST_DIR")).join("..").canonicalize().unwrap()
@@ -33,6 +33,33 @@ fn block(section: &[String], language: &str) -> (Vec<String>, Vec<String>) {
 fn lines(output: Output) -> Vec<String> {
     assert!(output.status.success(), "{}: {}", output.status, String::from_utf8_lossy(&output.stderr));
     String::from_utf8(output.stdout).unwrap().lines().map(str::to_string).collect()
+}
+
+#[test]
+fn commands_answer_as_shown() {
+    let (shown, _) = shown(&fs::read_to_string(root().join("README.md")).unwrap());
+    for one in &shown {
+        one.check(&root());
+    }
+    // A sound file and a refused one at least: a reader of the README that finds nothing would pass too.
+    assert!(
+        shown.iter().any(|one| one.output.starts_with("keep: ")) && shown.iter().any(|one| one.output.starts_with("refused: "))
+    );
+}
+
+#[test]
+fn usage_is_that_of_the_help() {
+    let usage = |text: Vec<String>| -> Vec<String> {
+        let trimmed = text.iter().map(|line| line.trim().to_string());
+        trimmed.filter(|line| line.starts_with("poddurance ")).collect()
+    };
+    let help = lines(Command::new(env!("CARGO_BIN_EXE_poddurance")).arg("--help").output().unwrap());
+    let section = section("## The command line");
+    assert_eq!(usage(section.clone()), usage(help.clone()));
+    assert_eq!(usage(help).len(), 5);
+    // What isn't proved is called so.
+    let text = section.join(" ");
+    assert!(text.contains("`columns`") && text.contains("not proved"));
 }
 
 #[test]

@@ -1,8 +1,8 @@
 //! The files of `demo/`, made from one table of telemetry. The example `make_demo` writes them, and the test `demo` compares them with
 //! those in the repository.
 
-use plain::types;
-use plain::writer::{bitmap, body, deletion_file, index_file, BitmapForm, Column, Groups, Layout};
+use reference::types;
+use reference::writer::{bitmap, body, deletion_file, index_file, BitmapForm, Column, Groups, Layout};
 
 /// State and alarm of a pump at one time; an alarm that the pump didn't report is null.
 pub type Sample = (&'static str, Option<bool>);

@@ -1,4 +1,4 @@
-//! Buffers that end exactly at their length, and the table of answers.
+//! Buffers that end exactly at their length, the table of answers, and the commands that a text shows.
 
 // Each test file takes what it needs.
 #![allow(dead_code)]
@@ -128,7 +128,7 @@ impl Lender {
 }
 
 /// The names of the calls, in the order of the table.
-pub const CALLS: [&str; 5] = ["Locate", "Audit", "Ask", "Read deletions", "Subtract"];
+pub const CALLS: [&str; 6] = ["Locate", "Audit", "Ask", "Ask file", "Read deletions", "Subtract"];
 
 /// The names of the answers by their number.
 pub const ANSWERS: [&str; 15] = [
@@ -210,4 +210,60 @@ pub fn say(text: &str) {
     use std::io::Write;
     // The printing macros would be kept back by the test program; a line that can't be written is no failure.
     let _ = writeln!(std::io::stderr(), "{text}");
+}
+
+/// A command that a text shows, and what it says of it.
+#[derive(Debug)]
+pub struct Shown {
+    pub words: Vec<String>,
+    pub output: String,
+    /// The exit status, where it is shown.
+    pub status: Option<i32>,
+}
+
+/// How the command line is called in the repository's top folder.
+const PROGRAMS: [&str; 2] = ["rust/target/release/poddurance ", "cargo run --release --manifest-path rust/Cargo.toml -- "];
+
+/// The calls of the command line that a text shows: indented, with or without `$` before, and with their output below. Behind
+/// `; echo $?` the last line is the exit status. What else is indented is handed back too.
+pub fn shown(text: &str) -> (Vec<Shown>, Vec<String>) {
+    let (mut shown, mut others): (Vec<Shown>, Vec<String>) = Default::default();
+    let (mut within, mut with_status, mut fenced) = (false, false, false);
+    for line in text.lines() {
+        fenced ^= line.starts_with("```");
+        let Some(indented) = line.strip_prefix("    ").filter(|_| !fenced) else {
+            within = false;
+            continue;
+        };
+        let bare = indented.strip_prefix("$ ").unwrap_or(indented);
+        if let Some(call) = PROGRAMS.iter().find_map(|program| bare.strip_prefix(program)) {
+            let alone = call.strip_suffix("; echo $?");
+            with_status = alone.is_some();
+            let words = alone.unwrap_or(call).split(' ').map(str::to_string).collect();
+            shown.push(Shown { words, output: String::new(), status: None });
+            within = true;
+            continue;
+        }
+        match (shown.last_mut().filter(|_| within), indented.parse()) {
+            (Some(last), Ok(status)) if with_status => last.status = Some(status),
+            (Some(last), _) => last.output += &format!("{indented}\n"),
+            (None, _) => others.push(indented.to_string()),
+        }
+    }
+    (shown, others)
+}
+
+impl Shown {
+    /// Runs it in the repository's top folder and compares what it prints. Its exit status.
+    #[track_caller]
+    pub fn check(&self, root: &std::path::Path) -> i32 {
+        use std::process::{Command, Stdio};
+        let program = env!("CARGO_BIN_EXE_poddurance");
+        let ran = Command::new(program).args(&self.words).current_dir(root).stdin(Stdio::null()).output().unwrap();
+        let said = (String::from_utf8(ran.stdout).unwrap(), String::from_utf8(ran.stderr).unwrap());
+        assert_eq!(said, (self.output.clone(), String::new()), "{:?}", self.words);
+        let status = ran.status.code().unwrap();
+        assert_eq!(self.status.unwrap_or(status), status, "{:?}", self.words);
+        status
+    }
 }

@@ -26,16 +26,60 @@ pub struct Job {
 pub enum Command {
     Help,
     Version,
-    Locate { file: PathBuf, column: String, kind: String },
+    Columns { file: Source },
+    Locate { bytes: IndexBytes, column: String, kind: String },
     Audit { index: IndexOf },
     Ask { index: IndexOf, question: Question, literals: Vec<Literal>, deletions: Option<Deletions> },
     Deletions { deletions: Deletions, rows: u64 },
 }
 
+impl Command {
+    /// How often standard input is named.
+    fn inputs(&self) -> usize {
+        let is_input = |source: &Source| usize::from(*source == Source::Input);
+        let of_index = |bytes: &IndexBytes| bytes.embedded.as_ref().map_or(0, is_input) + is_input(&bytes.file);
+        match self {
+            Command::Help | Command::Version => 0,
+            Command::Columns { file } => is_input(file),
+            Command::Locate { bytes, .. } => of_index(bytes),
+            Command::Audit { index } => of_index(&index.bytes),
+            Command::Ask { index, deletions, .. } => {
+                of_index(&index.bytes) + deletions.as_ref().map_or(0, |deletions| is_input(&deletions.file))
+            }
+            Command::Deletions { deletions, .. } => is_input(&deletions.file),
+        }
+    }
+}
+
+/// Where bytes come from.
+#[derive(Debug, PartialEq, Eq)]
+pub enum Source {
+    File(PathBuf),
+    /// Standard input, written `-`; a file of that name is `./-`.
+    Input,
+}
+
+impl From<OsString> for Source {
+    fn from(word: OsString) -> Source {
+        if word == "-" {
+            Source::Input
+        } else {
+            Source::File(word.into())
+        }
+    }
+}
+
+/// The two buffers in which an index is looked for: the bytes that the manifest embeds if there are any, else the file's.
+#[derive(Debug, PartialEq, Eq)]
+pub struct IndexBytes {
+    pub embedded: Option<Source>,
+    pub file: Source,
+}
+
 /// The bitmap index on a column.
 #[derive(Debug, PartialEq, Eq)]
 pub struct IndexOf {
-    pub file: PathBuf,
+    pub bytes: IndexBytes,
     pub column: String,
     pub ty: Type,
     /// The data file's row count, if it is known.
@@ -45,59 +89,43 @@ pub struct IndexOf {
 /// A bin of a deletion file.
 #[derive(Debug, PartialEq, Eq)]
 pub struct Deletions {
-    pub file: PathBuf,
+    pub file: Source,
     pub bin: u64,
 }
 
 /// Reads the words behind the program's name. The error says what is wrong with them.
 pub fn parse(words: impl IntoIterator<Item = OsString>) -> Result<Job, String> {
-    let Words { mut places, options } = split(words)?;
-    let Options { help, version, rows, json, millis, micros, stored, deletions, bin, of } = options;
-    let job = |command| Ok(Job { command, rows, json });
-    if help {
-        return job(Command::Help);
+    let Words { places, options } = split(words)?;
+    let (rows, json) = (options.rows, options.json);
+    let command = match (options.help, options.version) {
+        (true, _) => Command::Help,
+        (false, true) => Command::Version,
+        (false, false) => command(places, options)?,
+    };
+    if command.inputs() > 1 {
+        return Err("standard input can be read once, and - is there twice".to_string());
     }
-    if version {
-        return job(Command::Version);
-    }
+    Ok(Job { command, rows, json })
+}
 
-    let name = places.next("a command: locate, audit, ask or deletions")?;
+fn command(mut places: Places, options: Options) -> Result<Command, String> {
+    let name = places.next("a command: columns, locate, audit, ask or deletions")?;
     let name = name.to_string_lossy().into_owned();
-    if name != "ask" {
-        let of_ask = [
-            (millis, "--millis"),
-            (micros, "--micros"),
-            (stored, "--stored"),
-            (deletions.is_some(), "--deletions"),
-            (bin.is_some(), "--bin"),
-        ];
-        if let Some((_, option)) = of_ask.into_iter().find(|(given, _)| *given) {
-            return Err(format!("{option} goes with ask alone"));
-        }
-    }
-    if of.is_some() && name != "audit" && name != "ask" {
-        return Err("--of goes with audit and ask alone".to_string());
-    }
-    let data_rows = of.map(|rows| number(&rows, "--of")).transpose()?;
-    if rows && (name == "locate" || name == "audit") {
-        return Err(format!("--rows goes with ask and deletions, since {name} answers no rows"));
-    }
+    options.fit(&name)?;
+    let Options { millis, micros, stored, embedded, deletions, bin, row_count, .. } = options;
+    let data_rows = row_count.map(|rows| number(&rows, "--row-count")).transpose()?;
 
-    match name.as_str() {
+    let command = match name.as_str() {
+        "columns" => Command::Columns { file: places.source()? },
         "locate" => {
-            let file = places.next("FILE")?.into();
+            let bytes = places.index_bytes(embedded)?;
             let column = places.text("COLUMN")?;
             let kind = if places.is_empty() { BITMAP.to_string() } else { places.text("KIND")? };
-            places.end()?;
-            job(Command::Locate { file, column, kind })
+            Command::Locate { bytes, column, kind }
         }
-        "audit" => {
-            let index = places.index(data_rows)?;
-            places.end()?;
-            job(Command::Audit { index })
-        }
+        "audit" => Command::Audit { index: places.index(embedded, data_rows)? },
         "ask" => {
-            let index = places.index(data_rows)?;
+            let index = places.index(embedded, data_rows)?;
             let question = places.named("QUESTION", "is-not-null")?;
             let form = form(index.ty, millis, micros, stored)?;
             let mut literals = Vec::new();
@@ -111,18 +139,19 @@ pub fn parse(words: impl IntoIterator<Item = OsString>) -> Result<Job, String> {
                 (Some(_), None) => return Err("--deletions needs --bin N, the number of the data file's bin".to_string()),
                 (None, Some(_)) => return Err("--bin goes with --deletions FILE".to_string()),
             };
-            job(Command::Ask { index, question, literals, deletions })
+            Command::Ask { index, question, literals, deletions }
         }
         "deletions" => {
-            let file = places.next("FILE")?.into();
+            let file = places.source()?;
             let bin = number(&places.next("BIN")?, "BIN")?;
             let rows = number(&places.next("ROWS")?, "ROWS")?;
-            places.end()?;
-            job(Command::Deletions { deletions: Deletions { file, bin }, rows })
+            Command::Deletions { deletions: Deletions { file, bin }, rows }
         }
-        "help" => job(Command::Help),
-        other => Err(format!("{other:?} is no command: locate, audit, ask and deletions are")),
-    }
+        "help" => return Ok(Command::Help),
+        other => return Err(format!("{other:?} is no command: columns, locate, audit, ask and deletions are")),
+    };
+    places.end()?;
+    Ok(command)
 }
 
 /// How the literals of a type are written.
@@ -154,9 +183,41 @@ struct Options {
     millis: bool,
     micros: bool,
     stored: bool,
+    embedded: Option<OsString>,
     deletions: Option<OsString>,
     bin: Option<OsString>,
-    of: Option<OsString>,
+    row_count: Option<OsString>,
+}
+
+impl Options {
+    /// Whether each option that is given goes with the command; an unknown command is complained of elsewhere.
+    fn fit(&self, command: &str) -> Result<(), String> {
+        let ask: &[&str] = &["ask"];
+        for (given, option, commands) in [
+            (self.rows, "--rows", &["ask", "deletions"][..]),
+            (self.embedded.is_some(), "--embedded", &["locate", "audit", "ask"]),
+            (self.row_count.is_some(), "--row-count", &["audit", "ask"]),
+            (self.millis, "--millis", ask),
+            (self.micros, "--micros", ask),
+            (self.stored, "--stored", ask),
+            (self.deletions.is_some(), "--deletions", ask),
+            (self.bin.is_some(), "--bin", ask),
+        ] {
+            let known = ["columns", "locate", "audit", "ask", "deletions"].contains(&command);
+            if given && known && !commands.contains(&command) {
+                return Err(format!("{option} goes with {} alone", in_words(commands)));
+            }
+        }
+        Ok(())
+    }
+}
+
+/// As `locate, audit and ask`.
+fn in_words(names: &[&str]) -> String {
+    match names {
+        [names @ .., last] if !names.is_empty() => format!("{} and {last}", names.join(", ")),
+        _ => names.concat(),
+    }
 }
 
 struct Words {
@@ -195,9 +256,10 @@ fn split(words: impl IntoIterator<Item = OsString>) -> Result<Words, String> {
             b"--millis" => flag(&mut options.millis, value, "--millis")?,
             b"--micros" => flag(&mut options.micros, value, "--micros")?,
             b"--stored" => flag(&mut options.stored, value, "--stored")?,
+            b"--embedded" => valued(&mut options.embedded, value, &mut words, "--embedded", "FILE")?,
             b"--deletions" => valued(&mut options.deletions, value, &mut words, "--deletions", "FILE")?,
             b"--bin" => valued(&mut options.bin, value, &mut words, "--bin", "N")?,
-            b"--of" => valued(&mut options.of, value, &mut words, "--of", "ROWS")?,
+            b"--row-count" => valued(&mut options.row_count, value, &mut words, "--row-count", "ROWS")?,
             _ => return Err(format!("{word:?} is no option; a literal that begins with -- goes behind the word --")),
         }
     }
@@ -248,11 +310,19 @@ impl Places {
         self.next(what)?.into_string().map_err(|word| format!("{what} {word:?} is not UTF-8"))
     }
 
-    fn index(&mut self, data_rows: Option<u64>) -> Result<IndexOf, String> {
-        let file = self.next("FILE")?.into();
+    fn source(&mut self) -> Result<Source, String> {
+        Ok(self.next("FILE")?.into())
+    }
+
+    fn index_bytes(&mut self, embedded: Option<OsString>) -> Result<IndexBytes, String> {
+        Ok(IndexBytes { embedded: embedded.map(Source::from), file: self.source()? })
+    }
+
+    fn index(&mut self, embedded: Option<OsString>, data_rows: Option<u64>) -> Result<IndexOf, String> {
+        let bytes = self.index_bytes(embedded)?;
         let column = self.text("COLUMN")?;
         let ty = self.named("TYPE", "local-zoned-timestamp")?;
-        Ok(IndexOf { file, column, ty, data_rows })
+        Ok(IndexOf { bytes, column, ty, data_rows })
     }
 
     /// A type or a question; the example is a name of several words.
@@ -292,8 +362,16 @@ mod tests {
         read(line).unwrap().command
     }
 
+    fn file(name: &str) -> Source {
+        Source::File(name.into())
+    }
+
+    fn bytes() -> IndexBytes {
+        IndexBytes { embedded: None, file: file("f") }
+    }
+
     fn index(ty: Type, data_rows: Option<u64>) -> IndexOf {
-        IndexOf { file: "f".into(), column: "s".to_string(), ty, data_rows }
+        IndexOf { bytes: bytes(), column: "s".to_string(), ty, data_rows }
     }
 
     fn ask(literals: Vec<Literal>, deletions: Option<Deletions>) -> Command {
@@ -302,21 +380,15 @@ mod tests {
 
     #[test]
     fn commands() {
-        let (file, column) = (PathBuf::from("f"), "s".to_string());
-        assert_eq!(
-            command(&["locate", "f", "s"]),
-            Command::Locate { file: file.clone(), column: column.clone(), kind: "bitmap".to_string() }
-        );
-        assert_eq!(
-            command(&["locate", "f", "s", "bloom-filter"]),
-            Command::Locate { file: file.clone(), column, kind: "bloom-filter".to_string() }
-        );
+        assert_eq!(command(&["columns", "f"]), Command::Columns { file: file("f") });
+        let locate = |kind: &str| Command::Locate { bytes: bytes(), column: "s".to_string(), kind: kind.to_string() };
+        assert_eq!(command(&["locate", "f", "s"]), locate("bitmap"));
+        assert_eq!(command(&["locate", "f", "s", "bloom-filter"]), locate("bloom-filter"));
         assert_eq!(command(&["audit", "f", "s", "int"]), Command::Audit { index: index(Type::Int, None) });
-        assert_eq!(command(&["audit", "--of", "24", "f", "s", "int"]), Command::Audit { index: index(Type::Int, Some(24)) });
-        assert_eq!(
-            command(&["deletions", "f", "2", "60"]),
-            Command::Deletions { deletions: Deletions { file, bin: 2 }, rows: 60 }
-        );
+        let of_24 = Command::Audit { index: index(Type::Int, Some(24)) };
+        assert_eq!(command(&["audit", "--row-count", "24", "f", "s", "int"]), of_24);
+        let deletions = Deletions { file: file("f"), bin: 2 };
+        assert_eq!(command(&["deletions", "f", "2", "60"]), Command::Deletions { deletions, rows: 60 });
         assert_eq!(command(&["ask", "f", "s", "TINYINT", "IN"]), ask(vec![], None));
         for line in [
             &["--help"][..],
@@ -348,7 +420,7 @@ mod tests {
 
     #[test]
     fn options_stand_anywhere() {
-        let deletions = || Some(Deletions { file: "d".into(), bin: 3 });
+        let deletions = || Some(Deletions { file: file("d"), bin: 3 });
         let expected = ask(vec![Literal::Number(7)], deletions());
         for line in [
             &["ask", "f", "s", "TINYINT", "IN", "7", "--deletions", "d", "--bin", "3"][..],
@@ -357,6 +429,38 @@ mod tests {
         ] {
             assert_eq!(command(line), expected);
         }
+    }
+
+    #[test]
+    fn embedded_bytes_stand_beside_the_file() {
+        let with = |embedded| IndexBytes { embedded: Some(embedded), file: file("f") };
+        let locate = |bytes| Command::Locate { bytes, column: "s".to_string(), kind: "bitmap".to_string() };
+        assert_eq!(command(&["locate", "f", "s", "--embedded", "e"]), locate(with(file("e"))));
+        assert_eq!(command(&["locate", "--embedded=e", "f", "s"]), locate(with(file("e"))));
+        assert_eq!(command(&["locate", "f", "s", "--embedded", "-"]), locate(with(Source::Input)));
+        let index = IndexOf { bytes: with(file("e")), ..index(Type::Int, None) };
+        assert_eq!(command(&["audit", "f", "s", "int", "--embedded", "e"]), Command::Audit { index });
+        let Command::Ask { index, .. } = command(&["ask", "f", "s", "int", "in", "--embedded", "e"]) else { panic!() };
+        assert_eq!(index.bytes, with(file("e")));
+    }
+
+    #[test]
+    fn a_dash_is_standard_input_once() {
+        assert_eq!(command(&["columns", "-"]), Command::Columns { file: Source::Input });
+        assert_eq!(command(&["columns", "./-"]), Command::Columns { file: file("./-") });
+        let deletions = Deletions { file: Source::Input, bin: 0 };
+        assert_eq!(command(&["deletions", "-", "0", "6"]), Command::Deletions { deletions, rows: 6 });
+        for line in [
+            &["locate", "-", "s", "--embedded", "-"][..],
+            &["audit", "-", "s", "int", "--embedded", "-"],
+            &["ask", "-", "s", "int", "in", "--deletions", "-", "--bin", "0"],
+            &["ask", "f", "s", "int", "in", "--deletions", "-", "--bin", "0", "--embedded=-"],
+        ] {
+            assert_eq!(read(line), Err("standard input can be read once, and - is there twice".to_string()), "{line:?}");
+        }
+        // A column and a literal may be called so.
+        let Command::Ask { index, literals, .. } = command(&["ask", "-", "-", "string", "in", "-", "-"]) else { panic!() };
+        assert_eq!((index.bytes.file, index.column.as_str(), literals.len()), (Source::Input, "-", 2));
     }
 
     #[test]
@@ -381,21 +485,35 @@ mod tests {
     #[test]
     fn wrong_usage() {
         for (line, message) in [
-            (&[][..], "a command: locate, audit, ask or deletions is missing"),
-            (&["find"], "\"find\" is no command: locate, audit, ask and deletions are"),
+            (&[][..], "a command: columns, locate, audit, ask or deletions is missing"),
+            (&["find"], "\"find\" is no command: columns, locate, audit, ask and deletions are"),
+            (&["find", "--bin", "0"], "\"find\" is no command: columns, locate, audit, ask and deletions are"),
+            (&["columns"], "FILE is missing"),
+            (&["columns", "f", "s"], "\"s\" is one word too many"),
+            (&["columns", "f", "--rows"], "--rows goes with ask and deletions alone"),
+            (&["columns", "f", "--embedded", "e"], "--embedded goes with locate, audit and ask alone"),
+            (&["deletions", "f", "0", "6", "--embedded", "e"], "--embedded goes with locate, audit and ask alone"),
+            (&["locate", "f", "s", "--embedded"], "--embedded needs FILE"),
             (&["locate"], "FILE is missing"),
             (&["locate", "f"], "COLUMN is missing"),
             (&["locate", "f", "s", "k", "x"], "\"x\" is one word too many"),
-            (&["locate", "f", "s", "--rows"], "--rows goes with ask and deletions, since locate answers no rows"),
+            (&["locate", "f", "s", "--rows"], "--rows goes with ask and deletions alone"),
             (&["audit", "f", "s"], "TYPE is missing"),
             (&["audit", "f", "s", "int", "x"], "\"x\" is one word too many"),
-            (&["audit", "f", "s", "int", "--rows"], "--rows goes with ask and deletions, since audit answers no rows"),
+            (&["audit", "f", "s", "int", "--rows"], "--rows goes with ask and deletions alone"),
             (&["audit", "f", "s", "int", "--micros"], "--micros goes with ask alone"),
             (&["audit", "f", "s", "int", "--stored"], "--stored goes with ask alone"),
-            (&["audit", "f", "s", "int", "--of"], "--of needs ROWS"),
-            (&["audit", "f", "s", "int", "--of", "x"], "--of \"x\" is no whole number from 0 to 18446744073709551615"),
-            (&["locate", "f", "s", "--of", "6"], "--of goes with audit and ask alone"),
-            (&["deletions", "f", "0", "6", "--of", "6"], "--of goes with audit and ask alone"),
+            (&["audit", "f", "s", "int", "--row-count"], "--row-count needs ROWS"),
+            (
+                &["audit", "f", "s", "int", "--row-count", "x"],
+                "--row-count \"x\" is no whole number from 0 to 18446744073709551615",
+            ),
+            (&["locate", "f", "s", "--row-count", "6"], "--row-count goes with audit and ask alone"),
+            (&["deletions", "f", "0", "6", "--row-count", "6"], "--row-count goes with audit and ask alone"),
+            (
+                &["audit", "f", "s", "int", "--of", "6"],
+                "\"--of\" is no option; a literal that begins with -- goes behind the word --",
+            ),
             (&["audit", "--help=1"], "--help takes no value"),
             (&["ask", "f", "s", "int"], "QUESTION is missing"),
             (&["ask", "f", "s", "int", "equal", "x"], "\"x\" is no INT: it takes whole numbers from -2147483648 to 2147483647"),

@@ -18,8 +18,8 @@ pub enum Literal {
 impl<'a> From<&'a Literal> for Value<'a> {
     fn from(literal: &'a Literal) -> Value<'a> {
         match literal {
-            Literal::Number(number) => Value::Number(*number),
-            Literal::Boolean(boolean) => Value::Boolean(*boolean),
+            Literal::Number(number) => number.into(),
+            Literal::Boolean(boolean) => boolean.into(),
             Literal::Text(text) => text.into(),
         }
     }

@@ -5,17 +5,19 @@
 
 mod args;
 mod calendar;
+mod columns;
 mod literal;
 mod output;
 
 use std::fs::File;
 use std::io::{self, BufWriter, Read, Write};
-use std::path::Path;
 use std::process::ExitCode;
 
-use poddurance::{ask, audit, locate, raw, read_deletions, subtract, Error, Literals, Refusal, RowField, LIMIT};
+use poddurance::{ask, ask_file, audit, locate, raw, read_deletions, subtract};
+use poddurance::{Error, Literals, Question, Refusal, RowField, LIMIT};
 
-use args::{Command, Deletions, IndexOf, Job, BITMAP};
+use args::{Command, Deletions, IndexBytes, IndexOf, Job, Source, BITMAP};
+use literal::Literal;
 use output::{Outcome, Part};
 
 /// Wrong usage, a file that can't be read, or an answer that can't be written.
@@ -56,59 +58,121 @@ fn run(job: Job) -> Result<u8, String> {
 fn carry_out(command: Command) -> Result<Outcome, String> {
     Ok(match command {
         Command::Help | Command::Version => unreachable!("these have been answered"),
-        Command::Locate { file, column, kind } => place(&read(&file)?, column, kind),
-        Command::Audit { index } => in_index(&index, |body| {
-            let rows = audit(body, index.ty, RowField::for_body(body))?.rows();
-            Ok(differing(rows, index.data_rows).unwrap_or(Outcome::Accepted { rows }))
-        })?,
+        Command::Columns { file } => listed(&read(&file)?),
+        Command::Locate { bytes, column, kind } => place(&Buffers::read(&bytes)?, column, kind),
+        Command::Audit { index } => audited(&Buffers::read(&index.bytes)?, &index),
         Command::Ask { index, question, literals, deletions } => {
-            let answered = in_index(&index, |body| {
-                let literals = match Literals::of(index.ty, &literals) {
-                    Ok(literals) => literals,
-                    Err(refusal) => return Ok(Outcome::Refused { refusal, part: Part::Literals }),
-                };
-                let field = ask(body, question, &literals, RowField::for_body(body))?.into_field();
-                Ok(differing(field.rows(), index.data_rows).unwrap_or(Outcome::Answered { field, removed: None }))
-            })?;
-            match (answered, deletions) {
-                (Outcome::Answered { field, .. }, Some(deletions)) => without(field, &deletions)?,
+            match (asked(&Buffers::read(&index.bytes)?, &index, question, &literals), deletions) {
+                (Outcome::Answered { rows, field, .. }, Some(deletions)) => without(field, rows, &deletions)?,
                 (outcome, _) => outcome,
             }
         }
         Command::Deletions { deletions, rows } => {
             let bytes = read(&deletions.file)?;
-            match RowField::for_rows(rows).and_then(|field| read_deletions(&bytes, deletions.bin, field)) {
-                Ok(field) => Outcome::Deleted { field },
+            let deleted = match RowField::for_rows(rows) {
+                Ok(field) => read_deletions(&bytes, deletions.bin, field),
+                // There is no field for so many rows. The library says so as well, and needs no room for it.
+                Err(_) => Err(refusal_numbered(raw::read_deletions(&bytes, deletions.bin, rows, &mut []).0)),
+            };
+            match deleted {
+                Ok(deleted) => Outcome::Deleted { count: deleted.count(), rows, field: deleted.into_field() },
                 Err(refusal) => Outcome::Refused { refusal, part: Part::Deletions },
             }
         }
     })
 }
 
-/// Where the index is; its start is a number that only the raw call has.
-fn place(bytes: &[u8], column: String, kind: String) -> Outcome {
-    match raw::locate(&[], bytes, column.as_bytes(), kind.as_bytes()) {
-        (raw::ACCEPTED, start, length) => Outcome::Found { column, kind, start, length },
-        (raw::ABSENT, ..) => Outcome::Absent { column, kind },
-        (number, ..) => match Refusal::from_number(number) {
-            Some(refusal) => Outcome::Refused { refusal, part: Part::Index },
-            None => unreachable!("{number} is no answer of the library"),
-        },
+/// The two buffers in which an index is looked for.
+struct Buffers {
+    embedded: Vec<u8>,
+    file: Vec<u8>,
+}
+
+impl Buffers {
+    /// Where there are embedded bytes the library doesn't look at the file, and so it isn't read: there may be none.
+    fn read(bytes: &IndexBytes) -> Result<Buffers, String> {
+        let embedded = bytes.embedded.as_ref().map(read).transpose()?.unwrap_or_default();
+        let file = if embedded.is_empty() { read(&bytes.file)? } else { Vec::new() };
+        Ok(Buffers { embedded, file })
+    }
+
+    /// The body of the bitmap index on a column.
+    fn locate(&self, column: &str) -> Result<Option<&[u8]>, Refusal> {
+        locate(&self.embedded, &self.file, column, BITMAP)
     }
 }
 
-/// What the bitmap index on the column answers.
-fn in_index(index: &IndexOf, answer: impl FnOnce(&[u8]) -> Result<Outcome, Error>) -> Result<Outcome, String> {
-    let bytes = read(&index.file)?;
-    let answered = match locate(&[], &bytes, &index.column, BITMAP) {
-        Ok(Some(body)) => answer(body),
-        Ok(None) => Ok(Outcome::Absent { column: index.column.clone(), kind: BITMAP.to_string() }),
-        Err(refusal) => Err(refusal.into()),
+/// What the head lists. The one answer that isn't the library's.
+fn listed(bytes: &[u8]) -> Outcome {
+    if bytes.len() as u64 > LIMIT {
+        return Outcome::NotListed { reason: format!("the file has more than {LIMIT} bytes") };
+    }
+    match columns::list(bytes) {
+        Ok(columns) => Outcome::Listed { columns },
+        Err(reason) => Outcome::NotListed { reason },
+    }
+}
+
+/// Where the index is; its start is a number that only the raw call has.
+fn place(buffers: &Buffers, column: String, kind: String) -> Outcome {
+    match raw::locate(&buffers.embedded, &buffers.file, column.as_bytes(), kind.as_bytes()) {
+        (raw::ACCEPTED, start, length) => Outcome::Found { column, kind, start, length },
+        (raw::ABSENT, ..) => Outcome::Absent { column, kind },
+        (number, ..) => Outcome::Refused { refusal: refusal_numbered(number), part: Part::Index },
+    }
+}
+
+/// Whether the bitmap index on the column gives each row one place.
+fn audited(buffers: &Buffers, index: &IndexOf) -> Outcome {
+    let body = match buffers.locate(&index.column) {
+        Ok(Some(body)) => body,
+        Ok(None) => return absent(index),
+        Err(refusal) => return Outcome::Refused { refusal, part: Part::Index },
     };
-    Ok(answered.unwrap_or_else(|error| match refusal_of(error) {
-        refusal @ Refusal::Literal => Outcome::Refused { refusal, part: Part::Literals },
-        refusal => Outcome::Refused { refusal, part: Part::Index },
-    }))
+    match audit(body, index.ty, RowField::for_body(body)) {
+        Ok(audited) => differing(audited.rows(), index.data_rows).unwrap_or(Outcome::Accepted { rows: audited.rows() }),
+        Err(error) => Outcome::Refused { refusal: refusal_of(error), part: Part::Index },
+    }
+}
+
+/// Which rows the bitmap index on the column answers.
+fn asked(buffers: &Buffers, index: &IndexOf, question: Question, literals: &[Literal]) -> Outcome {
+    let literals = match Literals::of(index.ty, literals) {
+        Ok(literals) => literals,
+        Err(refusal) => return Outcome::Refused { refusal, part: Part::Literals },
+    };
+    // The call wants a field of the index's row count, and who asks needn't know it. So the index is located beforehand, only to
+    // make the field for the rows that its body claims. Whether it is there, and whether the claim is true, the call itself says.
+    let located = buffers.locate(&index.column);
+    let body = located.ok().flatten().unwrap_or_default();
+    let field = RowField::for_body(body);
+    match ask_file(&buffers.embedded, &buffers.file, &index.column, BITMAP, question, &literals, field) {
+        Ok(Some(answer)) => {
+            // The row count that is said is the library's too, and Audit is the call that answers it.
+            let rows = match audit(body, index.ty, RowField::for_body(body)) {
+                Ok(audited) => audited.rows(),
+                Err(error) => return Outcome::Refused { refusal: refusal_of(error), part: Part::Index },
+            };
+            let answered = Outcome::Answered { count: answer.count(), rows, removed: None, field: answer.into_field() };
+            differing(rows, index.data_rows).unwrap_or(answered)
+        }
+        Ok(None) => absent(index),
+        Err(error) => {
+            let refusal = refusal_of(error);
+            let part = if located.is_ok() && of_literals(refusal, question, &literals) { Part::Literals } else { Part::Index };
+            Outcome::Refused { refusal, part }
+        }
+    }
+}
+
+/// Whether a refusal is of the literals: then a body of no bytes gets it too, since they are read before it.
+fn of_literals(refusal: Refusal, question: Question, literals: &Literals) -> bool {
+    let empty = ask(&[], question, literals, RowField::for_body(&[]));
+    refusal != Refusal::Short && empty == Err(Error::Refused(refusal))
+}
+
+fn absent(index: &IndexOf) -> Outcome {
+    Outcome::Absent { column: index.column.clone(), kind: BITMAP.to_string() }
 }
 
 /// The outcome where an accepted index has another row count than the data file: it is of another one, or of the same before it
@@ -120,36 +184,42 @@ fn differing(index_rows: u64, data_rows: Option<u64>) -> Option<Outcome> {
 
 /// The rows that are left when those of the bin are taken away. The deletion file is read where nothing is left to take away too:
 /// a refused one is never an answer.
-fn without(mut field: RowField, deletions: &Deletions) -> Result<Outcome, String> {
+fn without(mut field: RowField, rows: u64, deletions: &Deletions) -> Result<Outcome, String> {
     let bytes = read(&deletions.file)?;
-    let counts = RowField::for_rows(field.rows())
+    let counts = RowField::for_rows(rows)
         .and_then(|room| read_deletions(&bytes, deletions.bin, room))
         .map_err(Error::from)
-        .and_then(|deleted| subtract(&mut field, &deleted));
+        .and_then(|deleted| subtract(&mut field, deleted.field()));
     Ok(match counts {
-        Ok(counts) => Outcome::Answered { field, removed: Some(counts.removed) },
+        Ok(counts) => Outcome::Answered { count: counts.left, rows, removed: Some(counts.removed), field },
         Err(error) => Outcome::Refused { refusal: refusal_of(error), part: Part::DeletionsBesideIndex },
     })
 }
 
 fn refusal_of(error: Error) -> Refusal {
-    match error {
-        Error::Refused(refusal) => refusal,
-        Error::RowsDiffer { .. } => {
-            unreachable!("each field was made for the row count it is used with")
-        }
-    }
+    error.refusal().unwrap_or_else(|| unreachable!("each field was made for the row count it is used with: {error}"))
 }
 
-/// A file's bytes, and of one over the limit just enough that the library finds it over the limit.
-fn read(path: &Path) -> Result<Vec<u8>, String> {
+fn refusal_numbered(answer: u8) -> Refusal {
+    Refusal::from_number(answer).unwrap_or_else(|| unreachable!("{answer} is no refusal of the library"))
+}
+
+/// The bytes of a file or of standard input, and where they are over the limit just enough that the library finds them so.
+fn read(source: &Source) -> Result<Vec<u8>, String> {
     let most = LIMIT + 1;
-    let read = || -> io::Result<Vec<u8>> {
-        let file = File::open(path)?;
-        let mut bytes = Vec::new();
-        bytes.try_reserve_exact(file.metadata()?.len().min(most) as usize)?;
-        file.take(most).read_to_end(&mut bytes)?;
-        Ok(bytes)
+    let mut bytes = Vec::new();
+    let read = match source {
+        Source::Input => io::stdin().lock().take(most).read_to_end(&mut bytes),
+        Source::File(path) => File::open(path).and_then(|file| {
+            bytes.try_reserve_exact(file.metadata()?.len().min(most) as usize)?;
+            file.take(most).read_to_end(&mut bytes)
+        }),
     };
-    read().map_err(|error| format!("can't read {}: {error}", path.display()))
+    match (read, source) {
+        (Ok(_), _) => Ok(bytes),
+        (Err(error), Source::Input) => Err(format!("can't read standard input: {error}")),
+        (Err(error), Source::File(path)) => {
+            Err(format!("can't read {}: {error}", output::escaped(path.as_os_str().as_encoded_bytes())))
+        }
+    }
 }

@@ -4,19 +4,25 @@ use std::io::{self, Write};
 
 use poddurance::{Refusal, RowField};
 
-/// What came out.
+use crate::columns::Column;
+
+/// What came out. Its numbers are the library's answers, but for those of `columns`; a field is for the list of its rows alone.
 #[derive(Debug)]
 pub enum Outcome {
+    /// What the head of an index file lists.
+    Listed { columns: Vec<Column> },
+    /// Why it can't be listed.
+    NotListed { reason: String },
     /// Locate found the index.
     Found { column: String, kind: String, start: u64, length: u64 },
     /// There is no such index.
     Absent { column: String, kind: String },
     /// Audit accepted.
     Accepted { rows: u64 },
-    /// Ask answered; the rows that are left, and how many deleted ones were removed if there was a deletion file.
-    Answered { field: RowField, removed: Option<u64> },
-    /// The deletions were read.
-    Deleted { field: RowField },
+    /// Ask answered: how many rows are left, of how many, and how many deleted ones were removed if there was a deletion file.
+    Answered { count: u64, rows: u64, removed: Option<u64>, field: RowField },
+    /// The deletions were read: how many rows, of how many.
+    Deleted { count: u64, rows: u64, field: RowField },
     /// The library refused something.
     Refused { refusal: Refusal, part: Part },
     /// The index is accepted, but it is not of the data file's row count.
@@ -37,16 +43,19 @@ pub enum Part {
 impl Outcome {
     pub fn exit_status(&self) -> u8 {
         match self {
-            Outcome::Found { .. } | Outcome::Accepted { .. } | Outcome::Deleted { .. } => 0,
-            Outcome::Answered { field, .. } => u8::from(field.count() == 0),
-            Outcome::Absent { .. } => 1,
-            Outcome::Refused { .. } | Outcome::RowsDiffer { .. } => 3,
+            Outcome::Listed { .. } | Outcome::Found { .. } | Outcome::Accepted { .. } | Outcome::Deleted { .. } => 0,
+            Outcome::Answered { count, .. } => u8::from(*count == 0),
+            Outcome::Refused { .. } | Outcome::RowsDiffer { .. } | Outcome::NotListed { .. } => 3,
+            // Not that of skip: with skip no row is to be read, and without an index all are.
+            Outcome::Absent { .. } => 4,
         }
     }
 
-    /// One line, and with `rows` a second one that lists the rows.
-    pub fn write_text(&self, rows: bool, out: &mut impl Write) -> io::Result<()> {
+    /// One line, and with `list` a second one that lists the rows; of `columns` a line for each index.
+    pub fn write_text(&self, list: bool, out: &mut impl Write) -> io::Result<()> {
         match self {
+            Outcome::Listed { columns } => list_columns(columns, out),
+            Outcome::NotListed { reason } => writeln!(out, "refused: {reason}"),
             Outcome::Found { column, kind, start, length } => {
                 let kind = kind.escape_debug();
                 writeln!(out, "found: {kind} index on column {column:?}, {} at {start}", counted(*length, "byte"))
@@ -55,20 +64,20 @@ impl Outcome {
                 writeln!(out, "absent: no {} index on column {column:?}", kind.escape_debug())
             }
             Outcome::Accepted { rows } => writeln!(out, "accepted: {}, each in exactly one place", counted(*rows, "row")),
-            Outcome::Answered { field, removed } => {
-                match field.count() {
-                    0 => write!(out, "skip: no row of {}", field.rows())?,
-                    count => write!(out, "keep: {count} of {}", counted(field.rows(), "row"))?,
+            Outcome::Answered { count, rows, removed, field } => {
+                match count {
+                    0 => write!(out, "skip: no row of {rows}")?,
+                    count => write!(out, "keep: {count} of {}", counted(*rows, "row"))?,
                 }
                 if let Some(removed) = removed {
                     write!(out, ", {} removed", counted(*removed, "deleted row"))?;
                 }
                 writeln!(out)?;
-                list(field, rows, out)
+                list_rows(field, list, out)
             }
-            Outcome::Deleted { field } => {
-                writeln!(out, "deleted: {} of {}", field.count(), counted(field.rows(), "row"))?;
-                list(field, rows, out)
+            Outcome::Deleted { count, rows, field } => {
+                writeln!(out, "deleted: {count} of {}", counted(*rows, "row"))?;
+                list_rows(field, list, out)
             }
             Outcome::Refused { refusal, part: Part::DeletionsBesideIndex } => {
                 writeln!(out, "refused: {refusal}, in the deletion file")
@@ -81,8 +90,11 @@ impl Outcome {
     }
 
     /// One object on one line. Its keys go by `answer` and don't change with the values.
-    pub fn write_json(&self, rows: bool, out: &mut impl Write) -> io::Result<()> {
+    pub fn write_json(&self, list: bool, out: &mut impl Write) -> io::Result<()> {
         match self {
+            Outcome::Listed { columns } => json_columns(columns, out)?,
+            // Document 01 has neither a name nor a number for it.
+            Outcome::NotListed { reason } => json_refused(reason, out)?,
             Outcome::Found { column, kind, start, length } => {
                 let (column, kind) = (quoted(column), quoted(kind));
                 write!(out, r#"{{"answer":"found","column":{column},"kind":{kind},"start":{start},"length":{length}"#)?;
@@ -91,18 +103,18 @@ impl Outcome {
                 write!(out, r#"{{"answer":"absent","column":{},"kind":{}"#, quoted(column), quoted(kind))?;
             }
             Outcome::Accepted { rows } => write!(out, r#"{{"answer":"accepted","rows":{rows}"#)?,
-            Outcome::Answered { field, removed } => {
-                let answer = if field.count() == 0 { "skip" } else { "keep" };
-                write!(out, r#"{{"answer":"{answer}","count":{},"rows":{},"removed":"#, field.count(), field.rows())?;
+            Outcome::Answered { count, rows, removed, field } => {
+                let answer = if *count == 0 { "skip" } else { "keep" };
+                write!(out, r#"{{"answer":"{answer}","count":{count},"rows":{rows},"removed":"#)?;
                 match removed {
                     Some(removed) => write!(out, "{removed}")?,
                     None => write!(out, "null")?,
                 }
-                json_list(field, rows, out)?;
+                json_rows(field, list, out)?;
             }
-            Outcome::Deleted { field } => {
-                write!(out, r#"{{"answer":"deleted","count":{},"rows":{}"#, field.count(), field.rows())?;
-                json_list(field, rows, out)?;
+            Outcome::Deleted { count, rows, field } => {
+                write!(out, r#"{{"answer":"deleted","count":{count},"rows":{rows}"#)?;
+                json_rows(field, list, out)?;
             }
             Outcome::Refused { refusal, part } => {
                 let file = match part {
@@ -113,11 +125,8 @@ impl Outcome {
                 let (name, number, meaning) = (refusal.name(), refusal.number(), quoted(refusal.meaning()));
                 write!(out, r#"{{"answer":"refused","file":{file},"name":"{name}","number":{number},"meaning":{meaning}"#)?;
             }
-            Outcome::RowsDiffer { index_rows, data_rows } => {
-                // Document 01 has neither a name nor a number for it.
-                let meaning = quoted(&difference(*index_rows, *data_rows));
-                write!(out, r#"{{"answer":"refused","file":"index","name":null,"number":null,"meaning":{meaning}"#)?;
-            }
+            // Nor for this.
+            Outcome::RowsDiffer { index_rows, data_rows } => json_refused(&difference(*index_rows, *data_rows), out)?,
         }
         writeln!(out, "}}")
     }
@@ -132,14 +141,11 @@ fn counted(number: u64, thing: &str) -> String {
     format!("{number} {thing}{}", if number == 1 { "" } else { "s" })
 }
 
-fn list(field: &RowField, rows: bool, out: &mut impl Write) -> io::Result<()> {
-    if !rows {
+fn list_rows(field: &RowField, list: bool, out: &mut impl Write) -> io::Result<()> {
+    if !list {
         return Ok(());
     }
     write!(out, "rows: ")?;
-    if field.count() == 0 {
-        write!(out, "none")?;
-    }
     let mut between = "";
     for range in field.ranges() {
         let (first, last) = range.into_inner();
@@ -149,11 +155,11 @@ fn list(field: &RowField, rows: bool, out: &mut impl Write) -> io::Result<()> {
         }
         between = ", ";
     }
-    writeln!(out)
+    writeln!(out, "{}", if between.is_empty() { "none" } else { "" })
 }
 
-fn json_list(field: &RowField, rows: bool, out: &mut impl Write) -> io::Result<()> {
-    if !rows {
+fn json_rows(field: &RowField, list: bool, out: &mut impl Write) -> io::Result<()> {
+    if !list {
         return Ok(());
     }
     write!(out, r#","ranges":["#)?;
@@ -165,16 +171,80 @@ fn json_list(field: &RowField, rows: bool, out: &mut impl Write) -> io::Result<(
     write!(out, "]")
 }
 
-/// A JSON string.
+/// A line for each index, and for a column without one.
+fn list_columns(columns: &[Column], out: &mut impl Write) -> io::Result<()> {
+    if columns.is_empty() {
+        writeln!(out, "no column")?;
+    }
+    for Column { name, indexes } in columns {
+        let name = escaped(name);
+        if indexes.is_empty() {
+            writeln!(out, "column \"{name}\": no index")?;
+        }
+        for index in indexes {
+            let bytes = if index.length == 1 { "byte" } else { "bytes" };
+            writeln!(out, "column \"{name}\": {} index, {} {bytes} at {}", escaped(&index.kind), index.length, index.start)?;
+        }
+    }
+    Ok(())
+}
+
+fn json_columns(columns: &[Column], out: &mut impl Write) -> io::Result<()> {
+    write!(out, r#"{{"answer":"listed","indexes":["#)?;
+    let mut between = "";
+    for Column { name, indexes } in columns {
+        let name = quoted(&String::from_utf8_lossy(name));
+        if indexes.is_empty() {
+            write!(out, r#"{between}{{"column":{name},"kind":null,"start":null,"length":null}}"#)?;
+            between = ",";
+        }
+        for index in indexes {
+            let kind = quoted(&String::from_utf8_lossy(&index.kind));
+            let (start, length) = (index.start, index.length);
+            write!(out, r#"{between}{{"column":{name},"kind":{kind},"start":{start},"length":{length}}}"#)?;
+            between = ",";
+        }
+    }
+    write!(out, "]")
+}
+
+fn json_refused(meaning: &str, out: &mut impl Write) -> io::Result<()> {
+    let meaning = quoted(meaning);
+    write!(out, r#"{{"answer":"refused","file":"index","name":null,"number":null,"meaning":{meaning}"#)
+}
+
+/// A name as it stands in a file, UTF-8 or not, with escapes for all that doesn't print as itself: what a file calls its columns
+/// can't move the cursor or change the colours of a terminal.
+pub fn escaped(name: &[u8]) -> String {
+    let mut text = String::new();
+    for chunk in name.utf8_chunks() {
+        for character in chunk.valid().chars() {
+            match character {
+                '\'' => text.push(character),
+                _ => text.extend(character.escape_debug()),
+            }
+        }
+        for byte in chunk.invalid() {
+            text.push_str(&format!("\\x{byte:02X}"));
+        }
+    }
+    text
+}
+
+/// A JSON string. What doesn't print as itself is escaped, though JSON forbids a part of it alone, since it may go to a terminal.
 fn quoted(text: &str) -> String {
     let mut json = String::from("\"");
     for character in text.chars() {
         match character {
             '"' => json.push_str("\\\""),
             '\\' => json.push_str("\\\\"),
-            // JSON forbids these as they are; the delete character and what follows it are allowed.
-            '\0'..='\x1F' => json.push_str(&format!("\\u{:04x}", u32::from(character))),
-            other => json.push(other),
+            '\'' => json.push(character),
+            _ if character.escape_debug().eq([character]) => json.push(character),
+            _ => {
+                for unit in character.encode_utf16(&mut [0; 2]) {
+                    json.push_str(&format!("\\u{unit:04x}"));
+                }
+            }
         }
     }
     json.push('"');
@@ -184,6 +254,7 @@ fn quoted(text: &str) -> String {
 #[cfg(test)]
 mod tests {
     use super::*;
+    use crate::columns::Index;
 
     fn text(outcome: &Outcome, rows: bool) -> String {
         let mut out = Vec::new();
@@ -203,7 +274,7 @@ mod tests {
             1, 0, 0, 0, 26, 0x5E, 0x43, 0xF2, 0xD0, 0x3A, 0x30, 0, 0, 1, 0, 0, 0, 0, 0, 2, 0, 0x10, 0, 0, 0, 0, 0, 2, 0, 5, 0,
             0x80, 0x72, 0x25, 0x2B,
         ];
-        poddurance::read_deletions(&file, 0, RowField::for_rows(6).unwrap()).unwrap()
+        poddurance::read_deletions(&file, 0, RowField::for_rows(6).unwrap()).unwrap().into_field()
     }
 
     /// Rows 1, 3 and 4 of 6.
@@ -215,7 +286,7 @@ mod tests {
 
     #[test]
     fn answers() {
-        let keep = |removed| Outcome::Answered { field: others(), removed };
+        let keep = |removed| Outcome::Answered { count: 3, rows: 6, removed, field: others() };
         assert_eq!(keep(None).exit_status(), 0);
         assert_eq!(text(&keep(None), false), "keep: 3 of 6 rows\n");
         assert_eq!(text(&keep(None), true), "keep: 3 of 6 rows\nrows: 1, 3-4\n");
@@ -226,7 +297,7 @@ mod tests {
             "{\"answer\":\"keep\",\"count\":3,\"rows\":6,\"removed\":2,\"ranges\":[[1,1],[3,4]]}\n"
         );
 
-        let skip = |removed| Outcome::Answered { field: RowField::for_rows(6).unwrap(), removed };
+        let skip = |removed| Outcome::Answered { count: 0, rows: 6, removed, field: RowField::for_rows(6).unwrap() };
         assert_eq!(skip(None).exit_status(), 1);
         assert_eq!(text(&skip(None), false), "skip: no row of 6\n");
         assert_eq!(text(&skip(Some(2)), true), "skip: no row of 6, 2 deleted rows removed\nrows: none\n");
@@ -235,11 +306,11 @@ mod tests {
 
     #[test]
     fn deletions() {
-        let some = Outcome::Deleted { field: three() };
+        let some = Outcome::Deleted { count: 3, rows: 6, field: three() };
         assert_eq!(some.exit_status(), 0);
         assert_eq!(text(&some, true), "deleted: 3 of 6 rows\nrows: 0, 2, 5\n");
         assert_eq!(json(&some, true), "{\"answer\":\"deleted\",\"count\":3,\"rows\":6,\"ranges\":[[0,0],[2,2],[5,5]]}\n");
-        let none = Outcome::Deleted { field: RowField::for_rows(1).unwrap() };
+        let none = Outcome::Deleted { count: 0, rows: 1, field: RowField::for_rows(1).unwrap() };
         assert_eq!(none.exit_status(), 0);
         assert_eq!(text(&none, true), "deleted: 0 of 1 row\nrows: none\n");
     }
@@ -255,9 +326,61 @@ mod tests {
             "{\"answer\":\"found\",\"column\":\"a \\\"b\\\"\",\"kind\":\"bitmap\",\"start\":47,\"length\":1}\n"
         );
         let absent = Outcome::Absent { column: "x\n".to_string(), kind: "bitmap".to_string() };
-        assert_eq!(absent.exit_status(), 1);
+        assert_eq!(absent.exit_status(), 4);
         assert_eq!(text(&absent, false), "absent: no bitmap index on column \"x\\n\"\n");
         assert_eq!(json(&absent, false), "{\"answer\":\"absent\",\"column\":\"x\\u000a\",\"kind\":\"bitmap\"}\n");
+    }
+
+    #[test]
+    fn lists() {
+        let index = |kind: &[u8], start, length| Index { kind: kind.to_vec(), start, length };
+        let columns = vec![
+            Column { name: b"state".to_vec(), indexes: vec![index(b"bitmap", 47, 24), index(b"bsi", 71, 1)] },
+            Column { name: b"".to_vec(), indexes: vec![] },
+            Column { name: b"\x1B[31m\"\xFF'".to_vec(), indexes: vec![index("\u{9B}ä\n".as_bytes(), -1, i32::MIN)] },
+        ];
+        let listed = Outcome::Listed { columns };
+        assert_eq!(listed.exit_status(), 0);
+        assert_eq!(
+            text(&listed, false),
+            "column \"state\": bitmap index, 24 bytes at 47\n\
+             column \"state\": bsi index, 1 byte at 71\n\
+             column \"\": no index\n\
+             column \"\\u{1b}[31m\\\"\\xFF'\": \\u{9b}ä\\n index, -2147483648 bytes at -1\n"
+        );
+        assert_eq!(
+            json(&listed, false),
+            "{\"answer\":\"listed\",\"indexes\":[\
+             {\"column\":\"state\",\"kind\":\"bitmap\",\"start\":47,\"length\":24},\
+             {\"column\":\"state\",\"kind\":\"bsi\",\"start\":71,\"length\":1},\
+             {\"column\":\"\",\"kind\":null,\"start\":null,\"length\":null},\
+             {\"column\":\"\\u001b[31m\\\"\u{FFFD}'\",\"kind\":\"\\u009bä\\u000a\",\"start\":-1,\"length\":-2147483648}]}\n"
+        );
+        let none = Outcome::Listed { columns: vec![] };
+        assert_eq!((text(&none, false).as_str(), none.exit_status()), ("no column\n", 0));
+        assert_eq!(json(&none, false), "{\"answer\":\"listed\",\"indexes\":[]}\n");
+
+        let refused = Outcome::NotListed { reason: "no index file".to_string() };
+        assert_eq!((text(&refused, false).as_str(), refused.exit_status()), ("refused: no index file\n", 3));
+        assert_eq!(
+            json(&refused, false),
+            "{\"answer\":\"refused\",\"file\":\"index\",\"name\":null,\"number\":null,\"meaning\":\"no index file\"}\n"
+        );
+    }
+
+    #[test]
+    fn no_name_of_a_file_controls_the_terminal() {
+        // Each byte, and characters that are cut, that turn the direction of the text or that don't show.
+        let each: Vec<u8> = (0..=255).collect();
+        for name in [&each[..], "\u{202E}\u{2066}\u{200B}\u{FEFF}\u{85}\u{9B}31m".as_bytes(), b"\xF0\x9F\x98", b"\xED\xA0\x80"] {
+            let columns = vec![Column { name: name.to_vec(), indexes: vec![Index { kind: name.to_vec(), start: 0, length: 0 }] }];
+            let listed = Outcome::Listed { columns };
+            for said in [text(&listed, false), json(&listed, false)] {
+                let line = said.strip_suffix('\n').unwrap();
+                let prints = |character: char| "\"'\\".contains(character) || character.escape_debug().eq([character]);
+                assert!(line.chars().all(prints), "{line}");
+            }
+        }
     }
 
     #[test]
@@ -308,9 +431,11 @@ mod tests {
             Outcome::Found { column: name(), kind: name(), start: 47, length: 1 },
             Outcome::Absent { column: name(), kind: name() },
             Outcome::Accepted { rows: 3 },
-            Outcome::Answered { field: others(), removed: None },
-            Outcome::Answered { field: RowField::for_rows(6).unwrap(), removed: Some(1) },
-            Outcome::Deleted { field: three() },
+            Outcome::Answered { count: 3, rows: 6, removed: None, field: others() },
+            Outcome::Answered { count: 0, rows: 6, removed: Some(1), field: RowField::for_rows(6).unwrap() },
+            Outcome::Listed { columns: vec![Column { name: b"s".to_vec(), indexes: vec![] }] },
+            Outcome::NotListed { reason: "no".to_string() },
+            Outcome::Deleted { count: 3, rows: 6, field: three() },
             refused(Part::Index),
             refused(Part::Literals),
             Outcome::RowsDiffer { index_rows: 3, data_rows: 1000 },
@@ -325,6 +450,9 @@ mod tests {
     #[test]
     fn strings_in_json() {
         assert_eq!(quoted("plain"), r#""plain""#);
-        assert_eq!(quoted("a\"b\\c\n\0ä\u{7F}😀"), "\"a\\\"b\\\\c\\u000a\\u0000ä\u{7F}😀\"");
+        assert_eq!(quoted("a\"b\\c\n\0ä\u{7F}😀"), "\"a\\\"b\\\\c\\u000a\\u0000ä\\u007f😀\"");
+        assert_eq!(quoted("it's\t\u{9B}\u{202E}\u{FFFD}"), "\"it's\\u0009\\u009b\\u202e\u{FFFD}\"");
+        // Beyond 65,535 in two halves, as JSON wants it.
+        assert_eq!(quoted("\u{E0001}"), r#""\udb40\udc01""#);
     }
 }

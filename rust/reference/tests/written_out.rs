@@ -1,8 +1,8 @@
 //! The files that document 01 writes out.
 
-use plain::reader::{ask, audit, locate, read_deletions, subtract};
-use plain::types::*;
-use plain::writer::{bitmap, body_of, deletion_file, index_file, BitmapForm, Column, ContainerForm, Layout};
+use reference::reader::{ask, audit, locate, read_deletions, subtract};
+use reference::types::*;
+use reference::writer::{bitmap, body_of, deletion_file, index_file, BitmapForm, Column, ContainerForm, Layout};
 
 fn hex(text: &str) -> Vec<u8> {
     text.split_whitespace().map(|byte| u8::from_str_radix(byte, 16).unwrap()).collect()

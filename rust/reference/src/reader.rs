@@ -1,7 +1,7 @@
-//! The five calls: Locate, Audit, Ask, Read deletions and Subtract.
+//! The calls: Locate, Audit, Ask, Ask of a file, Read deletions and Subtract.
 //!
-//! Each answers a number first: 0 accepted, 255 ABSENT (Locate alone), otherwise a refusal's number. Counts, start and
-//! length are 0 with any answer but 0.
+//! Each answers a number first: 0 accepted, 255 ABSENT (Locate and Ask of a file alone), otherwise a refusal's number.
+//! Counts, start and length are 0 with any answer but 0.
 
 use std::cmp::Ordering;
 use std::collections::HashSet;
@@ -67,6 +67,27 @@ pub fn audit(body: &[u8], ty: u32, field: &mut [u8]) -> (u8, u64) {
 /// Audits the body and sets the rows that the question chooses: answer and their count.
 pub fn ask(body: &[u8], ty: u32, question: u32, literals: &[u8], field: &mut [u8]) -> (u8, u64) {
     counted(try_ask(body, ty, question, literals, field))
+}
+
+/// Locates the index, then asks its body: answer and count. Without a body the field is left alone.
+#[allow(clippy::too_many_arguments)]
+pub fn ask_file(
+    embedded: &[u8],
+    file: &[u8],
+    column: &[u8],
+    kind: &[u8],
+    ty: u32,
+    question: u32,
+    literals: &[u8],
+    field: &mut [u8],
+) -> (u8, u64) {
+    match locate(embedded, file, column, kind) {
+        (ACCEPTED, start, length) => {
+            let looked_at = if embedded.is_empty() { file } else { embedded };
+            ask(&looked_at[start as usize..][..length as usize], ty, question, literals, field)
+        }
+        (answer, ..) => (answer, 0),
+    }
 }
 
 /// Sets the rows of one bin of a deletion file: answer and their count.

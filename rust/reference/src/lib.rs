@@ -1,24 +1,22 @@
-//! A plain Rust reader and writer of Apache Paimon's bitmap file indexes and deletion files.
+//! A reference reader and writer of Apache Paimon's bitmap file indexes and deletion files.
 //!
 //! It is written from the rules of the formats alone and shares no code with the proved library, so that the two can
-//! be compared: `reader` has the library's five calls, `writer` makes files in every permitted layout, `scan` answers
+//! be compared: `reader` has the library's calls, `writer` makes files in every permitted layout, `scan` answers
 //! questions from the column itself, and `random` draws columns, questions, layouts and damage.
 //!
 //! ```
-//! use plain::reader;
-//! use plain::scan::scan;
-//! use plain::types::{literals, EQUAL, STRING};
-//! use plain::writer::{bitmap, body_of, deletion_file, index_file, BitmapForm, Column, Layout};
+//! use reference::reader;
+//! use reference::scan::scan;
+//! use reference::types::{literals, EQUAL, STRING};
+//! use reference::writer::{bitmap, body_of, deletion_file, index_file, BitmapForm, Column, Layout};
 //!
 //! let column = Column::strings(&[Some("on"), None, Some("off"), Some("on")]);
 //! let body = body_of(&column, &Layout::version(2));
 //! let file = index_file(&[("state", "bitmap", &body)]);
 //!
-//! let (answer, start, length) = reader::locate(&[], &file, b"state", b"bitmap");
-//! assert_eq!((answer, length), (0, body.len() as u64));
 //! let mut field = [0];
 //! let asked = literals(STRING, &["on"]);
-//! assert_eq!(reader::ask(&file[start as usize..], STRING, EQUAL, &asked, &mut field), (0, 2));
+//! assert_eq!(reader::ask_file(&[], &file, b"state", b"bitmap", STRING, EQUAL, &asked, &mut field), (0, 2));
 //! assert_eq!((field.to_vec(), 2), scan(&column, EQUAL, &["on"]));
 //!
 //! let deletions = deletion_file(&[bitmap(&[3], &BitmapForm::Smallest)]);
