@@ -1,6 +1,6 @@
 //! The README's example "From Rust", to be run in the repository's top folder; the test `readme` holds the two together.
 
-use poddurance::{ask, locate, read_deletions, subtract, Literals, Question, RowField, Type};
+use poddurance::{ask_file, read_deletions, subtract, Literals, Question, RowField, Type};
 
 fn main() -> Result<(), Box<dyn std::error::Error>> {
     let index = std::fs::read("demo/pumps-v2.index")?;
@@ -8,8 +8,9 @@ fn main() -> Result<(), Box<dyn std::error::Error>> {
     let row_count = 24; // as the table's metadata has it
 
     let fault = Literals::of(Type::String, ["fault"])?;
-    let mut rows = match locate(&[], &index, "state", "bitmap")? {
-        Some(body) => ask(body, Question::Equal, &fault, RowField::for_rows(row_count)?)?.into_field(),
+    let field = RowField::for_rows(row_count)?;
+    let mut rows = match ask_file(&[], &index, "state", "bitmap", Question::Equal, &fault, field)? {
+        Some(answer) => answer.into_field(),
         None => RowField::all_of(row_count)?, // no index: all rows are to be read
     };
     let deleted = read_deletions(&deletions, 0, RowField::for_rows(row_count)?)?;

@@ -1,6 +1,6 @@
--- `cuts` is safe: each cut is within the body, and an audit keeps the buffer's length.
-use mathlib.Core.Path.{_≡_}
+-- `cuts` is safe: each cut is within the body. The measure is what is left of it.
 use Prim.Native.Nat.{_-_, _≤_}
+use mathlib.Core.Path.{_≡_}
 use native.Mathlib.Omega.{arith}
 use lib.ListN.{length}
 use Rattle.index_cases.proofs.cuts.Statement.{statement}
@@ -12,15 +12,6 @@ Inv-loop buffer₀ body t n₀ t5 n-end buffer n = (n ≤ n-end) × (n-end ≡ l
 abbrev μ-loop : tie.MeasureT-loop
 μ-loop buffer₀ body t n₀ t5 n-end buffer n = n-end - n
 
-say-requires : tie.Need-say-requires Inv-loop μ-loop
-say-requires c κs = tt
-
-audit-requires : tie.Need-audit-requires Inv-loop μ-loop
-audit-requires c κs = tt
-
-returns : tie.Need-returns Inv-loop μ-loop
-returns c = tt
-
 pub cuts-spec : {M : Type 1} → statement M
 cuts-spec =
     tie.close
@@ -29,13 +20,13 @@ cuts-spec =
     μ-loop
     (λ c. omega arith)
     (λ c. omega arith)
-    say-requires
+    (λ c κs. tt)
     (λ c. omega arith)
     (λ c. omega arith)
     (λ c. omega arith)
-    audit-requires
+    (λ c κs. tt)
     (λ c. omega arith)
     (λ c. omega arith)
     (λ c. omega arith)
     (λ c. omega arith)
-    returns)
+    (λ c. tt))

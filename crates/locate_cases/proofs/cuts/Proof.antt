@@ -1,17 +1,16 @@
--- `locate_cases::cuts` ends. The measure is what is left of the numbers.
+-- `cuts` is safe: each cut is within the file. The measure is what is left of it.
 use Prim.Native.Nat.{_-_, _≤_}
+use mathlib.Core.Path.{_≡_}
 use native.Mathlib.Omega.{arith}
+use lib.ListN.{length}
 use Rattle.locate_cases.proofs.cuts.Statement.{statement}
 use Rattle.locate_cases.proofs.cuts.Tie as tie
 
 abbrev Inv-loop : tie.InvT-loop
-Inv-loop n₀ n = n ≤ 72
+Inv-loop embedded file column kind n₀ t6 n-end n = (n ≤ n-end) × (n-end ≡ length file)
 
 abbrev μ-loop : tie.MeasureT-loop
-μ-loop n₀ n = 72 - n
-
-cut-requires : tie.Need-cut-requires Inv-loop μ-loop
-cut-requires c κs = tt
+μ-loop embedded file column kind n₀ t6 n-end n = n-end - n
 
 pub cuts-spec : {M : Type 1} → statement M
 cuts-spec =
@@ -20,8 +19,13 @@ cuts-spec =
     Inv-loop
     μ-loop
     (λ c. omega arith)
-    cut-requires
+    (λ c. omega arith)
+    (λ c κs. tt)
     (λ c. omega arith)
     (λ c. omega arith)
     (λ c. omega arith)
-    (λ c. omega arith))
+    (λ c κs. tt)
+    (λ c. omega arith)
+    (λ c. omega arith)
+    (λ c. omega arith)
+    (λ c. tt))

@@ -1,0 +1,2 @@
+-- Laws of lines, words and numbers.
+pub mod Words

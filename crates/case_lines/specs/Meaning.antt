@@ -1,0 +1,32 @@
+-- Lines of a file of cases: where one ends, its words, and the numbers that they are.
+use Prim.Native.Nat.{ℕ, zero, suc, _+_, _*_, _%_, _^_}
+use mathlib.Core.Bool.{cond}
+use mathlib.Core.List.{List, [], _∷_}
+use lib.Dec.{eqb}
+
+-- what stands before the first `stop`
+unfoldable pub upTo : ℕ → List ℕ → List ℕ
+upTo stop [] = []
+upTo stop (b ∷ s) = cond (eqb b stop) [] (b ∷ upTo stop s)
+
+-- what stands behind the first `stop`
+unfoldable pub past : ℕ → List ℕ → List ℕ
+past stop [] = []
+past stop (b ∷ s) = cond (eqb b stop) s (past stop s)
+
+-- a line from its word k on, the first being word 0: spaces part words
+unfoldable pub fromWord : ℕ → List ℕ → List ℕ
+fromWord zero line = line
+fromWord (suc k) line = fromWord k (past 32 line)
+
+unfoldable pub wordOf : ℕ → List ℕ → List ℕ
+wordOf k line = upTo 32 (fromWord k line)
+
+-- the number that decimal digits say behind those of n. One that 64 bits don't hold is some other
+unfoldable pub decimalFrom : ℕ → List ℕ → ℕ
+decimalFrom n [] = n
+decimalFrom n (b ∷ s) = decimalFrom ((n % 1844674407370955162 * 10 + b % 16) % 2 ^ 64) s
+
+-- the number that word k of a line is
+unfoldable pub numberOf : ℕ → List ℕ → ℕ
+numberOf k line = decimalFrom 0 (wordOf k line)
