@@ -113,3 +113,13 @@ fn c_example() {
     let output = Command::new("sh").args(["-c", command]).current_dir(&folder).output().unwrap();
     assert_eq!(lines(output), expected);
 }
+
+/// README's count of lines that a reader must believe is what the script counts.
+#[test]
+fn believed_lines() {
+    let output = Command::new("bash").arg(".ci/believed").current_dir(root()).output().unwrap();
+    let counted = lines(output);
+    let count = counted.iter().find_map(|line| line.strip_prefix("Meaning, Layout and Reading ")).expect("the script's last line");
+    let readme = fs::read_to_string(root().join("README.md")).unwrap();
+    assert!(readme.contains(&format!("`crates/*/specs/`: {count} lines of definitions")), "the script counts {count}");
+}
