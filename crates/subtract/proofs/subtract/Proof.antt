@@ -113,7 +113,8 @@ tested c = counted c .before .before
 
 -- rows left and rows removed are the rows that were
 module _ (c : tie.After-count2) where
-  left : c .count2 .result ≡ count (subtracted (start (tested c) .args .rows) (start (tested c) .args .first .now) (start (tested c) .args .second .now)) (start (tested c) .args .rows)
+  left : c .count2 .result
+      ≡ count (subtracted (start (tested c) .args .rows) (start (tested c) .args .first .now) (start (tested c) .args .second .now)) (start (tested c) .args .rows)
   left = c .count2 .ensures ∙ ap (λ (d : List ℕ). count d (start (tested c) .args .rows)) (c .before .before .before .before .subtract-rows .ensures)
 
   parts : c .count2 .result + removed (start (tested c) .args .rows) (start (tested c) .args .first .now) (start (tested c) .args .second .now)
@@ -132,7 +133,8 @@ returns-4 c =
     let a = start t .args in
     let l = left c in
     let r : counted c .count .result - c .count2 .result ≡ removed (a .rows) (a .first .now) (a .second .now) = omega (arith, parts c) in
-    promise (ok (record { left = _; removed = _ })) (accepted (a .rows) (a .first .now) (a .second .now) (within t) (first-room t) (second-room t)) (cc) (c .before .before .before .before .subtract-rows .ensures)
+    let o = accepted (a .rows) (a .first .now) (a .second .now) (within t) (first-room t) (second-room t) in
+    promise (ok (record { left = _; removed = _ })) o (cc) (c .before .before .before .before .subtract-rows .ensures)
 
 pub subtract-spec : {M : Type 1} → statement M
 subtract-spec =
