@@ -108,14 +108,14 @@ tally-ones p a x (suc k) h =
 
 -- ---- counts
 
-picked : (b : Bool) (a : ℕ) (rs : List ℕ) → length (cond b (a ∷ rs) rs) ≡ tick b + length rs
-picked true a rs = omega arith
-picked false a rs = omega arith
+pub length-cond : (b : Bool) (a : ℕ) (rs : List ℕ) → length (cond b (a ∷ rs) rs) ≡ tick b + length rs
+length-cond true a rs = omega arith
+length-cond false a rs = omega arith
 
 pub rows-tally : (f : List ℕ) (a k : ℕ) → length (rowsFrom f a k) ≡ tally (bit f) a k
 unfolding tally rowsFrom
 rows-tally f a zero = refl
-rows-tally f a (suc k) = rw (picked (bit f a) a (rowsFrom f (a + 1) k)) (omega (arith, rows-tally f (a + 1) k))
+rows-tally f a (suc k) = rw (length-cond (bit f a) a (rowsFrom f (a + 1) k)) (omega (arith, rows-tally f (a + 1) k))
 
 pub count-le : (f : List ℕ) (n : ℕ) → count f n ≤ n
 count-le f n = rw rows-tally (tally-le (bit f) 0 n)

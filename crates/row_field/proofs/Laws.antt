@@ -15,6 +15,7 @@ use lib.Pow.{pow-pos, pow-lt, pow-add, shl-shr, shr-shr}
 use lib.Bits.{bitOr, bitAnd, or-shr, or-step, or-lt, and-high}
 use borrow.Author.Tests.{ne-eqb}
 use Rattle.numbers.specs.Meaning.{Bytes}
+use Rattle.numbers.proofs.ByteLists.{bytes-set}
 use Rattle.row_field.specs.Meaning.{bit, mark}
 
 -- the binary digit of b of weight 2 ^ k
@@ -126,32 +127,38 @@ pub length-mark : (s : List ℕ) (r : ℕ) → length (mark s r) ≡ length s
 unfolding mark
 length-mark s r = simp length-set
 
-pub bit-mark-same : (s : List ℕ) (r : ℕ) → r / 8 < length s → bit (mark s r) r ≡ true
-unfolding bit mark
-bit-mark-same s r h =
-    rw (getD-set-same s (r / 8) _ 0 h, with-digit-same (getD s (r / 8) 0) (r % 8))
+pub bytes-mark : (s : List ℕ) (r : ℕ) → Bytes s → Bytes (mark s r)
+unfolding mark
+bytes-mark s r b =
+    let m : r % 8 < 8 = omega arith in
+    bytes-set s (r / 8) _ b (or-lt 8 _ _ (b (r / 8)) (pow-lt m))
 
-other-go : (s : List ℕ) (r q : ℕ) → q ≢ r → Dec (q / 8 ≡ r / 8) → Dec (r / 8 < length s) → bit (mark s r) q ≡ bit s q
-unfolding bit mark
-other-go s r q n (no d) h = rw (getD-set-other s (r / 8) (q / 8) _ 0 d)
-other-go s r q n (yes e) (no h) = rw (set-out s (r / 8) _ (omega arith))
-other-go s r q n (yes e) (yes h) =
-    let m : r % 8 ≢ q % 8 = omega arith in
-    rw (e, getD-set-same s (r / 8) _ 0 h, with-digit-other (getD s (r / 8) 0) (r % 8) (q % 8) m)
+-- a row of a byte that was replaced, and one of another
+pub bit-set-same : (s : List ℕ) (i v r : ℕ) → i < length s → r / 8 ≡ i → bit (set s i v) r ≡ eqb (digit v (r % 8)) 1
+unfolding bit
+bit-set-same s i v r h e = rw (e, getD-set-same s i v 0 h)
+
+pub bit-set-other : (s : List ℕ) (i v r : ℕ) → r / 8 ≢ i → bit (set s i v) r ≡ bit s r
+unfolding bit
+bit-set-other s i v r n = rw (getD-set-other s i (r / 8) v 0 n)
+
+kept-go : (s : List ℕ) (i v r : ℕ) → (r / 8 ≡ i → digit v (r % 8) ≡ digit (getD s i 0) (r % 8)) → Dec (r / 8 ≡ i) → Dec (i < length s) → bit (set s i v) r ≡ bit s r
+unfolding bit
+kept-go s i v r k (no d) h = bit-set-other s i v r d
+kept-go s i v r k (yes e) (no h) = rw (set-out s i v (omega arith))
+kept-go s i v r k (yes e) (yes h) = bit-set-same s i v r h e ∙ rw (k e, e)
+
+-- where its digit is as before
+pub bit-set-kept : (s : List ℕ) (i v r : ℕ) → (r / 8 ≡ i → digit v (r % 8) ≡ digit (getD s i 0) (r % 8)) → bit (set s i v) r ≡ bit s r
+bit-set-kept s i v r k = kept-go s i v r k (ℕ-discrete (r / 8) i) (decLt i (length s))
+
+pub bit-mark-same : (s : List ℕ) (r : ℕ) → r / 8 < length s → bit (mark s r) r ≡ true
+unfolding mark
+bit-mark-same s r h = bit-set-same s (r / 8) _ r h refl ∙ rw (with-digit-same (getD s (r / 8) 0) (r % 8))
 
 pub bit-mark-other : (s : List ℕ) (r q : ℕ) → q ≢ r → bit (mark s r) q ≡ bit s q
-bit-mark-other s r q n = other-go s r q n (ℕ-discrete (q / 8) (r / 8)) (decLt (r / 8) (length s))
-
-bytes-go : (s : List ℕ) (r i : ℕ) → Bytes s → Dec (i ≡ r / 8) → Dec (r / 8 < length s) → getD (mark s r) i 0 < 256
 unfolding mark
-bytes-go s r i b (no d) h = rw (getD-set-other s (r / 8) i _ 0 d) (b i)
-bytes-go s r i b (yes e) (no h) = rw (set-out s (r / 8) _ (omega arith)) (b i)
-bytes-go s r i b (yes e) (yes h) =
-    let m : r % 8 < 8 = omega arith in
-    rw (e, getD-set-same s (r / 8) _ 0 h) (or-lt 8 _ _ (b (r / 8)) (pow-lt m))
-
-pub bytes-mark : (s : List ℕ) (r : ℕ) → Bytes s → Bytes (mark s r)
-bytes-mark s r b i = bytes-go s r i b (ℕ-discrete i (r / 8)) (decLt (r / 8) (length s))
+bit-mark-other s r q n = bit-set-kept s (r / 8) _ q (λ e. with-digit-other (getD s (r / 8) 0) (r % 8) (q % 8) (omega arith))
 
 -- a row past the end is not set, and stays so
 pub bit-out : (s : List ℕ) (r : ℕ) → length s ≤ r / 8 → bit s r ≡ false

@@ -16,7 +16,7 @@ use Rattle.numbers.specs.Meaning.{All, Bytes}
 use Rattle.row_field.specs.Meaning.{bit, mark, markAll, anySet, above, Rising, Below, rowsFrom, rowsOf}
 use Rattle.row_field.specs.Promises.{anySeen}
 use Rattle.row_field.proofs.Laws.{length-mark, bytes-mark, bit-mark-same, bit-mark-other, bit-out, mark-out, bit-zeros, bytes-zeros, field-ext}
-use Rattle.row_field.proofs.RowLists.{rising-below, rowsFrom-rising, rowsOf-rising}
+use Rattle.row_field.proofs.RowLists.{rising-below, rowsFrom-rising}
 
 -- ---- marking keeps the length and the bytes, and goes on where it stopped
 
@@ -224,11 +224,11 @@ bit-markAll f (q ∷ rs) r h =
     bit-markAll (mark f q) rs r (rw (length-mark f q) h) ∙ bit-markAll-go f rs q r h (ℕ-discrete r q)
 
 -- the rows read off a field are those that are set
-member-cond-here : (b : Bool) (r : ℕ) (rs : List ℕ) → member r rs ≡ false → member r (cond b (r ∷ rs) rs) ≡ b
+pub member-cond-here : (b : Bool) (r : ℕ) (rs : List ℕ) → member r rs ≡ false → member r (cond b (r ∷ rs) rs) ≡ b
 member-cond-here true r rs e = member-here r rs
 member-cond-here false r rs e = e
 
-member-cond-there : (b : Bool) (r q : ℕ) (rs : List ℕ) → r ≢ q → member r (cond b (q ∷ rs) rs) ≡ member r rs
+pub member-cond-there : (b : Bool) (r q : ℕ) (rs : List ℕ) → r ≢ q → member r (cond b (q ∷ rs) rs) ≡ member r rs
 member-cond-there true r q rs n = member-there r q rs n
 member-cond-there false r q rs n = refl
 
@@ -246,10 +246,18 @@ member-rowsFrom f a zero r h l = absurd (omega arith)
 member-rowsFrom f a (suc k) r h l =
     member-rowsFrom-go f a k r (λ g. member-rowsFrom f (a + 1) k r g (omega arith)) h (ℕ-discrete r a)
 
+rows-out-go : (f : List ℕ) (a k r : ℕ) → (a ≤ r → r < a + k → ⊥) → Dec (r < a) → member r (rowsFrom f a k) ≡ false
+rows-out-go f a k r n (yes h) = member-before r a (a + k) (rowsFrom f a k) h (rowsFrom-rising f a (a + k) a k (omega arith) (omega arith))
+rows-out-go f a k r n (no h) =
+    let l : a + k ≤ r = elim (decLt r (a + k)) [ yes x ↦ absurd (n (omega arith) x) | no x ↦ omega arith ] in
+    member-past r (a + k) (rowsFrom f a k) l (rising-below a (a + k) (rowsFrom f a k) (rowsFrom-rising f a (a + k) a k (omega arith) (omega arith)))
+
+pub member-rowsFrom-out : (f : List ℕ) (a k r : ℕ) → (a ≤ r → r < a + k → ⊥) → member r (rowsFrom f a k) ≡ false
+member-rowsFrom-out f a k r n = rows-out-go f a k r n (decLt r a)
+
 member-rowsOf-go : (f : List ℕ) (r : ℕ) → Dec (r < length f * 8) → member r (rowsOf f) ≡ bit f r
 member-rowsOf-go f r (yes h) = member-rowsFrom f 0 (length f * 8) r (omega arith) (omega arith)
-member-rowsOf-go f r (no h) =
-    member-past r (length f * 8) (rowsOf f) (omega arith) (rising-below 0 (length f * 8) (rowsOf f) (rowsOf-rising f)) ∙ sym (bit-out f r (omega arith))
+member-rowsOf-go f r (no h) = member-rowsFrom-out f 0 (length f * 8) r (λ _ l. h (omega arith)) ∙ sym (bit-out f r (omega arith))
 
 pub member-rowsOf : (f : List ℕ) (r : ℕ) → member r (rowsOf f) ≡ bit f r
 member-rowsOf f r = member-rowsOf-go f r (decLt r (length f * 8))

@@ -3,8 +3,8 @@
 use Prim.Native.Nat.{ℕ, zero, suc, _+_, _-_, _*_, _/_, _%_, _^_, _<_, _≤_, min}
 use mathlib.Core.Path.{_≡_, refl, sym, ap, _∙_}
 use mathlib.Core.Logic.{_≢_}
-use mathlib.Core.Bool.{Bool, true, false, not, cond, _&&_}
-use mathlib.Core.List.{List, [], _∷_}
+use mathlib.Core.Bool.{Bool, true, false, not, cond, _&&_, _||_, and-true, and-false}
+use mathlib.Core.List.{List, [], _∷_, _++_}
 use native.Mathlib.Nat.{pow-suc, mod-eq-of-lt, div-eq-of-lt, mod-lt}
 use native.Mathlib.Decide.{decLt, ℕ-discrete}
 use native.Mathlib.Omega.{arith}
@@ -12,12 +12,14 @@ use lib.Bits.{bitAnd, and-step, and-shr, and-le-l}
 use lib.Dec.{eqb, ltb}
 use lib.ListN.{length, getD, set, length-set}
 use lib.Pow.{pow-pos, pow-lt, pow-mono}
-use lib.Seq.{getD-set-same, getD-set-other, set-out}
-use borrow.Author.Tests.{lt-ltb, le-ltb}
+use borrow.Author.Tests.{eq-eqb, ne-eqb, lt-ltb, le-ltb}
 use Rattle.numbers.specs.Meaning.{Bytes}
+use Rattle.numbers.proofs.ByteLists.{bytes-set}
 use Rattle.row_field.specs.Meaning.{bit, rowsFrom, count}
-use Rattle.row_field.proofs.Laws.{digit, digit-suc, tick, bit-out, pow-digit-same, pow-digit-other, field-ext}
-use Rattle.row_field.proofs.Counts.{tally, tally-split, rows-tally, low-half, low-odd}
+use Rattle.row_field.proofs.Laws.{digit, digit-suc, tick, bit-out, bit-set-same, bit-set-other, bit-set-kept, pow-digit-same, pow-digit-other, field-ext}
+use Rattle.row_field.proofs.RowLists.{rowsFrom-append}
+use Rattle.row_field.proofs.Marks.{member, member-rowsFrom, member-rowsFrom-out}
+use Rattle.row_field.proofs.Counts.{length-cond, tally, tally-split, rows-tally, low-half, low-odd}
 use Rattle.subtract.specs.Meaning.{unmark, without, setIn, subtracted, removed}
 
 -- ---- binary digits
@@ -51,62 +53,45 @@ high-digit y k j h =
     let l : y % 2 ^ k < 2 ^ j = omega (arith, mod-lt y (pow-pos k), pow-mono h) in
     rw (div-eq-of-lt l)
 
--- ---- bits of fields
-
-bit-byte : (f : List ℕ) (i r : ℕ) → r / 8 ≡ i → bit f r ≡ eqb (digit (getD f i 0) (r % 8)) 1
-unfolding bit
-bit-byte f i r e = rw e
-
-bit-set-same : (f : List ℕ) (i v r : ℕ) → i < length f → r / 8 ≡ i → bit (set f i v) r ≡ eqb (digit v (r % 8)) 1
-unfolding bit
-bit-set-same f i v r h e = rw (e, getD-set-same f i v 0 h)
-
-bit-set-other : (f : List ℕ) (i v r : ℕ) → r / 8 ≢ i → bit (set f i v) r ≡ bit f r
-unfolding bit
-bit-set-other f i v r n = rw (getD-set-other f i (r / 8) v 0 n)
-
 -- ---- a field with one row less
 
-pub length-unmark : (f : List ℕ) (r : ℕ) → length (unmark f r) ≡ length f
+length-unmark : (f : List ℕ) (r : ℕ) → length (unmark f r) ≡ length f
 unfolding unmark
 length-unmark f r = simp length-set
 
-pow-byte : (r : ℕ) → 2 ^ (r % 8) < 256
-pow-byte r =
-    let m : r % 8 < 8 = omega arith in
-    pow-lt m
+less-lt : (f : List ℕ) (i v : ℕ) → Bytes f → bitAnd (getD f i 0) v < 256
+less-lt f i v b = omega (arith, b i, and-le-l (getD f i 0) v)
 
-bytes-unmark-go : (f : List ℕ) (r i : ℕ) → Bytes f → Dec (i ≡ r / 8) → Dec (r / 8 < length f) → getD (unmark f r) i 0 < 256
+bytes-unmark : (f : List ℕ) (r : ℕ) → Bytes f → Bytes (unmark f r)
 unfolding unmark
-bytes-unmark-go f r i b (no d) h = rw (getD-set-other f (r / 8) i _ 0 d) (b i)
-bytes-unmark-go f r i b (yes e) (no h) = rw (set-out f (r / 8) _ (omega arith)) (b i)
-bytes-unmark-go f r i b (yes e) (yes h) =
-    rw (e, getD-set-same f (r / 8) _ 0 h) (omega (arith, b (r / 8), and-le-l (getD f (r / 8) 0) (255 - 2 ^ (r % 8))))
+bytes-unmark f r b = bytes-set f (r / 8) _ b (less-lt f (r / 8) _ b)
 
-pub bytes-unmark : (f : List ℕ) (r : ℕ) → Bytes f → Bytes (unmark f r)
-bytes-unmark f r b i = bytes-unmark-go f r i b (ℕ-discrete i (r / 8)) (decLt (r / 8) (length f))
+-- the digits of a byte without one bit
+module _ (x r j : ℕ) (h : j < 8) where
+  weight-lt : 2 ^ (r % 8) < 256
+  weight-lt =
+      let m : r % 8 < 8 = omega arith in
+      pow-lt m
+
+  digit-unset : digit (bitAnd x (255 - 2 ^ (r % 8))) j ≡ min (digit x j) (1 - digit (2 ^ (r % 8)) j)
+  digit-unset = less-digit x (2 ^ (r % 8)) j weight-lt h
 
 unmark-same-go : (f : List ℕ) (r : ℕ) → Dec (r / 8 < length f) → bit (unmark f r) r ≡ false
-unfolding bit unmark
+unfolding unmark
 unmark-same-go f r (no h) = bit-out (unmark f r) r (simp length-set (omega arith))
 unmark-same-go f r (yes h) =
     let z : min (digit (getD f (r / 8) 0) (r % 8)) (1 - 1) ≡ 0 = omega arith in
-    rw (getD-set-same f (r / 8) _ 0 h, less-digit (getD f (r / 8) 0) (2 ^ (r % 8)) (r % 8) (pow-byte r) (omega arith), pow-digit-same (r % 8), z)
+    bit-set-same f (r / 8) _ r h refl ∙ rw (digit-unset (getD f (r / 8) 0) r (r % 8) (omega arith), pow-digit-same (r % 8), z)
 
-pub bit-unmark-same : (f : List ℕ) (r : ℕ) → bit (unmark f r) r ≡ false
+bit-unmark-same : (f : List ℕ) (r : ℕ) → bit (unmark f r) r ≡ false
 bit-unmark-same f r = unmark-same-go f r (decLt (r / 8) (length f))
 
-unmark-other-go : (f : List ℕ) (r q : ℕ) → q ≢ r → Dec (q / 8 ≡ r / 8) → Dec (r / 8 < length f) → bit (unmark f r) q ≡ bit f q
-unfolding bit unmark
-unmark-other-go f r q n (no d) h = rw (getD-set-other f (r / 8) (q / 8) _ 0 d)
-unmark-other-go f r q n (yes e) (no h) = rw (set-out f (r / 8) _ (omega arith))
-unmark-other-go f r q n (yes e) (yes h) =
+bit-unmark-other : (f : List ℕ) (r q : ℕ) → q ≢ r → bit (unmark f r) q ≡ bit f q
+unfolding unmark
+bit-unmark-other f r q n =
+    bit-set-kept f (r / 8) _ q (λ e.
     let m : r % 8 ≢ q % 8 = omega arith in
-    let z : min (digit (getD f (r / 8) 0) (q % 8)) (1 - 0) ≡ digit (getD f (r / 8) 0) (q % 8) = omega arith in
-    rw (e, getD-set-same f (r / 8) _ 0 h, less-digit (getD f (r / 8) 0) (2 ^ (r % 8)) (q % 8) (pow-byte r) (omega arith), pow-digit-other (r % 8) (q % 8) m, z)
-
-pub bit-unmark-other : (f : List ℕ) (r q : ℕ) → q ≢ r → bit (unmark f r) q ≡ bit f q
-bit-unmark-other f r q n = unmark-other-go f r q n (ℕ-discrete (q / 8) (r / 8)) (decLt (r / 8) (length f))
+    rw (digit-unset (getD f (r / 8) 0) r (q % 8) (omega arith), pow-digit-other (r % 8) (q % 8) m) (omega arith))
 
 -- ---- a field without rows of another
 
@@ -115,78 +100,40 @@ unfolding without
 length-without f [] = refl
 length-without f (r ∷ rs) = length-without (unmark f r) rs ∙ length-unmark f r
 
-pub bytes-without : (f rs : List ℕ) → Bytes f → Bytes (without f rs)
+bytes-without : (f rs : List ℕ) → Bytes f → Bytes (without f rs)
 unfolding without
 bytes-without f [] b i = b i
 bytes-without f (r ∷ rs) b i = bytes-without (unmark f r) rs (bytes-unmark f r b) i
 
--- f without row a, if g has it
-step : List ℕ → List ℕ → ℕ → List ℕ
-step f g a = cond (bit g a) (unmark f a) f
-
-without-pick : (b : Bool) (f : List ℕ) (a : ℕ) (rs : List ℕ) → without f (cond b (a ∷ rs) rs) ≡ without (cond b (unmark f a) f) rs
+without-append : (f xs ys : List ℕ) → without f (xs ++ ys) ≡ without (without f xs) ys
 unfolding without
-without-pick true f a rs = refl
-without-pick false f a rs = refl
+without-append f [] ys = refl
+without-append f (x ∷ xs) ys = without-append (unmark f x) xs ys
 
-without-suc : (f g : List ℕ) (a k : ℕ) → without f (rowsFrom g a (suc k)) ≡ without (step f g a) (rowsFrom g (a + 1) k)
-unfolding rowsFrom step
-without-suc f g a k = without-pick (bit g a) f a (rowsFrom g (a + 1) k)
+-- a row is set afterwards if it was, and is none of those removed
+bit-without-go : (f rs : List ℕ) (q r : ℕ) → Dec (r ≡ q) → bit (unmark f q) r && not (member r rs) ≡ bit f r && not (eqb r q || member r rs)
+bit-without-go f rs q r (yes e) = rw (e, bit-unmark-same f q, eq-eqb q q refl) (sym (and-false (bit f q)))
+bit-without-go f rs q r (no n) = rw (bit-unmark-other f q r n, ne-eqb r q n)
 
-without-none : (f g : List ℕ) (a : ℕ) → without f (rowsFrom g a 0) ≡ f
-unfolding rowsFrom without
-without-none f g a = refl
+bit-without : (f rs : List ℕ) (r : ℕ) → bit (without f rs) r ≡ bit f r && not (member r rs)
+unfolding without member
+bit-without f [] r = sym (and-true (bit f r))
+bit-without f (q ∷ rs) r = bit-without (unmark f q) rs r ∙ bit-without-go f rs q r (ℕ-discrete r q)
 
-and-true : (b : Bool) → b ≡ b && true
-and-true true = refl
-and-true false = refl
+module _ (k : ℕ) (f g : List ℕ) (a r : ℕ) where
+  -- a row that is not among the k from a on stays
+  without-out : (a ≤ r → r < a + k → ⊥) → bit (without f (rowsFrom g a k)) r ≡ bit f r
+  without-out h = bit-without f (rowsFrom g a k) r ∙ rw (member-rowsFrom-out g a k r h) (and-true (bit f r))
 
-and-false : (b : Bool) → false ≡ b && false
-and-false true = refl
-and-false false = refl
-
-pick-same : (b : Bool) (f : List ℕ) (a : ℕ) → bit (cond b (unmark f a) f) a ≡ bit f a && not b
-pick-same true f a = bit-unmark-same f a ∙ and-false (bit f a)
-pick-same false f a = and-true (bit f a)
-
-pick-other : (b : Bool) (f : List ℕ) (a r : ℕ) → r ≢ a → bit (cond b (unmark f a) f) r ≡ bit f r
-pick-other true f a r n = bit-unmark-other f a r n
-pick-other false f a r n = refl
-
--- a row that is not among the k from a on stays
-pub without-out : (k : ℕ) (f g : List ℕ) (a r : ℕ) → (a ≤ r → r < a + k → ⊥) → bit (without f (rowsFrom g a k)) r ≡ bit f r
-unfolding step
-without-out zero f g a r h = rw (without-none f g a)
-without-out (suc k) f g a r h =
-    rw (without-suc f g a k) (without-out k (step f g a) g (a + 1) r (λ l m. h (omega arith) (omega arith)) ∙ pick-other (bit g a) f a r (λ e. h (omega arith) (omega arith)))
-
--- one that is among them stays if g does not have it
-without-in-go : (k : ℕ) (f g : List ℕ) (a r : ℕ) → a ≤ r
-    → (a + 1 ≤ r → bit (without (step f g a) (rowsFrom g (a + 1) k)) r ≡ bit (step f g a) r && not (bit g r))
-    → Dec (r ≡ a) → bit (without (step f g a) (rowsFrom g (a + 1) k)) r ≡ bit f r && not (bit g r)
-unfolding step
-without-in-go k f g a r h next (yes e) =
-    without-out k (step f g a) g (a + 1) r (λ l m. omega arith) ∙ rw e (pick-same (bit g a) f a)
-without-in-go k f g a r h next (no n) =
-    next (omega arith) ∙ ap (λ (b : Bool). b && not (bit g r)) (pick-other (bit g a) f a r n)
-
-pub without-in : (k : ℕ) (f g : List ℕ) (a r : ℕ) → a ≤ r → r < a + k → bit (without f (rowsFrom g a k)) r ≡ bit f r && not (bit g r)
-without-in zero f g a r h l = absurd (omega arith)
-without-in (suc k) f g a r h l =
-    rw (without-suc f g a k) (without-in-go k f g a r h (λ m. without-in k (step f g a) g (a + 1) r m (omega arith)) (ℕ-discrete r a))
-
--- j rows, and k more
-without-add : (j k : ℕ) (f g : List ℕ) (a : ℕ) → without f (rowsFrom g a (j + k)) ≡ without (without f (rowsFrom g a j)) (rowsFrom g (a + j) k)
-without-add zero k f g a =
-    let e : 0 + k ≡ k = omega arith in
-    let z : a + 0 ≡ a = omega arith in
-    rw (e, z, without-none f g a)
-without-add (suc j) k f g a =
-    let e : suc j + k ≡ suc (j + k) = omega arith in
-    let z : a + suc j ≡ a + 1 + j = omega arith in
-    rw (e, z, without-suc f g a (j + k), without-suc f g a j) (without-add j k (step f g a) g (a + 1))
+  -- one that is among them stays if g does not have it
+  without-in : a ≤ r → r < a + k → bit (without f (rowsFrom g a k)) r ≡ bit f r && not (bit g r)
+  without-in h l = bit-without f (rowsFrom g a k) r ∙ rw (member-rowsFrom g a k r h l)
 
 -- ---- a byte at a time
+
+bit-byte : (f : List ℕ) (i r : ℕ) → r / 8 ≡ i → bit f r ≡ eqb (digit (getD f i 0) (r % 8)) 1
+unfolding bit
+bit-byte f i r e = rw e
 
 less-bit : (u v : ℕ) → u < 2 → v < 2 → eqb (min u (1 - v)) 1 ≡ eqb u 1 && not (eqb v 1)
 less-bit zero v h l =
@@ -221,29 +168,26 @@ module _ (d g : List ℕ) (i k : ℕ) (small : k ≤ 8) (inside : i < length d) 
       without-out k d g (i * 8) r (λ a b. h (omega arith))
       ∙ rw (bit-set-same d i (less (getD d i 0) (getD g i 0) k) r inside e, bit-byte d i r e, less-out (getD d i 0) (getD g i 0) k (r % 8) small (omega arith) (omega arith))
 
-  byte-bytes : (j : ℕ) → Dec (j ≡ i) → getD (set d i (less (getD d i 0) (getD g i 0) k)) j 0 < 256
-  byte-bytes j (no n) = rw (getD-set-other d i j _ 0 n) (bytes j)
-  byte-bytes j (yes e) = rw (e, getD-set-same d i _ 0 inside) (omega (arith, bytes i, and-le-l (getD d i 0) (255 - getD g i 0 % 2 ^ k)))
-
   pub without-byte : without d (rowsFrom g (i * 8) k) ≡ set d i (less (getD d i 0) (getD g i 0) k)
   without-byte =
       field-ext (without d (rowsFrom g (i * 8) k)) (set d i (less (getD d i 0) (getD g i 0) k))
       (bytes-without d (rowsFrom g (i * 8) k) bytes)
-      (λ j. byte-bytes j (ℕ-discrete j i))
+      (bytes-set d i _ bytes (less-lt d i _ bytes))
       (length-without d (rowsFrom g (i * 8) k) ∙ sym (length-set d i _))
       (λ r _. byte-bits r (ℕ-discrete (r / 8) i) (decLt (r % 8) k))
 
 -- ---- the walk: a byte's rows more
 
 pub subtracted-none : (f g : List ℕ) → f ≡ subtracted 0 f g
-subtracted-none f g = sym (without-none f g 0)
+unfolding rowsFrom without
+subtracted-none f g = refl
 
 module _ (f g : List ℕ) (i : ℕ) (inside : i < length f) (bytes : Bytes f) where
   subtracted-part : (k : ℕ) → k ≤ 8
       → subtracted (i * 8 + k) f g ≡ set (subtracted (i * 8) f g) i (bitAnd (getD (subtracted (i * 8) f g) i 0) (255 - getD g i 0 % 2 ^ k))
   subtracted-part k h =
       let z : 0 + i * 8 ≡ i * 8 = omega arith in
-      rw (without-add (i * 8) k f g 0, z)
+      rw (rowsFrom-append g 0 (i * 8) k, without-append f (rowsFrom g 0 (i * 8)) (rowsFrom g (0 + i * 8) k), z)
       (without-byte (subtracted (i * 8) f g) g i k h (omega (arith, length-without f (rowsFrom g 0 (i * 8)))) (bytes-without f (rowsFrom g 0 (i * 8)) bytes))
 
   pub subtracted-byte : getD g i 0 < 256
@@ -267,16 +211,8 @@ both f g r = bit f r && bit g r
 
 set-in-pick : (b : Bool) (f : List ℕ) (a : ℕ) (rs : List ℕ) → length (setIn f (cond b (a ∷ rs) rs)) ≡ tick (bit f a && b) + length (setIn f rs)
 unfolding setIn
-set-in-pick true f a rs = go (bit f a)
-  where
-    go : (b : Bool) → length (cond b (a ∷ setIn f rs) (setIn f rs)) ≡ tick (b && true) + length (setIn f rs)
-    go true = omega arith
-    go false = omega arith
-set-in-pick false f a rs = go (bit f a)
-  where
-    go : (b : Bool) → length (setIn f rs) ≡ tick (b && false) + length (setIn f rs)
-    go true = omega arith
-    go false = omega arith
+set-in-pick true f a rs = rw (and-true (bit f a)) (length-cond (bit f a) a (setIn f rs))
+set-in-pick false f a rs = rw (and-false (bit f a)) (omega arith)
 
 both-tally : (f g : List ℕ) (a k : ℕ) → length (setIn f (rowsFrom g a k)) ≡ tally (both f g) a k
 unfolding setIn rowsFrom tally both
@@ -287,7 +223,7 @@ both-tally f g a (suc k) = set-in-pick (bit g a) f a (rowsFrom g (a + 1) k) ∙ 
 
 subtracted-go : (n : ℕ) (f g : List ℕ) (r : ℕ) → Dec (r < n) → bit (subtracted n f g) r ≡ bit f r && not (ltb r n && bit g r)
 subtracted-go n f g r (yes h) = rw (lt-ltb r n h) (without-in n f g 0 r (omega arith) (omega arith))
-subtracted-go n f g r (no h) = rw (le-ltb r n (omega arith)) (without-out n f g 0 r (λ a b. h (omega arith)) ∙ and-true (bit f r))
+subtracted-go n f g r (no h) = rw (le-ltb r n (omega arith)) (without-out n f g 0 r (λ a b. h (omega arith)) ∙ sym (and-true (bit f r)))
 
 -- a row is set if it was, and is not one below n that g has
 pub bit-subtracted : (n : ℕ) (f g : List ℕ) (r : ℕ) → bit (subtracted n f g) r ≡ bit f r && not (ltb r n && bit g r)

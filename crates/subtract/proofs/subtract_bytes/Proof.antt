@@ -25,9 +25,11 @@ clear-bits-requires c κs =
 
 loop-again : tie.Need-loop-again Inv-loop μ-loop
 loop-again c =
-    let a = c .before .before .before .before .before .before .before .before .before .args in
-    let l = c .before .before .before .before .before .before .loop in
-    let b = subtracted-byte (a .first .now) (a .second .now) (l .i) (omega arith) (λ j. c .before .before .before .before .before .before .before .before .slice-known .given j .fits) (c .before .before .before .before .before .before .before .shared-slice-known .given (l .i) .fits) in
+    let at = c .before .before .before .before .before .before in
+    let start = at .before .before .before in
+    let l = at .loop in
+    let a = start .args in
+    let b = subtracted-byte (a .first .now) (a .second .now) (l .i) (omega arith) (λ j. at .before .before .slice-known .given j .fits) (at .before .shared-slice-known .given (l .i) .fits) in
     (omega arith, c .before .before .clear-bits .ensures ∙ rw (l .inv .1) (sym b))
 
 same-length : tie.Need-same-length Inv-loop μ-loop

@@ -15,9 +15,12 @@ returns c =
 
 returns-2 : tie.Need-returns-2
 returns-2 c =
-    let a = c .before .before .before .before .before .before .before .before .before .before .before .before .before .args in
-    let l = subtracted-last (a .first .now) (a .second .now) (a .rows) (omega arith) (λ j. c .before .before .before .before .before .before .before .before .before .before .before .before .slice-known .given j .fits) in
-    c .before .before .clear-bits .ensures ∙ rw (c .before .before .before .before .before .before .before .before .before .subtract-bytes .ensures, c .before .before .before .before .low-bits .ensures) (sym l)
+    let low = c .before .before .before .before in
+    let walked = low .before .before .before .before .before in
+    let known = walked .before .before .before in
+    let a = known .before .args in
+    let l = subtracted-last (a .first .now) (a .second .now) (a .rows) (omega arith) (λ j. known .slice-known .given j .fits) in
+    c .before .before .clear-bits .ensures ∙ rw (walked .subtract-bytes .ensures, low .low-bits .ensures) (sym l)
 
 pub subtract-rows-spec : {M : Type 1} → statement M
 subtract-rows-spec =
