@@ -18,9 +18,8 @@ use Rattle.refusal.specs.declared.Refusal.the-variants.{Short, Dict}
 use Rattle.stored_value.specs.Meaning.{Cell, null, value, Value, sameCell}
 use Rattle.refusal.specs.Reading.{Out, refuse, ok, check, andThen}
 use Rattle.stored_value.specs.Reading.{valueSize, valueOf}
-use Rattle.dictionary.specs.Promises.{Patterns}
-use Rattle.dictionary.specs.Layout.{Entry, mostValues1, mostValues2, mostBlocks, NullOnly, someHas, Distinct, NoExtents, valueBytes, entries1, hasNull, null1, body1, first, Past, Rises, NoneEmpty, entries2, block, blocks, directory, null2, body2}
-use Rattle.dictionary.specs.Reading.{counted, Dictionary, entriesOne, Listing, listings, past, isDue, entriesTwo, behind, blocksOf, blocked, nullOf, dictionary}
+use Rattle.dictionary.specs.Layout.{Entry, mostValues1, mostValues2, mostBlocks, Patterns, NullOnly, someHas, Distinct, NoExtents, valueBytes, entries1, hasNull, null1, body1, first, Past, Rises, NoneEmpty, entries2, block, blocks, directory, null2, body2}
+use Rattle.dictionary.specs.Reading.{countAtMost, Dictionary, entriesOne, Listing, listings, past, isDue, entriesTwo, behind, blocksOf, blocked, nullOf, dictionary}
 use Rattle.numbers.proofs.SameBytes.{same→eq}
 use Rattle.stored_value.proofs.Laws.{sameCell-sym, value-read}
 use Rattle.dictionary.proofs.LaidOut.{Apart, listingsOf, lastOf, Begins, behind-is}
@@ -43,9 +42,9 @@ on-byte : {A : Type 0} (P : List ℕ → Type 0) (s : List ℕ) (k : ℕ → Lis
     → ((v : ℕ) (s : List ℕ) → v < 256 → Bytes s → Good (k v s) → P (v ∷ s)) → P s
 on-byte P s k h g f = on-word 1 P s k h g (λ v s l h g. let e : v % 256 ≡ v = omega arith in rw e (f v s l h g))
 
-on-counted : {A : Type 0} (most : ℕ) (P : List ℕ → Type 0) (s : List ℕ) (k : ℕ → List ℕ → Out Refusal A) → Bytes s → Good (counted most s k)
+on-counted : {A : Type 0} (most : ℕ) (P : List ℕ → Type 0) (s : List ℕ) (k : ℕ → List ℕ → Out Refusal A) → Bytes s → Good (countAtMost most s k)
     → ((n : ℕ) (s : List ℕ) → n ≤ most → n ≤ limit → Bytes s → Good (k n s) → P (be 4 n ++ s)) → P s
-unfolding counted
+unfolding countAtMost
 on-counted most P s k h g f =
     on-word 4 P s _ h g (λ n s l h g. on-check _ _ _ g (λ p g. on-check _ _ _ g (λ q g.
     let p′ : n < signBit = ltb-true n signBit p in

@@ -18,9 +18,8 @@ use Rattle.refusal.specs.declared.Refusal.the-variants.{Short, Dict}
 use Rattle.stored_value.specs.Meaning.{types, Cell, null, value, sameCell}
 use Rattle.refusal.specs.Reading.{Out, refuse, ok, check, andThen}
 use Rattle.stored_value.specs.Reading.{valueOf}
-use Rattle.dictionary.specs.Promises.{Patterns}
-use Rattle.dictionary.specs.Layout.{Entry, mostValues1, mostValues2, mostBlocks, Valued, NullOnly, someHas, Distinct, NoExtents, valueBytes, entries1, hasNull, null1, body1, first, Past, Rises, NoneEmpty, entries2, block, blocks, directory, null2, body2}
-use Rattle.dictionary.specs.Reading.{counted, Dictionary, entriesOne, Listing, listings, past, isDue, entriesTwo, behind, blocksOf, blocked, nullOf, dictionary}
+use Rattle.dictionary.specs.Layout.{Entry, mostValues1, mostValues2, mostBlocks, Patterns, Valued, NullOnly, someHas, Distinct, NoExtents, valueBytes, entries1, hasNull, null1, body1, first, Past, Rises, NoneEmpty, entries2, block, blocks, directory, null2, body2}
+use Rattle.dictionary.specs.Reading.{countAtMost, Dictionary, entriesOne, Listing, listings, past, isDue, entriesTwo, behind, blocksOf, blocked, nullOf, dictionary}
 use Rattle.numbers.proofs.SameBytes.{same-refl}
 use Rattle.stored_value.proofs.Laws.{value-laid, sameCell-sym}
 
@@ -82,8 +81,8 @@ extents-cut : (xs ys : List Entry) → NoExtents (xs ++ ys) → NoExtents xs × 
 extents-cut [] ys p = (tt, p)
 extents-cut (x ∷ xs) ys p = let q = extents-cut xs ys (p .1) in ((p .0, q .0), q .1)
 
-counted-laid : {A : Type 0} (most n : ℕ) (s : List ℕ) (k : ℕ → List ℕ → Out Refusal A) → n ≤ most → n ≤ limit → counted most (be 4 n ++ s) k ≡ k n s
-unfolding counted check
+counted-laid : {A : Type 0} (most n : ℕ) (s : List ℕ) (k : ℕ → List ℕ → Out Refusal A) → n ≤ most → n ≤ limit → countAtMost most (be 4 n ++ s) k ≡ k n s
+unfolding countAtMost check
 counted-laid most n s k h l =
     number-laid big 4 (refuse Short) n s _ (omega arith) ∙ rw (lt-ltb n signBit (omega arith), le-leb n most h)
 

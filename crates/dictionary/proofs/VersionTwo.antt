@@ -23,10 +23,10 @@ use Rattle.dictionary.specs.declared.Directory.{Directory}
 use Rattle.dictionary.specs.declared.Block.{Block}
 use Rattle.dictionary.specs.declared.Blocks.{Blocks}
 use Rattle.dictionary.specs.declared.AllEntries.{AllEntries}
-use Rattle.dictionary.specs.declared.Value.{Value}
+use Rattle.dictionary.specs.declared.ValueEnd.{ValueEnd}
 use Rattle.dictionary.specs.Layout.{Entry, mostBlocks}
 use Rattle.dictionary.specs.Reading.{Dictionary, Listing, listings, past, isDue, entriesTwo, behind, blocksOf, blocked}
-use Rattle.dictionary.specs.Promises.{entryOf, position, cursor, EntriesFrom, ValueAt, CountAt, Listed, DirectoryAt, bytesAt, cellAt, BlockEntriesAt, BlockAt, BlocksAt, AllEntriesAt}
+use Rattle.dictionary.specs.Promises.{entryOf, position, cursor, EntriesFrom, ValueAt, CountAt, ListingsFrom, DirectoryAt, bytesAt, cellAt, BlockEntriesAt, BlockAt, BlocksAt, AllEntriesAt}
 use Rattle.dictionary.proofs.Steps.{offset-behind, drop-past, value-ok, value-refused, word-at, word-short, stand-cons, stand-opening}
 
 -- ---- the directory: i of the n listings from `start` on are read, and `rest` is left
@@ -38,7 +38,7 @@ pub record Listings (t n : ℕ) (start : List ℕ) (i : ℕ) (rest : List ℕ) :
   pub ds : List Listing
   pub so : (f : List Listing → List ℕ → Out Refusal Dictionary) → listings t n [] start f ≡ listings t (n - i) ds rest f
   pub count : length ds ≡ i
-  pub stand : (more : List Listing) → Listed t rest more → Listed t start (ds ++ more)
+  pub stand : (more : List Listing) → ListingsFrom t rest more → ListingsFrom t start (ds ++ more)
 
 pub listings-first : (t n : ℕ) (s : List ℕ) → Listings t n s 0 s
 listings-first t n s = let z : n - 0 ≡ n = omega arith in record { ds = []; so = λ f. rw z; count = refl; stand = λ more h. h }
@@ -60,8 +60,8 @@ module _ {t n : ℕ} {start : List ℕ} {i : ℕ} {rest : List ℕ} (st : Listin
   unfolding listings
   listings-done e f = let z : n - i ≡ 0 = omega arith in st .so f ∙ simp z
 
-  pub listings-stand : Listed t start (st .ds)
-  unfolding Listed
+  pub listings-stand : ListingsFrom t start (st .ds)
+  unfolding ListingsFrom
   listings-stand = rw append-nil at (st .stand [] tt)
 
   module _ (lt : i < n) where
@@ -77,7 +77,7 @@ module _ {t n : ℕ} {start : List ℕ} {i : ℕ} {rest : List ℕ} (st : Listin
       listings-short h f = listings-unrolled f ∙ word-short 4 rest k _ h
 
       pub listings-next : k + 4 ≤ length rest → Listings t n start (i + 1) (drop (k + 4) rest)
-      unfolding Listed
+      unfolding ListingsFrom
       listings-next h =
           let c : n - i - 1 ≡ n - (i + 1) = omega arith in
           record {
@@ -185,7 +185,7 @@ module _ {t n : ℕ} {before due : Cell} {start : List ℕ} {i : ℕ} {b h : Cel
 
 -- the same at the code's positions: the value stands from p to e
 pub in-block-on : {t n : ℕ} {before due : Cell} {start : List ℕ} {i : ℕ} {b h : Cell} (s : List ℕ) (p e : ℕ) → InBlock t n before due start i b h (drop p s) → i < n
-    → ValueAt t s p (Value.To (position e)) → {x y : Bool} → x ≡ past t b (take (e - p) (drop p s)) → x ≡ true → y ≡ isDue h (take (e - p) (drop p s)) → y ≡ true → e + 8 ≤ length s
+    → ValueAt t s p (ValueEnd.To (position e)) → {x y : Bool} → x ≡ past t b (take (e - p) (drop p s)) → x ≡ true → y ≡ isDue h (take (e - p) (drop p s)) → y ≡ true → e + 8 ≤ length s
     → InBlock t n before due start (i + 1) (cellAt s (span p e)) null (drop (e + 8) s)
 in-block-on s p e st lt v g c d m r =
     let l : e - p + 8 ≤ length (drop p s) = simp length-drop (omega arith) in
@@ -193,13 +193,13 @@ in-block-on s p e st lt v g c d m r =
 
 -- ---- a block: its listing stands at q, with a value that ends at e, and the block at p
 
-listed-first : (t : ℕ) (s : List ℕ) (k : ℕ) (d : Listing) (ds : List Listing) → valueSize Short Dict t s ≡ ok k → Listed t s (d ∷ ds)
-    → (d ≡ listing k s) × (k + 4 ≤ length s) × Listed t (drop (k + 4) s) ds
-unfolding Listed
+listed-first : (t : ℕ) (s : List ℕ) (k : ℕ) (d : Listing) (ds : List Listing) → valueSize Short Dict t s ≡ ok k → ListingsFrom t s (d ∷ ds)
+    → (d ≡ listing k s) × (k + 4 ≤ length s) × ListingsFrom t (drop (k + 4) s) ds
+unfolding ListingsFrom
 listed-first t s k d ds e l = let q : l .0 ≡ k = cc (l .1) in (rw q at (l .3), rw q at (l .2), rw q at (l .4))
 
-pub listed-lost : (t : ℕ) (s : List ℕ) (q : ℕ) (r : Refusal) (d : Listing) (ds : List Listing) → ValueAt t s q (Value.Refused r) → Listed t (drop q s) (d ∷ ds) → ⊥
-unfolding Listed
+pub listed-lost : (t : ℕ) (s : List ℕ) (q : ℕ) (r : Refusal) (d : Listing) (ds : List Listing) → ValueAt t s q (ValueEnd.Refused r) → ListingsFrom t (drop q s) (d ∷ ds) → ⊥
+unfolding ListingsFrom
 listed-lost t s q r d ds e l = let z : _≡_ {A = ℕ} 0 1 = cc (l .1) in omega arith
 
 behind-at : (s : List ℕ) (base p : ℕ) → base ≤ p → p ≤ length s → behind (drop base s) (drop p s) ≡ p - base
@@ -210,11 +210,11 @@ behind-at s base p h l = simp length-drop (omega arith)
 pub record AtBlock (t : ℕ) (s : List ℕ) (base q p e : ℕ) (before : Span) (d : Listing) (ds : List Listing) : Type 0 where
   pub from : base ≤ p
   pub to : p ≤ length s
-  pub value : ValueAt t s q (Value.To (position e))
-  pub listed : Listed t (drop q s) (d ∷ ds)
+  pub value : ValueAt t s q (ValueEnd.To (position e))
+  pub listed : ListingsFrom t (drop q s) (d ∷ ds)
 
 module _ {t : ℕ} {s : List ℕ} {base q p e : ℕ} {before : Span} {d : Listing} {ds : List Listing} (here : AtBlock t s base q p e before d ds) where
-  pub block-listed : (e + 4 ≤ length s) × Listed t (drop (e + 4) s) ds
+  pub block-listed : (e + 4 ≤ length s) × ListingsFrom t (drop (e + 4) s) ds
   block-listed =
       let h = listed-first t (drop q s) (e - q) d ds (here .value .0) (here .listed) in
       let r = rw length-drop at (h .1) in
@@ -284,14 +284,14 @@ block-stand t s p es h m c l st =
 
 pub record InBlocks (t : ℕ) (ds : List Listing) (base : List ℕ) (i : ℕ) (dir : List ℕ) (before : Cell) (sum : ℕ) (rest : List ℕ) : Type 0 where
   pub left : List Listing
-  pub listed : Listed t dir left
+  pub listed : ListingsFrom t dir left
   pub count : length left ≡ length ds - i
   pub es : List Entry
   pub so : (f : List Entry → List ℕ → Out Refusal Dictionary) → blocksOf t ds base null [] base f ≡ blocksOf t left base before es rest f
   pub total : length es ≡ sum
   pub stand : (more : List Entry) → EntriesFrom t true 0 rest more → EntriesFrom t true 0 base (es ++ more)
 
-pub in-blocks-first : (t : ℕ) (ds : List Listing) (base dir : List ℕ) → Listed t dir ds → InBlocks t ds base 0 dir null 0 base
+pub in-blocks-first : (t : ℕ) (ds : List Listing) (base dir : List ℕ) → ListingsFrom t dir ds → InBlocks t ds base 0 dir null 0 base
 in-blocks-first t ds base dir l = record { left = ds; listed = l; count = omega arith; es = []; so = λ f. refl; total = refl; stand = λ more g. g }
 
 module _ {t : ℕ} {ds : List Listing} {base : List ℕ} {i : ℕ} {dir : List ℕ} {before : Cell} {sum : ℕ} {rest : List ℕ}
@@ -313,7 +313,7 @@ module _ {t : ℕ} {ds : List Listing} {i sum : ℕ} (s : List ℕ) (base q p : 
       → (f : List Entry → List ℕ → Out Refusal Dictionary) → blocksOf t ds (drop base s) null [] (drop base s) f ≡ refuse r
   in-blocks-refused {r} x f = st .so f ∙ by (st .left) (st .listed) (omega (arith, st .count))
     where
-      by : (left : List Listing) → Listed t (drop q s) left → 0 < length left → blocksOf t left (drop base s) (cellAt s before) (st .es) (drop p s) f ≡ refuse r
+      by : (left : List Listing) → ListingsFrom t (drop q s) left → 0 < length left → blocksOf t left (drop base s) (cellAt s before) (st .es) (drop p s) f ≡ refuse r
       by [] l z = absurd (omega arith)
       by (d ∷ left) l z = x d left l (st .es) f
 
@@ -321,7 +321,7 @@ module _ {t : ℕ} {ds : List Listing} {i sum : ℕ} (s : List ℕ) (base q p : 
       → InBlocks t ds (drop base s) (i + 1) (drop listing s) (cellAt s last) (sum + number) (drop next s)
   in-blocks-next listing next number last x = by (st .left) (st .listed) (st .count) (st .so)
     where
-      by : (left : List Listing) → Listed t (drop q s) left → length left ≡ length ds - i
+      by : (left : List Listing) → ListingsFrom t (drop q s) left → length left ≡ length ds - i
           → ((f : List Entry → List ℕ → Out Refusal Dictionary) → blocksOf t ds (drop base s) null [] (drop base s) f ≡ blocksOf t left (drop base s) (cellAt s before) (st .es) (drop p s) f)
           → InBlocks t ds (drop base s) (i + 1) (drop listing s) (cellAt s last) (sum + number) (drop next s)
       by [] l c so = absurd (omega arith)

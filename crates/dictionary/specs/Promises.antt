@@ -21,7 +21,7 @@ use Rattle.dictionary.specs.declared.Summary.{Summary}
 use Rattle.dictionary.specs.declared.Checked.{Checked}
 use Rattle.dictionary.specs.declared.Checked.the-variants.{Found}
 use Rattle.dictionary.specs.declared.EntryAt.{EntryAt}
-use Rattle.dictionary.specs.declared.Value.{Value}
+use Rattle.dictionary.specs.declared.ValueEnd.{ValueEnd}
 use Rattle.dictionary.specs.declared.Count.{Count}
 use Rattle.dictionary.specs.declared.Null.{Null}
 use Rattle.dictionary.specs.declared.Fixed.{Fixed}
@@ -32,7 +32,7 @@ use Rattle.dictionary.specs.declared.Block.{Block}
 use Rattle.dictionary.specs.declared.Blocks.{Blocks}
 use Rattle.dictionary.specs.declared.AllEntries.{AllEntries}
 use Rattle.dictionary.specs.Layout.{Entry, someHas}
-use Rattle.dictionary.specs.Reading.{Dictionary, Listing, counted, nullOf, entriesOne, listings, entriesTwo, blocksOf, blocked, dictionary}
+use Rattle.dictionary.specs.Reading.{Dictionary, Listing, countAtMost, nullOf, entriesOne, listings, entriesTwo, blocksOf, blocked, dictionary}
 
 -- ---- where entries stand
 
@@ -65,11 +65,6 @@ EntriesFrom t version2 left s (e ∷ es) =
 -- the entries es stand one after another at a cursor
 abbrev pub EntriesAt : ℕ → Bool → List ℕ → Cursor → List Entry → Type 0
 EntriesAt t version2 s c es = EntriesFrom t version2 (c .left) (drop (c .at .0) s) es
-
--- both numbers of each entry are 32-bit patterns
-abbrev pub Patterns : List Entry → Type 0
-Patterns [] = Unit {0}
-Patterns (e ∷ es) = (e .offset < 4294967296) × (e .extent < 4294967296) × Patterns es
 
 -- ---- `read`: the dictionary of any bytes
 
@@ -173,9 +168,9 @@ pub record NextAt (t : ℕ) (version2 : Bool) (s : List ℕ) (c : Cursor) (a : E
 -- ---- the private functions: fields
 
 -- a value at a position, and where it ends
-abbrev pub ValueAt : ℕ → List ℕ → ℕ → Value → Type 0
-ValueAt t s at (Value.Refused r) = valueSize Short Dict t (drop at s) ≡ refuse r
-ValueAt t s at (Value.To e) = (valueSize Short Dict t (drop at s) ≡ ok (e .0 - at)) × (at < e .0) × (e .0 ≤ length s)
+abbrev pub ValueAt : ℕ → List ℕ → ℕ → ValueEnd → Type 0
+ValueAt t s at (ValueEnd.Refused r) = valueSize Short Dict t (drop at s) ≡ refuse r
+ValueAt t s at (ValueEnd.To e) = (valueSize Short Dict t (drop at s) ≡ ok (e .0 - at)) × (at < e .0) × (e .0 ≤ length s)
 
 -- whether i entries of version 1 that stand at a position have the value v
 abbrev pub HasValueAt : ℕ → ℕ → List ℕ → ℕ → List ℕ → Bool → Type 0
@@ -183,9 +178,9 @@ HasValueAt t i s at v r = (n : ℕ) (es : List Entry) → EntriesFrom t false n 
 
 -- a count at a position
 abbrev pub CountAt : ℕ → List ℕ → ℕ → Count → Type 0
-CountAt most s at (Count.Refused r) = (f : ℕ → List ℕ → Out Refusal Dictionary) → counted most (drop at s) f ≡ refuse r
+CountAt most s at (Count.Refused r) = (f : ℕ → List ℕ → Out Refusal Dictionary) → countAtMost most (drop at s) f ≡ refuse r
 CountAt most s at (Count.Is n) =
-    ((f : ℕ → List ℕ → Out Refusal Dictionary) → counted most (drop at s) f ≡ f n (drop (at + 4) s)) × (at + 4 ≤ length s) × (n ≤ most)
+    ((f : ℕ → List ℕ → Out Refusal Dictionary) → countAtMost most (drop at s) f ≡ f n (drop (at + 4) s)) × (at + 4 ≤ length s) × (n ≤ most)
 
 -- an offset at a position
 abbrev pub OffsetAt : List ℕ → ℕ → ℤ → Type 0
@@ -212,17 +207,17 @@ FixedOf s (Fixed.Fields version2 has rows values) =
 -- ---- version 2
 
 -- a directory's listings stand one after another at the front of s
-unfoldable pub Listed : ℕ → List ℕ → List Listing → Type 0
-Listed t s [] = Unit {0}
-Listed t s (d ∷ ds) =
-    (k : ℕ) × (valueSize Short Dict t s ≡ ok k) × (k + 4 ≤ length s) × (d ≡ record { first = take k s; at = beAt 4 s k }) × Listed t (drop (k + 4) s) ds
+unfoldable pub ListingsFrom : ℕ → List ℕ → List Listing → Type 0
+ListingsFrom t s [] = Unit {0}
+ListingsFrom t s (d ∷ ds) =
+    (k : ℕ) × (valueSize Short Dict t s ≡ ok k) × (k + 4 ≤ length s) × (d ≡ record { first = take k s; at = beAt 4 s k }) × ListingsFrom t (drop (k + 4) s) ds
 
 -- n listings at a position, and where they end
 abbrev pub DirectoryAt : ℕ → ℕ → List ℕ → ℕ → Directory → Type 0
 DirectoryAt t n s at (Directory.Refused r) = (f : List Listing → List ℕ → Out Refusal Dictionary) → listings t n [] (drop at s) f ≡ refuse r
 DirectoryAt t n s at (Directory.Ends next) =
     (ds : List Listing) × ((f : List Listing → List ℕ → Out Refusal Dictionary) → listings t n [] (drop at s) f ≡ f ds (drop (next .0) s))
-    × Listed t (drop at s) ds × (length ds ≡ n) × (next .0 ≤ length s)
+    × ListingsFrom t (drop at s) ds × (length ds ≡ n) × (next .0 ≤ length s)
 
 -- a span's bytes, and the value that it has: none where it has no bytes
 abbrev pub bytesAt : List ℕ → Span → List ℕ
@@ -244,10 +239,10 @@ BlockEntriesAt t n before due s at (BlockEntries.To next last) =
 -- the block at p, whose listing stands at q: where both end, its last value, and its number of entries
 abbrev pub BlockAt : ℕ → Span → List ℕ → ℕ → ℕ → ℕ → Block → Type 0
 BlockAt t before s base q p (Block.Refused r) =
-    (d : Listing) (ds : List Listing) → Listed t (drop q s) (d ∷ ds)
+    (d : Listing) (ds : List Listing) → ListingsFrom t (drop q s) (d ∷ ds)
     → (es : List Entry) (f : List Entry → List ℕ → Out Refusal Dictionary) → blocksOf t (d ∷ ds) (drop base s) (cellAt s before) es (drop p s) f ≡ refuse r
 BlockAt t before s base q p (Block.Ends listing next last number) =
-    ((d : Listing) (ds : List Listing) → Listed t (drop q s) (d ∷ ds) → Listed t (drop (listing .0) s) ds
+    ((d : Listing) (ds : List Listing) → ListingsFrom t (drop q s) (d ∷ ds) → ListingsFrom t (drop (listing .0) s) ds
     × ((new : List Entry) × ((es : List Entry) (f : List Entry → List ℕ → Out Refusal Dictionary)
     → blocksOf t (d ∷ ds) (drop base s) (cellAt s before) es (drop p s) f ≡ blocksOf t ds (drop base s) (cellAt s last) (es ++ new) (drop (next .0) s) f)
     × (length new ≡ number) × ((more : List Entry) → EntriesFrom t true 0 (drop (next .0) s) more → EntriesFrom t true 0 (drop p s) (new ++ more))))
@@ -256,10 +251,10 @@ BlockAt t before s base q p (Block.Ends listing next last number) =
 -- b blocks from base on, whose directory stands at dir: where the last ends, and the number of entries in all
 abbrev pub BlocksAt : ℕ → ℕ → List ℕ → ℕ → ℕ → Blocks → Type 0
 BlocksAt t b s dir base (Blocks.Refused r) =
-    (ds : List Listing) → Listed t (drop dir s) ds → length ds ≡ b
+    (ds : List Listing) → ListingsFrom t (drop dir s) ds → length ds ≡ b
     → (f : List Entry → List ℕ → Out Refusal Dictionary) → blocksOf t ds (drop base s) null [] (drop base s) f ≡ refuse r
 BlocksAt t b s dir base (Blocks.End next sum) =
-    ((ds : List Listing) → Listed t (drop dir s) ds → length ds ≡ b
+    ((ds : List Listing) → ListingsFrom t (drop dir s) ds → length ds ≡ b
     → (es : List Entry) × ((f : List Entry → List ℕ → Out Refusal Dictionary) → blocksOf t ds (drop base s) null [] (drop base s) f ≡ f es (drop (next .0) s))
     × (length es ≡ sum) × EntriesFrom t true 0 (drop base s) es)
     × (base ≤ next .0) × (next .0 ≤ length s)
