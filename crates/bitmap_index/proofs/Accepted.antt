@@ -18,14 +18,15 @@ use Rattle.row_field.proofs.RowLists.{rising-more, rising-below}
 use Rattle.row_field.proofs.Marks.{member, member-before, member-past, length-markAll, bit-markAll, rows-of-field}
 use Rattle.row_field.proofs.Laws.{tick, bytes-zeros}
 use Rattle.row_field.proofs.Counts.{count-full, length-zeroed, bit-zeroed}
-use Rattle.stored_value.specs.Meaning.{Cell, null, value, sameCell}
+use Rattle.stored_value.specs.Meaning.{types, Cell, null, value, sameCell}
 use Rattle.refusal.specs.Reading.{ok}
 use Rattle.stored_value.proofs.Laws.{sameCell-refl, sameCell→eq, sameCell-sym}
 use Rattle.dictionary.specs.Layout as layout
 use Rattle.dictionary.specs.Promises.{Patterns}
 use Rattle.dictionary.specs.Layout.{Entry, Valued, NullOnly, someHas, Distinct}
 use Rattle.dictionary.specs.Reading.{Dictionary}
-use Rattle.dictionary.proofs.Theorems.{WasLaidOut, in-one, in-two, read-was-laid-out as was-laid-out, Once, one-has-each-once, two-has-each-once, region-bytes}
+use Rattle.dictionary.specs.Claims.{LaidOut, in-one, in-two, Once}
+use Rattle.dictionary.proofs.Theorems.{read-is-laid-out, one-has-each-once, two-has-each-once, each-stands-once, region-is-bytes}
 use Rattle.bitmap_index.specs.Meaning.{Cells}
 use Rattle.bitmap_index.specs.Layout.{rowsWith, ExactRows, Covers, ColumnEntries, ColumnBody, version1, version2}
 use Rattle.bitmap_index.specs.Claims.{times, RowsOfEach, OnePlaceEach}
@@ -302,7 +303,7 @@ entries : {cells : List Cell} {region : List ℕ} {nulls es : List Entry} → Nu
     → ColumnEntries cells region nulls es
 entries o r c = record { null-only = o; rows = r; covers = c }
 
-module _ (t : ℕ) (field : List ℕ) (k : t < 12) where
+module _ (t : ℕ) (field : List ℕ) (k : t < types) where
   one-body : (rows : ℕ) (nulls es : List Entry) (region : List ℕ) → Distinct t es → NullOnly nulls → layout.NoExtents (nulls ++ es) → Patterns (nulls ++ es)
       → rows ≤ limit → length es ≤ layout.mostValues1 → length (layout.body1 rows nulls es region) ≤ limit → Bytes region
       → AllRowsPlaced field (record { rows = rows; entries = nulls ++ es; region = region }) → ColumnBody t (columnOf region (nulls ++ es) rows) (layout.body1 rows nulls es region)
@@ -330,7 +331,7 @@ module _ (t : ℕ) (field : List ℕ) (k : t < 12) where
       subst (λ (j : ℕ). ColumnBody t cells (layout.body2 j nulls bs region)) e
       (version2 nulls bs region (k, typed) (entries o (filled-placed rows all region field b p once w) (filled-covers rows all region field b p once w)) ne r (rw e hr) l m z)
 
-  filled-body : (body : List ℕ) (d : Dictionary) → length body ≤ limit → WasLaidOut t body d → Bytes (d .region) → AllRowsPlaced field d
+  filled-body : (body : List ℕ) (d : Dictionary) → length body ≤ limit → LaidOut t body d → Bytes (d .region) → AllRowsPlaced field d
       → ColumnBody t (columnOf (d .region) (d .entries) (d .rows)) body
   filled-body body d s (in-one rows nulls es region a o x p hr l q c) h w =
       rw (q, c) (one-body rows nulls es region a o x p hr l (rw c at s) (subst (λ (y : Dictionary). Bytes (y .region)) q h) (subst (AllRowsPlaced field) q w))
@@ -341,21 +342,22 @@ module _ (t : ℕ) (field : List ℕ) (k : t < 12) where
 pub passed-body : (t : ℕ) (body field : List ℕ) (n : ℕ) → Bytes body → (p : AuditPassed t body field n) → ColumnBody t (columnOf (p .read .region) (p .read .entries) (p .read .rows)) body
 passed-body t body field n b p =
     let d : Dictionary = p .read in
-    let laid = was-laid-out t body d b (p .known) (p .short) (p .is) in
-    filled-body t field (p .known) body d (p .short) laid (region-bytes t body d b laid) (p .filled)
+    let (known, laid) = read-is-laid-out t body d b (p .short) (p .is) in
+    filled-body t field known body d (p .short) laid (region-is-bytes t body d b laid) (p .filled)
 
 -- ---- each of its rows has exactly one place
 
-laid-once : (t : ℕ) (body : List ℕ) (d : Dictionary) → WasLaidOut t body d → Once (d .entries) × Patterns (d .entries)
-laid-once t body d (in-one rows nulls es region a o x p hr l q c) = rw q (one-has-each-once t nulls es a o, p)
-laid-once t body d (in-two rows nulls bs region o ne r p hr l m z q c) = rw q (two-has-each-once t nulls (joined bs) r o, p)
+laid-patterns : (t : ℕ) (body : List ℕ) (d : Dictionary) → LaidOut t body d → Patterns (d .entries)
+laid-patterns t body d (in-one rows nulls es region a o x p hr l q c) = rw q p
+laid-patterns t body d (in-two rows nulls bs region o ne r p hr l m z q c) = rw q p
 
 pub passed-once : (t : ℕ) (body field : List ℕ) (n : ℕ) → Bytes body → AuditPassed t body field n → OnePlaceEach t body n
 passed-once t body field n b p =
     let d : Dictionary = p .read in
-    let laid = was-laid-out t body d b (p .known) (p .short) (p .is) in
-    let (once, patterns) = laid-once t body d laid in
-    let bytes = region-bytes t body d b laid in
+    let (known, laid) = read-is-laid-out t body d b (p .short) (p .is) in
+    let once = each-stands-once t body d laid in
+    let patterns = laid-patterns t body d laid in
+    let bytes = region-is-bytes t body d b laid in
     let e = p .rows in
     record {
       read = d;

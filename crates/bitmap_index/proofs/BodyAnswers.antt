@@ -12,7 +12,7 @@ use Rattle.refusal.specs.Meaning.{limit}
 use Rattle.refusal.specs.declared.Refusal.{Refusal}
 use Rattle.roaring.specs.Layout.{fourBytes}
 use Rattle.row_field.specs.Meaning.{size, cleared}
-use Rattle.stored_value.specs.Meaning.{Cell, widths, width, Value, number, string, Literals}
+use Rattle.stored_value.specs.Meaning.{types, Cell, widths, width, Value, number, string, Literals}
 use Rattle.refusal.specs.Reading.{Out, ok, check, andThen}
 use Rattle.stored_value.proofs.Laws.{literals-laid}
 use Rattle.dictionary.specs.Promises.{Patterns}
@@ -41,7 +41,7 @@ width-le t = getD-upTo 8 widths t (omega arith)
 
 value-at-most : (t : ℕ) (v : List ℕ) → Value t v → length v ≤ 65539
 value-at-most t v (number w s l b o) = omega (arith, width-le t)
-value-at-most t v (string c s l b) = simp length-append (omega (arith, length-spelled big 4 (length c)))
+value-at-most t v (string c n s l b) = simp length-append (omega (arith, length-spelled big 4 (length c)))
 
 literals-at-most : (t : ℕ) (ls : List (List ℕ)) → Literals t ls → length (joined ls) ≤ 65539 * length ls
 literals-at-most t [] h = omega arith
@@ -53,13 +53,13 @@ asked-well : (t q : ℕ) (ls : List (List ℕ)) (body : List ℕ) → length bod
 unfolding wellFormed check andThen
 asked-well t q ls body h w =
     let l : length (joined ls) ≤ limit = omega (arith, literals-at-most t ls (w .3), w .2) in
-    rw (le-leb (length body) limit h, le-leb (length (joined ls)) limit l, lt-ltb t 12 (w .0), lt-ltb q questions (w .1), literals-laid t ls (w .3) (w .0) (w .2), w .4)
+    rw (le-leb (length body) limit h, le-leb (length (joined ls)) limit l, lt-ltb t types (w .0), lt-ltb q questions (w .1), literals-laid t ls (w .3) (w .2), w .4)
 
-module _ (t : ℕ) (cells : List Cell) (es : List Entry) (region body field : List ℕ) (k : t < 12) (s : length body ≤ limit)
+module _ (t : ℕ) (cells : List Cell) (es : List Entry) (region body field : List ℕ) (s : length body ≤ limit)
     (d : dictionary t body ≡ ok (record { rows = length cells; entries = es; region = region })) (w : Whole cells es region) (b : Bytes field) (h : size (length cells) ≤ length field) where
   prepared-well : prepared t body field ≡ ok (record { rows = length cells; entries = es; region = region })
   unfolding prepared roomFor check andThen
-  prepared-well = rw (le-leb (length body) limit s, lt-ltb t 12 k, d, le-leb (size (length cells)) (length field) h)
+  prepared-well = rw (le-leb (length body) limit s, d, le-leb (size (length cells)) (length field) h)
 
   audit-well : audit t body field ≡ ok (length cells)
   unfolding audit andThen

@@ -11,7 +11,7 @@ use Rattle.row_field.specs.Meaning.{size, bit}
 use Rattle.row_field.proofs.Marks.{length-markAll, bit-markAll}
 use Rattle.row_field.proofs.Laws.{bit-zeros}
 use Rattle.numbers.specs.Meaning.{same}
-use Rattle.stored_value.specs.Meaning.{Cell, null, value, Value, listed}
+use Rattle.stored_value.specs.Meaning.{types, Cell, null, value, Value, listed}
 use Rattle.refusal.specs.declared.Refusal.{Refusal}
 use Rattle.refusal.specs.Reading.{Out, ok}
 use Rattle.numbers.proofs.SameBytes.{same-refl, same→eq}
@@ -58,7 +58,7 @@ or-first true e = refl
 or-first false e = e
 
 -- the cells that every question chooses, or does not, as it does c, are c
-cell-told : (t : ℕ) (c d : Cell) → t < 12 → Typed t c → ((q : ℕ) (ls : List (List ℕ)) → Question t q ls → chosen q ls c ≡ chosen q ls d) → c ≡ d
+cell-told : (t : ℕ) (c d : Cell) → t < types → Typed t c → ((q : ℕ) (ls : List (List ℕ)) → Question t q ls → chosen q ls c ≡ chosen q ls d) → c ≡ d
 unfolding chosen listed takes
 cell-told t null null k v h = refl
 cell-told t null (value w) k v h =

@@ -26,7 +26,7 @@ use Rattle.refusal.specs.declared.Refusal.the-variants.{Missing}
 use Rattle.refusal.specs.Reading.{Out, ok, check, andThen}
 use Rattle.stored_value.proofs.Laws.{sameCell→eq, sameCell-sym}
 use Rattle.dictionary.specs.Layout.{Entry, someHas}
-use Rattle.dictionary.proofs.Theorems.{Once}
+use Rattle.dictionary.specs.Claims.{Once}
 use Rattle.bitmap_index.specs.Meaning.{chosen, scan, scanFrom}
 use Rattle.bitmap_index.specs.Layout.{rowsWith, EntryRows, single, bitmap, ExactRows, Covers}
 use Rattle.bitmap_index.specs.Reading.{extentOf, placeBitmap, placeAt, placeEntry, placeEntries, audited, chosenOf, answered}
