@@ -121,6 +121,10 @@ module _ {f g : List ℕ} {r : Bool} (a z : ℕ) where
   pub run-at-once : MarkedInTurn f g (run a z) r → MarkedRows f g (run a z) r
   run-at-once m = at-once a (a + (z + 1 - a)) (upTo-rising a (a + (z + 1 - a)) a (z + 1 - a) (omega arith) (omega arith)) m
 
+-- a byte's bits by another name
+pub bits-as : {f g : List ℕ} {r : Bool} {x y : ℕ} (a : ℕ) → x ≡ y → MarkedInTurn f g (byteRows x a 8) r → MarkedInTurn f g (byteRows y a 8) r
+bits-as a e m = rw (← e) m
+
 -- a last byte past the end
 pub tail-past : (g : List ℕ) (z : ℕ) → length g ≤ z / 8 → Past g (tail z)
 tail-past g z l =
