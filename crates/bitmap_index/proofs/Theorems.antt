@@ -19,7 +19,7 @@ use Rattle.bitmap_index.specs.Meaning.{Column, Question}
 use Rattle.bitmap_index.specs.Layout.{ColumnBody, version1, version2}
 use Rattle.bitmap_index.specs.Reading.{roomFor, prepared, audit, ask}
 use Rattle.bitmap_index.specs.Claims.{ColumnIsAnswered, AcceptedIsAColumn, OneColumn, EachRowHasOnePlace, AcceptedIsAnswered, AnsweredAsTheScan, ShortOfRoom, RefusedForRoom, RefusedIsNoColumn, AcceptedAreTheColumns, UnknownVersionIsRefused, UnknownVersionYieldsNothing}
-use Rattle.bitmap_index.proofs.ScanAnswers.{Whole}
+use Rattle.bitmap_index.proofs.ScanAnswers.{HasColumn}
 use Rattle.bitmap_index.proofs.BodyAnswers.{answers-as-scan, all-patterns, region1, region2}
 use Rattle.dictionary.specs.Layout.{body1, body2}
 use Rattle.dictionary.proofs.LaidOut.{one-laid, two-laid}
@@ -35,12 +35,12 @@ use Rattle.bitmap_index.proofs.Versions.{version-audited, version-audit
 pub column-is-answered : ColumnIsAnswered
 column-is-answered t cells body (version1 nulls es region c k x d n l z) field b h =
     let s : length region ≤ limit = omega (arith, region1 (length cells) nulls es region) in
-    let w : Whole cells (nulls ++ es) region = record { placed = k .rows; once = one-has-each-once t nulls es d (k .null-only); covers = k .covers; short = s } in
+    let w : HasColumn cells (nulls ++ es) region = record { placed = k .rows; once = one-has-each-once t nulls es d (k .null-only); covers = k .covers; short = s } in
     answers-as-scan t cells (nulls ++ es) region (body1 (length cells) nulls es region) field z
     (one-laid t (length cells) nulls es region (c .0) d (k .null-only) x (all-patterns region cells (nulls ++ es) s (k .rows)) n l) w b h
 column-is-answered t cells body (version2 nulls bs region c k x r n l m z) field b h =
     let s : length region ≤ limit = omega (arith, region2 (length cells) nulls bs region) in
-    let w : Whole cells (nulls ++ joined bs) region = record { placed = k .rows; once = two-has-each-once t nulls (joined bs) r (k .null-only); covers = k .covers; short = s } in
+    let w : HasColumn cells (nulls ++ joined bs) region = record { placed = k .rows; once = two-has-each-once t nulls (joined bs) r (k .null-only); covers = k .covers; short = s } in
     answers-as-scan t cells (nulls ++ joined bs) region (body2 (length cells) nulls bs region) field z
     (two-laid t (length cells) nulls bs region (c .0) (k .null-only) x r (all-patterns region cells (nulls ++ joined bs) s (k .rows)) n l m z) w b h
 

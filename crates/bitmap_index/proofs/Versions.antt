@@ -19,17 +19,11 @@ use Rattle.row_field.specs.Meaning.{cleared}
 use Rattle.bitmap_index.specs.Reading.{roomFor, prepared, audited, audit, auditBuffer, zeroedFrom, wellFormed, auditedAnswer, ask, askBuffer, answerBuffer}
 use Rattle.bitmap_index.proofs.AcceptedStages.{asked-back}
 
--- a refusal is handed on
-handed-on : {A B : Type 0} (b c : Bool) (r r′ r″ : Refusal) (k : A → Out Refusal B) → andThen (check b r (check c r′ (refuse r″))) k ≡ check b r (check c r′ (refuse r″))
+-- a test comes first, whatever follows what it guards
+then-check : {A B : Type 0} (b : Bool) (r : Refusal) (o : Out Refusal A) (k : A → Out Refusal B) → andThen (check b r o) k ≡ check b r (andThen o k)
 unfolding andThen check
-handed-on true true r r′ r″ k = refl
-handed-on true false r r′ r″ k = refl
-handed-on false c r r′ r″ k = refl
-
-passed-on : {A B : Type 0} (b : Bool) (r r′ : Refusal) (k : A → Out Refusal B) → andThen (check b r (refuse r′)) k ≡ check b r (refuse r′)
-unfolding andThen check
-passed-on true r r′ k = refl
-passed-on false r r′ k = refl
+then-check true r o k = refl
+then-check false r o k = refl
 
 untouched : (b c : Bool) (r r′ r″ : Refusal) (field : List ℕ) → zeroedFrom (check b r (check c r′ (refuse r″))) field ≡ field
 unfolding zeroedFrom check
@@ -49,12 +43,19 @@ module _ (t v : ℕ) (s field : List ℕ) (n : v ≡ 1 → ⊥) (n′ : v ≡ 2 
           rw (le-ltb t types h) (unknown-type-is-refused t (v ∷ s) h)
 
   version-prepared : prepared t (v ∷ s) field ≡ check (leb (length (v ∷ s)) limit) Limit (check (ltb t types) Literal (refuse Version))
-  unfolding prepared
-  version-prepared = rw version-read (ap (λ (o : Out Refusal Dictionary). check (leb (length (v ∷ s)) limit) Limit o) (passed-on (ltb t types) Literal Version (roomFor field)))
+  unfolding prepared andThen
+  version-prepared =
+      rw (version-read, then-check (ltb t types) Literal (refuse Version) (roomFor field))
 
   pub version-audited : audit t (v ∷ s) field ≡ check (leb (length (v ∷ s)) limit) Limit (check (ltb t types) Literal (refuse Version))
-  unfolding audit
-  version-audited = ap (λ (x : Out Refusal Dictionary). andThen x (λ d. audited d (cleared (d .rows) field))) version-prepared ∙ handed-on _ _ Limit Literal Version _
+  unfolding audit andThen
+  version-audited =
+      let k : Dictionary → Out Refusal ℕ = λ d. audited d (cleared (d .rows) field) in
+      rw (
+        version-prepared,
+        then-check (leb (length (v ∷ s)) limit) Limit (check (ltb t types) Literal (refuse Version)) k,
+        then-check (ltb t types) Literal (refuse Version) k,
+      )
 
   pub version-audited-buffer : auditBuffer t (v ∷ s) field ≡ field
   unfolding auditBuffer
