@@ -26,7 +26,7 @@ use Rattle.refusal.specs.declared.Refusal.the-variants.{Missing}
 use Rattle.refusal.specs.Reading.{Out, ok, check, andThen}
 use Rattle.stored_value.proofs.Laws.{sameCell→eq, sameCell-sym}
 use Rattle.dictionary.specs.Layout.{Entry, someHas}
-use Rattle.dictionary.proofs.Theorems.{Once}
+use Rattle.dictionary.specs.Claims.{Once}
 use Rattle.bitmap_index.specs.Meaning.{chosen, scan, scanFrom}
 use Rattle.bitmap_index.specs.Layout.{rowsWith, EntryRows, single, bitmap, ExactRows, Covers}
 use Rattle.bitmap_index.specs.Reading.{extentOf, placeBitmap, placeAt, placeEntry, placeEntries, audited, chosenOf, answered}
@@ -83,7 +83,7 @@ module _ (n : ℕ) (region f : List ℕ) (e : Entry) where
 -- ---- the rows of many entries
 
 -- a cell that stands among es is not one that does not
-other-cell : (c d : Cell) (es : List Entry) → someHas d es ≡ false → someHas c es ≡ true → sameCell d c ≡ false
+pub other-cell : (c d : Cell) (es : List Entry) → someHas d es ≡ false → someHas c es ≡ true → sameCell d c ≡ false
 other-cell c d es n y = go (sameCell d c) refl
   where
     go : (b : Bool) → sameCell d c ≡ b → b ≡ false
@@ -122,16 +122,16 @@ module _ (region : List ℕ) (cells : List Cell) (z : List ℕ) (short : length 
 -- ---- the audit
 
 -- what a body of the column says behind its dictionary
-pub record Whole (cells : List Cell) (es : List Entry) (region : List ℕ) : Type 0 where
+pub record HasColumn (cells : List Cell) (es : List Entry) (region : List ℕ) : Type 0 where
   pub placed : ExactRows region cells es
   pub once : Once es
   pub covers : Covers es cells
   pub short : length region ≤ limit
 
-module _ (cells : List Cell) (es : List Entry) (region field : List ℕ) (w : Whole cells es region) (b : Bytes field) (h : size (length cells) ≤ length field) where
-  pub audited-whole : audited (record { rows = length cells; entries = es; region = region }) (cleared (length cells) field) ≡ ok (length cells)
+module _ (cells : List Cell) (es : List Entry) (region field : List ℕ) (w : HasColumn cells es region) (b : Bytes field) (h : size (length cells) ≤ length field) where
+  pub column-audited : audited (record { rows = length cells; entries = es; region = region }) (cleared (length cells) field) ≡ ok (length cells)
   unfolding audited andThen check
-  audited-whole =
+  column-audited =
       let zero : List ℕ = cleared (length cells) field in
       let p : Cell → Bool = λ c. someHas c es in
       let full : List ℕ = markAll zero (rowsWhere p 0 cells) in
@@ -205,11 +205,11 @@ module _ (q : ℕ) (ls : List (List ℕ)) where
   unfolding scan
   scanned cells = rw zero-add at (scan-from 0 (replicate (size (length cells)) 0) 0 cells)
 
-  module _ (cells : List Cell) (es : List Entry) (region field : List ℕ) (w : Whole cells es region) (b : Bytes field) (h : size (length cells) ≤ length field) where
-    pub answered-whole : answered q ls (record { rows = length cells; entries = es; region = region }) (cleared (length cells) field)
+  module _ (cells : List Cell) (es : List Entry) (region field : List ℕ) (w : HasColumn cells es region) (b : Bytes field) (h : size (length cells) ≤ length field) where
+    pub column-answered : answered q ls (record { rows = length cells; entries = es; region = region }) (cleared (length cells) field)
         ≡ ok (record { buffer = scan q ls cells .field ++ drop (size (length cells)) field; matched = scan q ls cells .matched })
     unfolding answered andThen
-    answered-whole =
+    column-answered =
         let zero : List ℕ = cleared (length cells) field in
         let p : Cell → Bool = λ c. someHas c (chosenOf q ls es) in
         let e : rowsWhere p 0 cells ≡ rowsWhere (chosen q ls) 0 cells = rows-ext p (chosen q ls) 0 cells (chosen-covers es cells (w .covers)) in

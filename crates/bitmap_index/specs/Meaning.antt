@@ -6,7 +6,7 @@ use mathlib.Core.List.{List, [], _∷_}
 use lib.Dec.{eqb, ltb}
 use lib.ListN.{length, replicate}
 use Rattle.row_field.specs.Meaning.{size, mark}
-use Rattle.stored_value.specs.Meaning.{Cell, null, value, Value, listed, Literals}
+use Rattle.stored_value.specs.Meaning.{types, mostLiterals, Cell, null, value, Value, listed, Literals}
 
 -- ---- columns and questions
 
@@ -18,7 +18,7 @@ Cells t (value v ∷ cells) = Value t v × Cells t cells
 
 -- "A column is a type and, per row from 0, null or one stored value of it"
 abbrev pub Column : ℕ → List Cell → Type 0
-Column t cells = (t < 12) × Cells t cells
+Column t cells = (t < types) × Cells t cells
 
 -- how many questions there are
 abbrev pub questions : ℕ
@@ -36,7 +36,7 @@ takes q n = cond (ltb q 2) (eqb n 1) (cond (ltb q 4) true (eqb n 0))
 
 -- "A well-formed question has a known type and name and literals that fit, in form and number"
 abbrev pub Question : ℕ → ℕ → List (List ℕ) → Type 0
-Question t q ls = (t < 12) × (q < questions) × (length ls ≤ 1024) × Literals t ls × (takes q (length ls) ≡ true)
+Question t q ls = (t < types) × (q < questions) × (length ls ≤ mostLiterals) × Literals t ls × (takes q (length ls) ≡ true)
 
 -- ---- the scan: "It starts with a zero field and count 0 and takes the rows in order .. A chosen row sets its bit and adds 1"
 

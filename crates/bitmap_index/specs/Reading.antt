@@ -14,6 +14,7 @@ use Rattle.roaring.specs.declared.Extent.{Extent}
 use Rattle.roaring.specs.declared.Extent.the-variants.{AsLong, Exactly}
 use Rattle.roaring.specs.Reading.{measured}
 use Rattle.refusal.specs.Reading.{Out, refuse, ok, check, andThen}
+use Rattle.stored_value.specs.Meaning.{types, mostLiterals}
 use Rattle.stored_value.specs.Reading.{literals}
 use Rattle.dictionary.specs.Layout.{Entry}
 use Rattle.dictionary.specs.Reading.{Dictionary, dictionary}
@@ -53,10 +54,9 @@ placeEntries n region (e ∷ es) field = andThen (placeEntry n region field e) (
 unfoldable pub roomFor : List ℕ → Dictionary → Out Refusal Dictionary
 roomFor field d = check (leb (size (d .rows)) (length field)) Room (ok d)
 
--- all that comes before a byte of the field is written
+-- all that comes before a byte of the field is written. Of an unknown type, `dictionary` says LITERAL before it looks at a byte
 unfoldable pub prepared : ℕ → List ℕ → List ℕ → Out Refusal Dictionary
-prepared t body field =
-    check (leb (length body) limit) Limit (check (ltb t 12) Literal (andThen (dictionary t body) (roomFor field)))
+prepared t body field = check (leb (length body) limit) Limit (andThen (dictionary t body) (roomFor field))
 
 -- in a field that is zero: every row has its place, and else "a row never placed"
 unfoldable pub audited : Dictionary → List ℕ → Out Refusal ℕ
@@ -99,8 +99,8 @@ auditedAnswer q ls d zero = andThen (audited d zero) (λ rows. answered q ls d z
 -- the literals in turn, then their number
 unfoldable pub wellFormed : ℕ → ℕ → List ℕ → List ℕ → Out Refusal (List (List ℕ))
 wellFormed t q literal body =
-    check (leb (length body) limit && leb (length literal) limit) Limit (check (ltb t 12 && ltb q questions) Literal
-    (andThen (literals t 1024 [] literal) (λ ls. check (takes q (length ls)) Literal (ok ls))))
+    check (leb (length body) limit && leb (length literal) limit) Limit (check (ltb t types && ltb q questions) Literal
+    (andThen (literals t mostLiterals [] literal) (λ ls. check (takes q (length ls)) Literal (ok ls))))
 
 unfoldable pub ask : ℕ → ℕ → List ℕ → List ℕ → List ℕ → Out Refusal Answer
 ask t q literal body field =
