@@ -7,7 +7,7 @@ use mathlib.Core.Logic.{_⊎_, inl, inr, ⊎-elim}
 use native.Mathlib.Omega.{arith}
 use Rattle.index_file.specs.declared.Place.{Place}
 use Rattle.index_file.specs.declared.Place.the-variants.{Nowhere, At, Repeated}
-use Rattle.numbers.specs.Meaning.{All, same}
+use Rattle.numbers.specs.Meaning.{same}
 use Rattle.numbers.specs.declared.Position.{Position}
 use Rattle.numbers.proofs.SameBytes.{same-refl, same→eq}
 use Rattle.index_file.specs.Layout.{ListedIndex, ListedColumn, Named, IsColumn, IsKind, None, ListedOnce, Unlisted, no-column, no-kind}
