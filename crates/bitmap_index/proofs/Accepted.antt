@@ -18,19 +18,21 @@ use Rattle.row_field.proofs.RowLists.{rising-more, rising-below}
 use Rattle.row_field.proofs.Marks.{member, member-before, member-past, length-markAll, bit-markAll, rows-of-field}
 use Rattle.row_field.proofs.Laws.{tick, bytes-zeros}
 use Rattle.row_field.proofs.Counts.{count-full, length-zeroed, bit-zeroed}
-use Rattle.stored_value.specs.Meaning.{Cell, null, value, sameCell}
+use Rattle.stored_value.specs.Meaning.{types, Cell, null, value, sameCell}
 use Rattle.refusal.specs.Reading.{ok}
 use Rattle.stored_value.proofs.Laws.{sameCell-refl, sameCell→eq, sameCell-sym}
 use Rattle.dictionary.specs.Layout as layout
 use Rattle.dictionary.specs.Promises.{Patterns}
 use Rattle.dictionary.specs.Layout.{Entry, Valued, NullOnly, someHas, Distinct}
 use Rattle.dictionary.specs.Reading.{Dictionary}
-use Rattle.dictionary.proofs.Theorems.{WasLaidOut, in-one, in-two, read-was-laid-out as was-laid-out, Once, one-has-each-once, two-has-each-once, region-bytes}
+use Rattle.dictionary.specs.Claims.{LaidOut, in-one, in-two, Once}
+use Rattle.dictionary.proofs.Theorems.{read-is-laid-out, one-has-each-once, two-has-each-once, each-stands-once, region-is-bytes}
 use Rattle.bitmap_index.specs.Meaning.{Cells}
 use Rattle.bitmap_index.specs.Layout.{rowsWith, ExactRows, Covers, ColumnEntries, ColumnBody, version1, version2}
 use Rattle.bitmap_index.specs.Claims.{times, RowsOfEach, OnePlaceEach}
 use Rattle.bitmap_index.specs.Reading.{placeEntry, placeEntries}
 use Rattle.bitmap_index.proofs.Rows.{rowsWhere, rows-with, rows-rising, rows-below, member-rows, markAll-same}
+use Rattle.bitmap_index.proofs.ScanAnswers.{other-cell}
 use Rattle.bitmap_index.proofs.SameColumn.{cellAt, passes-at, Typed}
 use Rattle.refusal.proofs.Laws.{then-ok}
 use Rattle.bitmap_index.proofs.AcceptedStages.{rowsAt, EntryPlaced, entry-placed, AllRowsPlaced, AuditPassed}
@@ -61,8 +63,8 @@ table-at c a (suc k) (suc i) h =
     rw e (table-at c (a + 1) k i (omega arith))
 
 -- the entry has row r if it is the entry of the cell c, and else not
-abbrev pub Holds : List ℕ → Cell → ℕ → Entry → Type 0
-Holds region c r e = sameCell (e .cell) c ≡ member r (rowsAt region e)
+abbrev pub HasRowOf : List ℕ → Cell → ℕ → Entry → Type 0
+HasRowOf region c r e = sameCell (e .cell) c ≡ member r (rowsAt region e)
 
 -- ---- all places accepted
 
@@ -80,26 +82,16 @@ member-free f r (q ∷ rs) b h =
     rw (ne-eqb r q (λ e. let z : _≡_ {A = ℕ} 0 1 = cc (ap (bit f) e, g .0) in omega arith)) (member-free f r rs b (g .1))
 
 -- entries none of which is of the cell d, and none of which has row r
-others : (d : Cell) (region : List ℕ) (r : ℕ) (es : List Entry) → someHas d es ≡ false → All (λ e. member r (rowsAt region e) ≡ false) es → All (Holds region d r) es
+others : (d : Cell) (region : List ℕ) (r : ℕ) (es : List Entry) → someHas d es ≡ false → All (λ e. member r (rowsAt region e) ≡ false) es → All (HasRowOf region d r) es
 others d region r [] s m = tt
 others d region r (e ∷ es) s m =
     let h = or-neither (sameCell d (e .cell)) (someHas d es) s in
     (sameCell-sym (e .cell) d ∙ h .0 ∙ sym (m .0), others d region r es (h .1) (m .1))
 
--- a cell that stands among entries is not one that does not
-differs : (c d : Cell) (es : List Entry) → someHas d es ≡ false → someHas c es ≡ true → sameCell d c ≡ false
-differs c d es n y = go (sameCell d c) refl
-  where
-    go : (b : Bool) → sameCell d c ≡ b → b ≡ false
-    go true s =
-        let e = sameCell→eq d c s in
-        sym y ∙ ap (λ (x : Cell). someHas x es) (sym e) ∙ n
-    go false s = refl
-
 -- how many of the entries have row r
-abbrev pub places : List ℕ → List Entry → ℕ → ℕ
-places region [] r = 0
-places region (e ∷ es) r = tick (member r (rowsAt region e)) + places region es r
+abbrev pub manyHave : List ℕ → List Entry → ℕ → ℕ
+manyHave region [] r = 0
+manyHave region (e ∷ es) r = tick (member r (rowsAt region e)) + manyHave region es r
 
 -- the rows of each entry; a row stands once among rows that rise, or not at all
 abbrev eachRows : List ℕ → List Entry → List (List ℕ)
@@ -134,7 +126,7 @@ module _ (n : ℕ) (region full : List ℕ) where
   rows-of-each f [] a = tt
   rows-of-each f (e ∷ es) a = (a .0 .placed, rows-of-each (markAll f (rowsAt region e)) es (a .1))
 
-  times-each : (r : ℕ) (f : List ℕ) (es : List Entry) → AllPlaced n region full f es → times r (joined (eachRows region es)) ≡ places region es r
+  times-each : (r : ℕ) (f : List ℕ) (es : List Entry) → AllPlaced n region full f es → times r (joined (eachRows region es)) ≡ manyHave region es r
   times-each r f [] a = refl
   times-each r f (e ∷ es) a =
       times-append r (rowsAt region e) (joined (eachRows region es))
@@ -149,16 +141,16 @@ module _ (n : ℕ) (region full : List ℕ) where
   )
 
   -- a row that is set in the end and was not before is had by the entries of one cell, and there is one
-  one-place : (r : ℕ) (f : List ℕ) (es : List Entry) → Once es → r / 8 < length f → bit f r ≡ false → bit full r ≡ true → AllPlaced n region full f es
-      → (someHas (holder region es r) es ≡ true) × All (Holds region (holder region es r) r) es
+  one-holder : (r : ℕ) (f : List ℕ) (es : List Entry) → Once es → r / 8 < length f → bit f r ≡ false → bit full r ≡ true → AllPlaced n region full f es
+      → (someHas (holder region es r) es ≡ true) × All (HasRowOf region (holder region es r) r) es
   unfolding holder
-  one-place r f [] o h b g a = absurd (let z : _≡_ {A = ℕ} 0 1 = cc (ap (λ (x : List ℕ). bit x r) a) in omega arith)
-  one-place r f (e ∷ es) o h b g a = go (member r (rowsAt region e)) refl (one-place r (markAll f (rowsAt region e)) es (o .1) (rw length-markAll h))
+  one-holder r f [] o h b g a = absurd (let z : _≡_ {A = ℕ} 0 1 = cc (ap (λ (x : List ℕ). bit x r) a) in omega arith)
+  one-holder r f (e ∷ es) o h b g a = go (member r (rowsAt region e)) refl (one-holder r (markAll f (rowsAt region e)) es (o .1) (rw length-markAll h))
     where
       go : (m : Bool) → member r (rowsAt region e) ≡ m
           → (bit (markAll f (rowsAt region e)) r ≡ false → bit full r ≡ true → AllPlaced n region full (markAll f (rowsAt region e)) es
-          → (someHas (holder region es r) es ≡ true) × All (Holds region (holder region es r) r) es)
-          → (someHas (cond m (e .cell) (holder region es r)) (e ∷ es) ≡ true) × All (Holds region (cond m (e .cell) (holder region es r)) r) (e ∷ es)
+          → (someHas (holder region es r) es ≡ true) × All (HasRowOf region (holder region es r) r) es)
+          → (someHas (cond m (e .cell) (holder region es r)) (e ∷ es) ≡ true) × All (HasRowOf region (cond m (e .cell) (holder region es r)) r) (e ∷ es)
       go true m i =
           let s : bit (markAll f (rowsAt region e)) r ≡ true = bit-markAll f (rowsAt region e) r h ∙ rw (b, m) in (
             rw (sameCell-refl (e .cell)),
@@ -167,7 +159,7 @@ module _ (n : ℕ) (region full : List ℕ) where
       go false m i =
           let s : bit (markAll f (rowsAt region e)) r ≡ false = bit-markAll f (rowsAt region e) r h ∙ rw (b, m) in
           let (x, y) = i s g (a .1) in
-          (rw x (or-true (sameCell (holder region es r) (e .cell))), (differs (holder region es r) (e .cell) es (o .0) x ∙ sym m, y))
+          (rw x (or-true (sameCell (holder region es r) (e .cell))), (other-cell (holder region es r) (e .cell) es (o .0) x ∙ sym m, y))
 
 -- ---- rows in order are known by which they are
 
@@ -180,7 +172,7 @@ rising-same n xs ys s t h =
 -- ---- entries that fill a field with no row left over: the body of the column that they have
 
 module _ (n : ℕ) (region : List ℕ) (c : ℕ → Cell) where
-  member-go : (e : Entry) → Below n (rowsAt region e) → ((r : ℕ) → r < n → Holds region (c r) r e) → (r : ℕ) → Dec (r < n)
+  member-go : (e : Entry) → Below n (rowsAt region e) → ((r : ℕ) → r < n → HasRowOf region (c r) r e) → (r : ℕ) → Dec (r < n)
       → member r (rowsWhere (sameCell (e .cell)) 0 (table c 0 n)) ≡ member r (rowsAt region e)
   member-go e b h r (yes l) =
       member-rows (sameCell (e .cell)) r (table c 0 n)
@@ -191,7 +183,7 @@ module _ (n : ℕ) (region : List ℕ) (c : ℕ → Cell) where
       let w : Below n (rowsWhere (sameCell (e .cell)) 0 (table c 0 n)) = rw length-table at (rows-below (sameCell (e .cell)) (table c 0 n)) in
       member-past r n _ (omega arith) w ∙ sym (member-past r n (rowsAt region e) (omega arith) b)
 
-  entry-rows : (e : Entry) → Rising 0 n (rowsAt region e) → ((r : ℕ) → r < n → Holds region (c r) r e)
+  entry-rows : (e : Entry) → Rising 0 n (rowsAt region e) → ((r : ℕ) → r < n → HasRowOf region (c r) r e)
       → rowsWith (e .cell) 0 (table c 0 n) ≡ rowsAt region e
   entry-rows e s h =
       let p : Cell → Bool = sameCell (e .cell) in
@@ -200,7 +192,7 @@ module _ (n : ℕ) (region : List ℕ) (c : ℕ → Cell) where
       ∙ rising-same n rs (rowsAt region e) (rw length-table at (rows-rising p (table c 0 n))) s
       (λ r. member-go e (rising-below 0 n (rowsAt region e) s) h r (decLt r n))
 
-  all-placed : (full f : List ℕ) (es : List Entry) → AllPlaced n region full f es → ((r : ℕ) → r < n → All (Holds region (c r) r) es) → ExactRows region (table c 0 n) es
+  all-placed : (full f : List ℕ) (es : List Entry) → AllPlaced n region full f es → ((r : ℕ) → r < n → All (HasRowOf region (c r) r) es) → ExactRows region (table c 0 n) es
   all-placed full f [] a h = tt
   all-placed full f (e ∷ es) a h =
       (rw (entry-rows e (a .0 .rising) (λ r l. h r l .0)) (a .0 .placed), all-placed full (markAll f (rowsAt region e)) es (a .1) (λ r l. h r l .1))
@@ -210,41 +202,41 @@ covers-table es c a zero h = tt
 covers-table es c a (suc k) h = (h a (omega arith) (omega arith), covers-table es c (a + 1) k (λ r l m. h r (omega arith) (omega arith)))
 
 -- where the entries that have r are those of c, and each cell has one entry, r has as many places as c has entries: one or none
-places-none : (region : List ℕ) (es : List Entry) (c : Cell) (r : ℕ) → All (Holds region c r) es → someHas c es ≡ false → places region es r ≡ 0
-places-none region [] c r h s = refl
-places-none region (e ∷ es) c r h s =
+none-have : (region : List ℕ) (es : List Entry) (c : Cell) (r : ℕ) → All (HasRowOf region c r) es → someHas c es ≡ false → manyHave region es r ≡ 0
+none-have region [] c r h s = refl
+none-have region (e ∷ es) c r h s =
     let g = or-neither (sameCell c (e .cell)) (someHas c es) s in
     let m : member r (rowsAt region e) ≡ false = sym (h .0) ∙ sameCell-sym (e .cell) c ∙ g .0 in
-    rw m (omega (arith, places-none region es c r (h .1) (g .1)))
+    rw m (omega (arith, none-have region es c r (h .1) (g .1)))
 
-places-one : (region : List ℕ) (es : List Entry) (c : Cell) (r : ℕ) → Once es → All (Holds region c r) es → someHas c es ≡ true → places region es r ≡ 1
-places-one region [] c r o h s = absurd (let z : _≡_ {A = ℕ} 0 1 = cc in omega arith)
-places-one region (e ∷ es) c r o h s = go (sameCell (e .cell) c) refl (places-one region es c r (o .1) (h .1))
+one-has : (region : List ℕ) (es : List Entry) (c : Cell) (r : ℕ) → Once es → All (HasRowOf region c r) es → someHas c es ≡ true → manyHave region es r ≡ 1
+one-has region [] c r o h s = absurd (let z : _≡_ {A = ℕ} 0 1 = cc in omega arith)
+one-has region (e ∷ es) c r o h s = go (sameCell (e .cell) c) refl (one-has region es c r (o .1) (h .1))
   where
-    go : (b : Bool) → sameCell (e .cell) c ≡ b → (someHas c es ≡ true → places region es r ≡ 1) → tick (member r (rowsAt region e)) + places region es r ≡ 1
+    go : (b : Bool) → sameCell (e .cell) c ≡ b → (someHas c es ≡ true → manyHave region es r ≡ 1) → tick (member r (rowsAt region e)) + manyHave region es r ≡ 1
     go true x i =
         let m : member r (rowsAt region e) ≡ true = sym (h .0) ∙ x in
         let q = sameCell→eq (e .cell) c x in
-        rw m (omega (arith, places-none region es c r (h .1) (rw q at (o .0))))
+        rw m (omega (arith, none-have region es c r (h .1) (rw q at (o .0))))
     go false x i =
         let m : member r (rowsAt region e) ≡ false = sym (h .0) ∙ x in
         let y : someHas c es ≡ true = rw (sameCell-sym c (e .cell), x) at s in
         rw m (omega (arith, i y))
 
-places-past : (n : ℕ) (region full f : List ℕ) (es : List Entry) (r : ℕ) → n ≤ r → AllPlaced n region full f es → places region es r ≡ 0
-places-past n region full f [] r h a = refl
-places-past n region full f (e ∷ es) r h a =
-    rw (member-past r n (rowsAt region e) h (rising-below 0 n (rowsAt region e) (a .0 .rising))) (omega (arith, places-past n region full (markAll f (rowsAt region e)) es r h (a .1)))
+none-have-past : (n : ℕ) (region full f : List ℕ) (es : List Entry) (r : ℕ) → n ≤ r → AllPlaced n region full f es → manyHave region es r ≡ 0
+none-have-past n region full f [] r h a = refl
+none-have-past n region full f (e ∷ es) r h a =
+    rw (member-past r n (rowsAt region e) h (rising-below 0 n (rowsAt region e) (a .0 .rising))) (omega (arith, none-have-past n region full (markAll f (rowsAt region e)) es r h (a .1)))
 
 module _ (n : ℕ) (es : List Entry) (region field : List ℕ) (b : Bytes region) (p : Patterns es) (o : Once es) (w : AllRowsPlaced field (record { rows = n; entries = es; region = region })) where
   filled-each : AllPlaced n region (w .full) (cleared n field) es
   filled-each = each-placed n region (w .full) (cleared n field) es b p (w .placed)
 
-  filled-row : (r : ℕ) → r < n → (someHas (holder region es r) es ≡ true) × All (Holds region (holder region es r) r) es
+  filled-row : (r : ℕ) → r < n → (someHas (holder region es r) es ≡ true) × All (HasRowOf region (holder region es r) r) es
   filled-row r l =
       let m = length-zeroed (size n) field in
       let k = w .room in
-      one-place n region (w .full) r (cleared n field) es o (omega arith) (bit-zeroed (size n) field r (omega arith)) (count-full (w .full) n r (w .counted) l) filled-each
+      one-holder n region (w .full) r (cleared n field) es o (omega arith) (bit-zeroed (size n) field r (omega arith)) (count-full (w .full) n r (w .counted) l) filled-each
 
   pub filled-placed : ExactRows region (columnOf region es n) es
   filled-placed = all-placed n region (holder region es) (w .full) (cleared n field) es filled-each (λ r l. filled-row r l .1)
@@ -252,14 +244,14 @@ module _ (n : ℕ) (es : List Entry) (region field : List ℕ) (b : Bytes region
   pub filled-covers : Covers es (columnOf region es n)
   filled-covers = covers-table es (holder region es) 0 n (λ r a l. filled-row r (omega arith) .0)
 
-  filled-times : (r : ℕ) → times r (joined (eachRows region es)) ≡ places region es r
+  filled-times : (r : ℕ) → times r (joined (eachRows region es)) ≡ manyHave region es r
   filled-times r = times-each n region (w .full) r (cleared n field) es filled-each
 
   pub filled-once : (r : ℕ) → r < n → times r (joined (eachRows region es)) ≡ 1
-  filled-once r l = let (has, holds) = filled-row r l in filled-times r ∙ places-one region es (holder region es r) r o holds has
+  filled-once r l = let (has, holds) = filled-row r l in filled-times r ∙ one-has region es (holder region es r) r o holds has
 
   pub filled-past : (r : ℕ) → n ≤ r → times r (joined (eachRows region es)) ≡ 0
-  filled-past r l = filled-times r ∙ places-past n region (w .full) (cleared n field) es r l filled-each
+  filled-past r l = filled-times r ∙ none-have-past n region (w .full) (cleared n field) es r l filled-each
 
 -- ---- its cells are of the type
 
@@ -302,7 +294,7 @@ entries : {cells : List Cell} {region : List ℕ} {nulls es : List Entry} → Nu
     → ColumnEntries cells region nulls es
 entries o r c = record { null-only = o; rows = r; covers = c }
 
-module _ (t : ℕ) (field : List ℕ) (k : t < 12) where
+module _ (t : ℕ) (field : List ℕ) (k : t < types) where
   one-body : (rows : ℕ) (nulls es : List Entry) (region : List ℕ) → Distinct t es → NullOnly nulls → layout.NoExtents (nulls ++ es) → Patterns (nulls ++ es)
       → rows ≤ limit → length es ≤ layout.mostValues1 → length (layout.body1 rows nulls es region) ≤ limit → Bytes region
       → AllRowsPlaced field (record { rows = rows; entries = nulls ++ es; region = region }) → ColumnBody t (columnOf region (nulls ++ es) rows) (layout.body1 rows nulls es region)
@@ -330,7 +322,7 @@ module _ (t : ℕ) (field : List ℕ) (k : t < 12) where
       subst (λ (j : ℕ). ColumnBody t cells (layout.body2 j nulls bs region)) e
       (version2 nulls bs region (k, typed) (entries o (filled-placed rows all region field b p once w) (filled-covers rows all region field b p once w)) ne r (rw e hr) l m z)
 
-  filled-body : (body : List ℕ) (d : Dictionary) → length body ≤ limit → WasLaidOut t body d → Bytes (d .region) → AllRowsPlaced field d
+  filled-body : (body : List ℕ) (d : Dictionary) → length body ≤ limit → LaidOut t body d → Bytes (d .region) → AllRowsPlaced field d
       → ColumnBody t (columnOf (d .region) (d .entries) (d .rows)) body
   filled-body body d s (in-one rows nulls es region a o x p hr l q c) h w =
       rw (q, c) (one-body rows nulls es region a o x p hr l (rw c at s) (subst (λ (y : Dictionary). Bytes (y .region)) q h) (subst (AllRowsPlaced field) q w))
@@ -341,21 +333,22 @@ module _ (t : ℕ) (field : List ℕ) (k : t < 12) where
 pub passed-body : (t : ℕ) (body field : List ℕ) (n : ℕ) → Bytes body → (p : AuditPassed t body field n) → ColumnBody t (columnOf (p .read .region) (p .read .entries) (p .read .rows)) body
 passed-body t body field n b p =
     let d : Dictionary = p .read in
-    let laid = was-laid-out t body d b (p .known) (p .short) (p .is) in
-    filled-body t field (p .known) body d (p .short) laid (region-bytes t body d b laid) (p .filled)
+    let (known, laid) = read-is-laid-out t body d b (p .short) (p .is) in
+    filled-body t field known body d (p .short) laid (region-is-bytes t body d b laid) (p .filled)
 
 -- ---- each of its rows has exactly one place
 
-laid-once : (t : ℕ) (body : List ℕ) (d : Dictionary) → WasLaidOut t body d → Once (d .entries) × Patterns (d .entries)
-laid-once t body d (in-one rows nulls es region a o x p hr l q c) = rw q (one-has-each-once t nulls es a o, p)
-laid-once t body d (in-two rows nulls bs region o ne r p hr l m z q c) = rw q (two-has-each-once t nulls (joined bs) r o, p)
+laid-patterns : (t : ℕ) (body : List ℕ) (d : Dictionary) → LaidOut t body d → Patterns (d .entries)
+laid-patterns t body d (in-one rows nulls es region a o x p hr l q c) = rw q p
+laid-patterns t body d (in-two rows nulls bs region o ne r p hr l m z q c) = rw q p
 
 pub passed-once : (t : ℕ) (body field : List ℕ) (n : ℕ) → Bytes body → AuditPassed t body field n → OnePlaceEach t body n
 passed-once t body field n b p =
     let d : Dictionary = p .read in
-    let laid = was-laid-out t body d b (p .known) (p .short) (p .is) in
-    let (once, patterns) = laid-once t body d laid in
-    let bytes = region-bytes t body d b laid in
+    let (known, laid) = read-is-laid-out t body d b (p .short) (p .is) in
+    let once = each-stands-once t body d laid in
+    let patterns = laid-patterns t body d laid in
+    let bytes = region-is-bytes t body d b laid in
     let e = p .rows in
     record {
       read = d;

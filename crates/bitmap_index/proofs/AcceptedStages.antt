@@ -27,6 +27,7 @@ use Rattle.roaring.proofs.Measured.{measured-back}
 use Rattle.roaring.proofs.Theorems.{read-was-laid-out, bitmap-rising}
 use Rattle.refusal.proofs.Laws.{check-ok, then-ok}
 use Rattle.refusal.specs.Reading.{Out, refuse, ok, andThen}
+use Rattle.stored_value.specs.Meaning.{types, mostLiterals}
 use Rattle.stored_value.specs.Reading.{literals}
 use Rattle.dictionary.specs.Layout.{Entry}
 use Rattle.dictionary.specs.Reading.{Dictionary, dictionary}
@@ -150,7 +151,6 @@ pub record AllRowsPlaced (field : List ℕ) (d : Dictionary) : Type 0 where
   pub counted : count full (d .rows) ≡ d .rows
 
 pub record AuditPassed (t : ℕ) (body field : List ℕ) (n : ℕ) : Type 0 where
-  pub known : t < 12
   pub short : length body ≤ limit
   pub read : Dictionary
   pub is : dictionary t body ≡ ok read
@@ -165,28 +165,27 @@ audited-back field d n e h =
     (record { room = h; full = full; placed = placed; counted = eqb-true _ _ counted }, cc)
 
 prepared-back : (t : ℕ) (body field : List ℕ) (d : Dictionary) → prepared t body field ≡ ok d
-    → (t < 12) × (length body ≤ limit) × (dictionary t body ≡ ok d) × (size (d .rows) ≤ length field)
+    → (length body ≤ limit) × (dictionary t body ≡ ok d) × (size (d .rows) ≤ length field)
 unfolding prepared roomFor
 prepared-back t body field d e =
-    let (short, typed) = check-ok _ _ _ d e in
-    let (known, both) = check-ok _ _ _ d typed in
+    let (short, both) = check-ok _ _ _ d e in
     let (x, is, room) = then-ok (dictionary t body) (roomFor field) d both in
     let (fits, same) = check-ok _ _ _ d room in
     let q : x ≡ d = cc in
-    (ltb-true t 12 known, leb-true (length body) limit short, is ∙ ap ok q, rw q at (leb-true (size (x .rows)) (length field) fits))
+    (leb-true (length body) limit short, is ∙ ap ok q, rw q at (leb-true (size (x .rows)) (length field) fits))
 
 pub audit-passed : (t : ℕ) (body field : List ℕ) (n : ℕ) → audit t body field ≡ ok n → AuditPassed t body field n
 unfolding audit
 audit-passed t body field n e =
     let (d, first, last) = then-ok (prepared t body field) (λ d. audited d (cleared (d .rows) field)) n e in
-    let (known, short, is, room) = prepared-back t body field d first in
+    let (short, is, room) = prepared-back t body field d first in
     let (filled, rows) = audited-back field d n last room in
-    record { known = known; short = short; read = d; is = is; filled = filled; rows = rows }
+    record { short = short; read = d; is = is; filled = filled; rows = rows }
 
 -- ---- a question that was answered, taken apart
 
 pub asked-back : (t q : ℕ) (literal body : List ℕ) (ls : List (List ℕ)) → wellFormed t q literal body ≡ ok ls
-    → (length body ≤ limit) × (t < 12) × (q < questions) × (literals t 1024 [] literal ≡ ok ls) × (takes q (length ls) ≡ true)
+    → (length body ≤ limit) × (t < types) × (q < questions) × (literals t mostLiterals [] literal ≡ ok ls) × (takes q (length ls) ≡ true)
 unfolding wellFormed
 asked-back t q literal body ls e =
     let (short, names) = check-ok _ _ _ ls e in
@@ -196,7 +195,7 @@ asked-back t q literal body ls e =
     let i : ls′ ≡ ls = cc in
     let s = and-both _ _ short in
     let k = and-both _ _ known in
-    (leb-true (length body) limit (s .0), ltb-true t 12 (k .0), ltb-true q questions (k .1), read ∙ ap ok i, rw i at takes)
+    (leb-true (length body) limit (s .0), ltb-true t types (k .0), ltb-true q questions (k .1), read ∙ ap ok i, rw i at takes)
 
 audit-joined : (t : ℕ) (body field : List ℕ) (d : Dictionary) (n : ℕ) → prepared t body field ≡ ok d → audited d (cleared (d .rows) field) ≡ ok n → audit t body field ≡ ok n
 unfolding audit andThen

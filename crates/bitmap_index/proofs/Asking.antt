@@ -14,7 +14,8 @@ use Rattle.row_field.specs.Meaning.{cleared, count, size}
 use Rattle.stored_value.specs.declared.Counted.{Counted}
 use Rattle.stored_value.specs.declared.Counted.the-variants.{Count}
 use Rattle.refusal.specs.Reading.{Out, refuse, ok, check, andThen, numbersOf}
-use Rattle.stored_value.specs.Promises.{countedBy}
+use Rattle.stored_value.specs.Promises.{countedBy, CountPromise}
+use Rattle.stored_value.specs.Meaning.{types, mostLiterals}
 use Rattle.stored_value.specs.Reading.{literals}
 use Rattle.dictionary.specs.declared.Checked.{Checked}
 use Rattle.dictionary.specs.declared.Checked.the-variants.{Found}
@@ -68,38 +69,38 @@ module _ (t q : ℕ) (s body : List ℕ) where
     long-literals h = rw (le-leb (length body) limit l, lt-leb (length s) limit h)
 
     module _ (m : length s ≤ limit) where
-      pub unknown-type : 12 ≤ t → wellFormed t q s body ≡ refuse Literal
+      pub unknown-type : types ≤ t → wellFormed t q s body ≡ refuse Literal
       unfolding wellFormed check
-      unknown-type h = rw (le-leb (length body) limit l, le-leb (length s) limit m, le-ltb t 12 h)
+      unknown-type h = rw (le-leb (length body) limit l, le-leb (length s) limit m, le-ltb t types h)
 
-      module _ (k : t < 12) where
+      module _ (k : t < types) where
         pub unknown-question : questions ≤ q → wellFormed t q s body ≡ refuse Literal
         unfolding wellFormed check
-        unknown-question h = rw (le-leb (length body) limit l, le-leb (length s) limit m, lt-ltb t 12 k, le-ltb q questions h)
+        unknown-question h = rw (le-leb (length body) limit l, le-leb (length s) limit m, lt-ltb t types k, le-ltb q questions h)
 
-        module _ (g : q < questions) {c : Counted} (o : c ≡ countedBy (literals t 1024 [] s)) where
-          in-literals : wellFormed t q s body ≡ andThen (literals t 1024 [] s) (λ ls. check (takes q (length ls)) Literal (ok ls))
+        module _ (g : q < questions) {c : Counted} (o : CountPromise (literals t mostLiterals [] s) c) where
+          in-literals : wellFormed t q s body ≡ andThen (literals t mostLiterals [] s) (λ ls. check (takes q (length ls)) Literal (ok ls))
           unfolding wellFormed check
-          in-literals = rw (le-leb (length body) limit l, le-leb (length s) limit m, lt-ltb t 12 k, lt-ltb q questions g)
+          in-literals = rw (le-leb (length body) limit l, le-leb (length s) limit m, lt-ltb t types k, lt-ltb q questions g)
 
           pub misfit : {r : Refusal} → c ≡ Counted.Refused r → wellFormed t q s body ≡ refuse r
           unfolding andThen
-          misfit e = in-literals ∙ rw (not-counted (literals t 1024 [] s) (sym o ∙ e))
+          misfit e = in-literals ∙ rw (not-counted (literals t mostLiterals [] s) (sym (o .answer) ∙ e))
 
           module _ {n : ℕ} (e : c ≡ Count n) {b : Bool} (w : b ≡ takes q n) where
             pub wrong-number : b ≡ false → wellFormed t q s body ≡ refuse Literal
             unfolding andThen check
             wrong-number h =
-                let z = are-counted (literals t 1024 [] s) (sym o ∙ e) in
+                let z = are-counted (literals t mostLiterals [] s) (sym (o .answer) ∙ e) in
                 in-literals ∙ rw (z .1, ← z .2, ← w, h)
 
-            right-number : (ls : List (List ℕ)) → literals t 1024 [] s ≡ ok ls → n ≡ length ls → b ≡ true → wellFormed t q s body ≡ ok ls
+            right-number : (ls : List (List ℕ)) → literals t mostLiterals [] s ≡ ok ls → n ≡ length ls → b ≡ true → wellFormed t q s body ≡ ok ls
             unfolding andThen check
             right-number ls y z h = in-literals ∙ rw (y, ← z, ← w, h)
 
             pub fits-question : b ≡ true → TestsQuestion t q s body Done
             fits-question h =
-                let z = are-counted (literals t 1024 [] s) (sym o ∙ e) in
+                let z = are-counted (literals t mostLiterals [] s) (sym (o .answer) ∙ e) in
                 (z .0, z .1, right-number (z .0) (z .1) (z .2) h)
 
 -- ---- the chosen entries

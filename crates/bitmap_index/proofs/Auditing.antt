@@ -5,10 +5,10 @@ use mathlib.Core.Bool.{Bool, true, false}
 use mathlib.Core.List.{List, [], _∷_}
 use lib.Dec.{leb}
 use lib.ListN.{length}
-use borrow.Author.Tests.{eq-eqb, ne-eqb, le-leb, lt-leb, le-ltb, lt-ltb}
+use borrow.Author.Tests.{eq-eqb, ne-eqb, le-leb, lt-leb}
 use Rattle.refusal.specs.Meaning.{limit}
 use Rattle.refusal.specs.declared.Refusal.{Refusal}
-use Rattle.refusal.specs.declared.Refusal.the-variants.{Missing, Room, Literal, Limit}
+use Rattle.refusal.specs.declared.Refusal.the-variants.{Missing, Room, Limit}
 use Rattle.row_field.specs.Meaning.{zeroed, cleared, size, count}
 use Rattle.refusal.specs.Reading.{Out, refuse, ok, check, andThen, numbersOf}
 use Rattle.stored_value.specs.Reading.{literals}
@@ -70,33 +70,28 @@ module _ (t : ℕ) (s f : List ℕ) where
   too-long h = rw (lt-leb (length s) limit h)
 
   module _ (l : length s ≤ limit) where
-    pub no-type : 12 ≤ t → prepared t s f ≡ refuse Literal
+    in-dictionary : prepared t s f ≡ andThen (dictionary t s) (roomFor f)
     unfolding prepared check
-    no-type h = rw (le-leb (length s) limit l, le-ltb t 12 h)
+    in-dictionary = rw (le-leb (length s) limit l)
 
-    module _ (k : t < 12) where
-      in-dictionary : prepared t s f ≡ andThen (dictionary t s) (roomFor f)
-      unfolding prepared check
-      in-dictionary = rw (le-leb (length s) limit l, lt-ltb t 12 k)
+    pub no-dictionary : {c : Checked} {r : Refusal} → c ≡ Checked.Refused r → ReadsDictionary t s c → prepared t s f ≡ refuse r
+    unfolding andThen
+    no-dictionary {c} {r} e w =
+        let d : dictionary t s ≡ refuse r = rw e at (w .answer) in
+        in-dictionary ∙ rw d
 
-      pub no-dictionary : {c : Checked} {r : Refusal} → c ≡ Checked.Refused r → ReadsDictionary t s c → prepared t s f ≡ refuse r
-      unfolding andThen
-      no-dictionary {c} {r} e w =
-          let d : dictionary t s ≡ refuse r = rw e at (w .so) in
-          in-dictionary ∙ rw d
+    module _ {c : Checked} {h : Summary} (e : c ≡ Found h) (w : ReadsDictionary t s c) where
+      is-read : IsRead t s h
+      is-read = rw e at (w .answer)
 
-      module _ {c : Checked} {h : Summary} (e : c ≡ Found h) (w : ReadsDictionary t s c) where
-        is-read : IsRead t s h
-        is-read = rw e at (w .so)
+      module _ {has : Bool} (o : has ≡ leb (size (h .rows)) (length f)) where
+        pub no-room : has ≡ false → prepared t s f ≡ refuse Room
+        unfolding andThen roomFor check
+        no-room n = in-dictionary ∙ rw (is-read .so, ← o, n)
 
-        module _ {has : Bool} (o : has ≡ leb (size (h .rows)) (length f)) where
-          pub no-room : has ≡ false → prepared t s f ≡ refuse Room
-          unfolding andThen roomFor check
-          no-room n = in-dictionary ∙ rw (is-read .so, ← o, n)
-
-          pub ready : has ≡ true → Prepares t s f (Found h)
-          unfolding andThen roomFor check
-          ready y = (is-read, in-dictionary ∙ rw (is-read .so, ← o, y))
+        pub ready : has ≡ true → Prepares t s f (Found h)
+        unfolding andThen roomFor check
+        ready y = (is-read, in-dictionary ∙ rw (is-read .so, ← o, y))
 
 -- ---- the whole
 

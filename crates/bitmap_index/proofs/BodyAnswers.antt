@@ -1,5 +1,5 @@
 -- A body of a column: its literals fit a buffer, its dictionary is read, and then it is answered as the scan.
-use mathlib.Core.Path.{_≡_, ap}
+use mathlib.Core.Path.{_≡_, ap, _∙_}
 use mathlib.Core.Logic.{⊎-elim}
 use Prim.Native.Nat.{ℕ, zero, suc, _*_, _≤_, _<_}
 use mathlib.Core.List.{List, [], _∷_, _++_}
@@ -9,19 +9,20 @@ use lib.ListN.{length, getD, length-append}
 use Rattle.numbers.specs.Meaning.{be, big, joined, Bytes}
 use Rattle.numbers.proofs.Laws.{length-spelled}
 use Rattle.refusal.specs.Meaning.{limit}
+use Rattle.refusal.specs.declared.Refusal.{Refusal}
 use Rattle.roaring.specs.Layout.{fourBytes}
 use Rattle.row_field.specs.Meaning.{size, cleared}
-use Rattle.stored_value.specs.Meaning.{Cell, widths, width, Value, number, string, Literals}
-use Rattle.refusal.specs.Reading.{ok, check, andThen}
+use Rattle.stored_value.specs.Meaning.{types, Cell, widths, width, Value, number, string, Literals}
+use Rattle.refusal.specs.Reading.{Out, ok, check, andThen}
 use Rattle.stored_value.proofs.Laws.{literals-laid}
 use Rattle.dictionary.specs.Promises.{Patterns}
 use Rattle.dictionary.specs.Layout.{Entry, entries1, null1, body1, blocks, directory, null2, body2}
-use Rattle.dictionary.specs.Reading.{dictionary}
+use Rattle.dictionary.specs.Reading.{Dictionary, dictionary}
 use Rattle.bitmap_index.specs.Meaning.{questions, Question}
 use Rattle.bitmap_index.specs.Layout.{EntryRows, single, bitmap, ExactRows}
-use Rattle.bitmap_index.specs.Reading.{roomFor, prepared, audit, zeroedFrom, auditBuffer, wellFormed, ask, answerBuffer, askBuffer, auditedAnswer}
+use Rattle.bitmap_index.specs.Reading.{audited, roomFor, prepared, audit, zeroedFrom, auditBuffer, wellFormed, ask, answerBuffer, askBuffer, auditedAnswer}
 use Rattle.bitmap_index.specs.Claims.{scanAnswer, AnswersAsScan}
-use Rattle.bitmap_index.proofs.ScanAnswers.{Whole, audited-whole, answered-whole}
+use Rattle.bitmap_index.proofs.ScanAnswers.{HasColumn, column-audited, column-answered}
 
 -- ---- a well-formed question's literals fit an input buffer
 
@@ -40,7 +41,7 @@ width-le t = getD-upTo 8 widths t (omega arith)
 
 value-at-most : (t : ℕ) (v : List ℕ) → Value t v → length v ≤ 65539
 value-at-most t v (number w s l b o) = omega (arith, width-le t)
-value-at-most t v (string c s l b) = simp length-append (omega (arith, length-spelled big 4 (length c)))
+value-at-most t v (string c n s l b) = simp length-append (omega (arith, length-spelled big 4 (length c)))
 
 literals-at-most : (t : ℕ) (ls : List (List ℕ)) → Literals t ls → length (joined ls) ≤ 65539 * length ls
 literals-at-most t [] h = omega arith
@@ -52,17 +53,19 @@ asked-well : (t q : ℕ) (ls : List (List ℕ)) (body : List ℕ) → length bod
 unfolding wellFormed check andThen
 asked-well t q ls body h w =
     let l : length (joined ls) ≤ limit = omega (arith, literals-at-most t ls (w .3), w .2) in
-    rw (le-leb (length body) limit h, le-leb (length (joined ls)) limit l, lt-ltb t 12 (w .0), lt-ltb q questions (w .1), literals-laid t ls (w .3) (w .0) (w .2), w .4)
+    rw (le-leb (length body) limit h, le-leb (length (joined ls)) limit l, lt-ltb t types (w .0), lt-ltb q questions (w .1), literals-laid t ls (w .3) (w .2), w .4)
 
-module _ (t : ℕ) (cells : List Cell) (es : List Entry) (region body field : List ℕ) (k : t < 12) (s : length body ≤ limit)
-    (d : dictionary t body ≡ ok (record { rows = length cells; entries = es; region = region })) (w : Whole cells es region) (b : Bytes field) (h : size (length cells) ≤ length field) where
+module _ (t : ℕ) (cells : List Cell) (es : List Entry) (region body field : List ℕ) (s : length body ≤ limit)
+    (d : dictionary t body ≡ ok (record { rows = length cells; entries = es; region = region })) (w : HasColumn cells es region) (b : Bytes field) (h : size (length cells) ≤ length field) where
   prepared-well : prepared t body field ≡ ok (record { rows = length cells; entries = es; region = region })
   unfolding prepared roomFor check andThen
-  prepared-well = rw (le-leb (length body) limit s, lt-ltb t 12 k, d, le-leb (size (length cells)) (length field) h)
+  prepared-well = rw (le-leb (length body) limit s, d, le-leb (size (length cells)) (length field) h)
 
   audit-well : audit t body field ≡ ok (length cells)
   unfolding audit andThen
-  audit-well = rw prepared-well (audited-whole cells es region field w b h)
+  audit-well =
+      ap (λ (o : Out Refusal Dictionary). andThen o (λ d. audited d (cleared (d .rows) field))) prepared-well
+      ∙ column-audited cells es region field w b h
 
   audit-buffer : auditBuffer t body field ≡ cleared (length cells) field
   unfolding auditBuffer zeroedFrom
@@ -71,7 +74,7 @@ module _ (t : ℕ) (cells : List Cell) (es : List Entry) (region body field : Li
   module _ (q : ℕ) (ls : List (List ℕ)) (g : Question t q ls) where
     ask-well : ask t q (joined ls) body field ≡ ok (scanAnswer q ls cells field)
     unfolding ask auditedAnswer andThen
-    ask-well = rw (asked-well t q ls body s g, prepared-well, audited-whole cells es region field w b h) (answered-whole q ls cells es region field w b h)
+    ask-well = rw (asked-well t q ls body s g, prepared-well, column-audited cells es region field w b h) (column-answered q ls cells es region field w b h)
 
     ask-buffer : askBuffer t q (joined ls) body field ≡ scanAnswer q ls cells field .buffer
     unfolding askBuffer answerBuffer

@@ -6,12 +6,11 @@ use mathlib.Core.Bool.{Bool, true, false, _||_, cond}
 use mathlib.Core.List.{List, [], _∷_, _++_}
 use native.Mathlib.Nat.{add-zero, zero-add}
 use native.Mathlib.Omega.{arith}
-use borrow.Author.Tests.{eq-eqb, ne-eqb}
 use lib.ListN.{length, drop}
 use Rattle.numbers.specs.Meaning.{All, Bytes}
 use Rattle.row_field.specs.Meaning.{size, bit, markAll, anySet, fieldOf, cleared, count, Rising, Below}
 use Rattle.row_field.proofs.RowLists.{rising-cond, rising-below}
-use Rattle.row_field.proofs.Marks.{member, member-append, member-before, length-markAll, bytes-markAll, markAll-append, bit-markAll}
+use Rattle.row_field.proofs.Marks.{member, member-append, member-before, member-cond-here, member-cond-there, length-markAll, bytes-markAll, markAll-append, bit-markAll}
 use Rattle.row_field.proofs.Laws.{field-ext}
 use Rattle.row_field.proofs.Fronts.{marked-field, marked-count}
 use Rattle.row_field.proofs.Counts.{bytes-zeroed, length-zeroed, bit-zeroed}
@@ -66,25 +65,15 @@ rows-below p cells = rising-below 0 (length cells) (rowsWhere p 0 cells) (rows-r
 
 -- ---- which rows they are
 
-member-here : (b : Bool) (a : ℕ) (rs : List ℕ) → member a rs ≡ false → member a (cond b (a ∷ rs) rs) ≡ b
-unfolding member
-member-here true a rs e = rw (eq-eqb a a refl)
-member-here false a rs e = e
-
-member-there : (b : Bool) (r a : ℕ) (rs : List ℕ) → (r ≡ a → ⊥) → member r (cond b (a ∷ rs) rs) ≡ member r rs
-unfolding member
-member-there true r a rs n = rw (ne-eqb r a n)
-member-there false r a rs n = refl
-
 member-rows-from : (p : Cell → Bool) (a r : ℕ) (cells : List Cell) → member (a + r) (rowsWhere p a cells) ≡ passes p r cells
 unfolding member
 member-rows-from p a r [] = refl
 member-rows-from p a zero (c ∷ cells) =
     let rs : List ℕ = rowsWhere p (a + 1) cells in
-    rw add-zero (member-here (p c) a rs (member-before a (a + 1) (a + 1 + length cells) rs (omega arith) (rows-rise p (a + 1) cells)))
+    rw add-zero (member-cond-here (p c) a rs (member-before a (a + 1) (a + 1 + length cells) rs (omega arith) (rows-rise p (a + 1) cells)))
 member-rows-from p a (suc r) (c ∷ cells) =
     let e : a + suc r ≡ a + 1 + r = omega arith in
-    member-there (p c) (a + suc r) a (rowsWhere p (a + 1) cells) (omega arith) ∙ rw e (member-rows-from p (a + 1) r cells)
+    member-cond-there (p c) (a + suc r) a (rowsWhere p (a + 1) cells) (omega arith) ∙ rw e (member-rows-from p (a + 1) r cells)
 
 pub member-rows : (p : Cell → Bool) (r : ℕ) (cells : List Cell) → member r (rowsWhere p 0 cells) ≡ passes p r cells
 member-rows p r cells = rw zero-add at (member-rows-from p 0 r cells)

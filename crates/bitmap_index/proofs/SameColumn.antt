@@ -11,7 +11,7 @@ use Rattle.row_field.specs.Meaning.{size, bit}
 use Rattle.row_field.proofs.Marks.{length-markAll, bit-markAll}
 use Rattle.row_field.proofs.Laws.{bit-zeros}
 use Rattle.numbers.specs.Meaning.{same}
-use Rattle.stored_value.specs.Meaning.{Cell, null, value, Value, listed}
+use Rattle.stored_value.specs.Meaning.{types, Cell, null, value, Value, listed}
 use Rattle.refusal.specs.declared.Refusal.{Refusal}
 use Rattle.refusal.specs.Reading.{Out, ok}
 use Rattle.numbers.proofs.SameBytes.{same-refl, same→eq}
@@ -58,26 +58,26 @@ or-first true e = refl
 or-first false e = e
 
 -- the cells that every question chooses, or does not, as it does c, are c
-cell-told : (t : ℕ) (c d : Cell) → t < 12 → Typed t c → ((q : ℕ) (ls : List (List ℕ)) → Question t q ls → chosen q ls c ≡ chosen q ls d) → c ≡ d
+same-cell : (t : ℕ) (c d : Cell) → t < types → Typed t c → ((q : ℕ) (ls : List (List ℕ)) → Question t q ls → chosen q ls c ≡ chosen q ls d) → c ≡ d
 unfolding chosen listed takes
-cell-told t null null k v h = refl
-cell-told t null (value w) k v h =
+same-cell t null null k v h = refl
+same-cell t null (value w) k v h =
     let e : _≡_ {A = Bool} true false = h 4 [] (k, omega arith, omega arith, tt, refl) in
     cc
-cell-told t (value v) null k p h =
+same-cell t (value v) null k p h =
     let e : same v v || false ≡ false = h 0 (v ∷ []) (k, omega arith, omega arith, (p, tt), refl) in
     let g : _≡_ {A = Bool} true false = rw (same-refl v) at e in
     cc
-cell-told t (value v) (value w) k p h =
+same-cell t (value v) (value w) k p h =
     let e : same v v || false ≡ same w v || false = h 0 (v ∷ []) (k, omega arith, omega arith, (p, tt), refl) in
     let g : true ≡ same w v || false = rw (same-refl v) at e in
     sym (ap value (same→eq w v (or-first (same w v) (sym g))))
 
-alike-is-same : (t : ℕ) (cells cells′ : List Cell) → Column t cells → length cells ≡ length cells′
+same-answers : (t : ℕ) (cells cells′ : List Cell) → Column t cells → length cells ≡ length cells′
     → ((q : ℕ) (ls : List (List ℕ)) → Question t q ls → scan q ls cells .field ≡ scan q ls cells′ .field) → cells ≡ cells′
-alike-is-same t cells cells′ c l h =
+same-answers t cells cells′ c l h =
     ext-getD null cells cells′ l (λ r i.
-    cell-told t (cellAt cells r) (cellAt cells′ r) (c .0) (cell-typed t r cells (c .1)) (λ q ls g.
+    same-cell t (cellAt cells r) (cellAt cells′ r) (c .0) (cell-typed t r cells (c .1)) (λ q ls g.
     sym (scan-row q ls cells r i) ∙ ap (λ (f : List ℕ). bit f r) (h q ls g) ∙ scan-row q ls cells′ r (omega arith)))
 
 -- ---- two columns of which one body is answered
@@ -100,4 +100,4 @@ module _ (t : ℕ) (cells cells′ : List Cell) (body field : List ℕ) (a : Ans
       (scan-length q ls cells ∙ ap (λ (m : ℕ). size m) same-length ∙ sym (scan-length q ls cells′)) (rw (← same-length) at e)
 
   pub same-column : Column t cells → cells ≡ cells′
-  same-column c = alike-is-same t cells cells′ c same-length same-scan
+  same-column c = same-answers t cells cells′ c same-length same-scan

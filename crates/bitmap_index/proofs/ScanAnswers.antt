@@ -8,6 +8,7 @@ use mathlib.Core.List.{List, [], _∷_, _++_}
 use native.Mathlib.Nat.{zero-add, add-zero}
 use native.Mathlib.Omega.{arith}
 use borrow.Author.Tests.{eq-eqb, ne-eqb, lt-ltb, le-ltb}
+use lib.Dec.{eqb}
 use lib.IntN.{ℤ, pos, negsuc}
 use lib.ListN.{length, drop, replicate, length-append}
 use lib.Seq.{drop-at}
@@ -21,10 +22,11 @@ use Rattle.roaring.proofs.Measured.{measured-laid}
 use Rattle.stored_value.specs.Meaning.{Cell, sameCell}
 use Rattle.refusal.specs.Meaning.{limit}
 use Rattle.refusal.specs.declared.Refusal.{Refusal}
+use Rattle.refusal.specs.declared.Refusal.the-variants.{Missing}
 use Rattle.refusal.specs.Reading.{Out, ok, check, andThen}
 use Rattle.stored_value.proofs.Laws.{sameCell→eq, sameCell-sym}
 use Rattle.dictionary.specs.Layout.{Entry, someHas}
-use Rattle.dictionary.proofs.Theorems.{Once}
+use Rattle.dictionary.specs.Claims.{Once}
 use Rattle.bitmap_index.specs.Meaning.{chosen, scan, scanFrom}
 use Rattle.bitmap_index.specs.Layout.{rowsWith, EntryRows, single, bitmap, ExactRows, Covers}
 use Rattle.bitmap_index.specs.Reading.{extentOf, placeBitmap, placeAt, placeEntry, placeEntries, audited, chosenOf, answered}
@@ -81,7 +83,7 @@ module _ (n : ℕ) (region f : List ℕ) (e : Entry) where
 -- ---- the rows of many entries
 
 -- a cell that stands among es is not one that does not
-other-cell : (c d : Cell) (es : List Entry) → someHas d es ≡ false → someHas c es ≡ true → sameCell d c ≡ false
+pub other-cell : (c d : Cell) (es : List Entry) → someHas d es ≡ false → someHas c es ≡ true → sameCell d c ≡ false
 other-cell c d es n y = go (sameCell d c) refl
   where
     go : (b : Bool) → sameCell d c ≡ b → b ≡ false
@@ -120,23 +122,23 @@ module _ (region : List ℕ) (cells : List Cell) (z : List ℕ) (short : length 
 -- ---- the audit
 
 -- what a body of the column says behind its dictionary
-pub record Whole (cells : List Cell) (es : List Entry) (region : List ℕ) : Type 0 where
+pub record HasColumn (cells : List Cell) (es : List Entry) (region : List ℕ) : Type 0 where
   pub placed : ExactRows region cells es
   pub once : Once es
   pub covers : Covers es cells
   pub short : length region ≤ limit
 
-covers-each : (es : List Entry) (cells : List Cell) → Covers es cells → All (λ c. someHas c es ≡ true) cells
-covers-each es [] h = tt
-covers-each es (c ∷ cells) h = (h .0, covers-each es cells (h .1))
-
-module _ (cells : List Cell) (es : List Entry) (region field : List ℕ) (w : Whole cells es region) (b : Bytes field) (h : size (length cells) ≤ length field) where
-  pub audited-whole : audited (record { rows = length cells; entries = es; region = region }) (cleared (length cells) field) ≡ ok (length cells)
+module _ (cells : List Cell) (es : List Entry) (region field : List ℕ) (w : HasColumn cells es region) (b : Bytes field) (h : size (length cells) ≤ length field) where
+  pub column-audited : audited (record { rows = length cells; entries = es; region = region }) (cleared (length cells) field) ≡ ok (length cells)
   unfolding audited andThen check
-  audited-whole =
+  column-audited =
+      let zero : List ℕ = cleared (length cells) field in
       let p : Cell → Bool = λ c. someHas c es in
-      let n = rows-counted p cells field h ∙ rows-all p 0 cells (covers-each es cells (w .covers)) in
-      rw (placed-all region cells (cleared (length cells) field) (w .short) (cleared-free (length cells) field b h) es (w .placed) (w .once), eq-eqb (count (markAll (cleared (length cells) field) (rowsWhere p 0 cells)) (length cells)) (length cells) n)
+      let full : List ℕ = markAll zero (rowsWhere p 0 cells) in
+      let n : count full (length cells) ≡ length cells = rows-counted p cells field h ∙ rows-all p 0 cells (w .covers) in
+      ap (λ (o : Out Refusal (List ℕ)). andThen o (λ f. check (eqb (count f (length cells)) (length cells)) Missing (ok (length cells))))
+      (placed-all region cells zero (w .short) (cleared-free (length cells) field b h) es (w .placed) (w .once))
+      ∙ rw (eq-eqb (count full (length cells)) (length cells) n)
 
 -- ---- questions
 
@@ -203,18 +205,15 @@ module _ (q : ℕ) (ls : List (List ℕ)) where
   unfolding scan
   scanned cells = rw zero-add at (scan-from 0 (replicate (size (length cells)) 0) 0 cells)
 
-  module _ (cells : List Cell) (es : List Entry) (region field : List ℕ) (w : Whole cells es region) (b : Bytes field) (h : size (length cells) ≤ length field) where
-    pub answered-whole : answered q ls (record { rows = length cells; entries = es; region = region }) (cleared (length cells) field)
+  module _ (cells : List Cell) (es : List Entry) (region field : List ℕ) (w : HasColumn cells es region) (b : Bytes field) (h : size (length cells) ≤ length field) where
+    pub column-answered : answered q ls (record { rows = length cells; entries = es; region = region }) (cleared (length cells) field)
         ≡ ok (record { buffer = scan q ls cells .field ++ drop (size (length cells)) field; matched = scan q ls cells .matched })
     unfolding answered andThen
-    answered-whole =
+    column-answered =
+        let zero : List ℕ = cleared (length cells) field in
         let p : Cell → Bool = λ c. someHas c (chosenOf q ls es) in
         let e : rowsWhere p 0 cells ≡ rowsWhere (chosen q ls) 0 cells = rows-ext p (chosen q ls) 0 cells (chosen-covers es cells (w .covers)) in
-        rw (
-          placed-all region cells (cleared (length cells) field) (w .short) (cleared-free (length cells) field b h) (chosenOf q ls es)
-              (chosen-placed region cells es (w .placed)) (chosen-once es (w .once)),
-          scanned cells,
-          e,
-          rows-counted (chosen q ls) cells field h,
-          rows-marked (chosen q ls) cells field h,
-        )
+        ap (λ (o : Out Refusal (List ℕ)). andThen o (λ f. ok (record { buffer = f; matched = count f (length cells) })))
+        (placed-all region cells zero (w .short) (cleared-free (length cells) field b h) (chosenOf q ls es)
+        (chosen-placed region cells es (w .placed)) (chosen-once es (w .once)))
+        ∙ rw (scanned cells, e, rows-counted (chosen q ls) cells field h, rows-marked (chosen q ls) cells field h)

@@ -4,7 +4,7 @@ use mathlib.Core.Path.{_≡_, sym, ap, _∙_}
 use mathlib.Core.List.{List, _++_}
 use native.Mathlib.Decide.{decLt}
 use native.Mathlib.Omega.{arith}
-use borrow.Author.Tests.{le-leb, lt-ltb, lt-leb}
+use borrow.Author.Tests.{le-leb, lt-leb}
 use lib.ListN.{length, replicate, length-replicate}
 use Rattle.numbers.specs.Meaning.{joined}
 use Rattle.refusal.specs.Meaning.{limit}
@@ -19,10 +19,11 @@ use Rattle.bitmap_index.specs.Meaning.{Column, Question}
 use Rattle.bitmap_index.specs.Layout.{ColumnBody, version1, version2}
 use Rattle.bitmap_index.specs.Reading.{roomFor, prepared, audit, ask}
 use Rattle.bitmap_index.specs.Claims.{ColumnIsAnswered, AcceptedIsAColumn, OneColumn, EachRowHasOnePlace, AcceptedIsAnswered, AnsweredAsTheScan, ShortOfRoom, RefusedForRoom, RefusedIsNoColumn, AcceptedAreTheColumns, UnknownVersionIsRefused, UnknownVersionYieldsNothing}
-use Rattle.bitmap_index.proofs.ScanAnswers.{Whole}
+use Rattle.bitmap_index.proofs.ScanAnswers.{HasColumn}
 use Rattle.bitmap_index.proofs.BodyAnswers.{answers-as-scan, all-patterns, region1, region2}
 use Rattle.dictionary.specs.Layout.{body1, body2}
-use Rattle.dictionary.proofs.Theorems.{one-is-read, two-is-read, one-has-each-once, two-has-each-once}
+use Rattle.dictionary.proofs.LaidOut.{one-laid, two-laid}
+use Rattle.dictionary.proofs.Theorems.{one-has-each-once, two-has-each-once}
 use Rattle.bitmap_index.proofs.SameColumn.{same-column}
 use Rattle.refusal.proofs.Laws.{ok-same, then-ok, check-ok}
 use Rattle.bitmap_index.proofs.AcceptedStages.{audit-passed, asked-back, ask-parts}
@@ -34,14 +35,14 @@ use Rattle.bitmap_index.proofs.Versions.{version-audited, version-audit
 pub column-is-answered : ColumnIsAnswered
 column-is-answered t cells body (version1 nulls es region c k x d n l z) field b h =
     let s : length region ≤ limit = omega (arith, region1 (length cells) nulls es region) in
-    let w : Whole cells (nulls ++ es) region = record { placed = k .rows; once = one-has-each-once t nulls es d (k .null-only); covers = k .covers; short = s } in
-    answers-as-scan t cells (nulls ++ es) region (body1 (length cells) nulls es region) field (c .0) z
-    (one-is-read t (length cells) nulls es region (c .0) d (k .null-only) x (all-patterns region cells (nulls ++ es) s (k .rows)) n l) w b h
+    let w : HasColumn cells (nulls ++ es) region = record { placed = k .rows; once = one-has-each-once t nulls es d (k .null-only); covers = k .covers; short = s } in
+    answers-as-scan t cells (nulls ++ es) region (body1 (length cells) nulls es region) field z
+    (one-laid t (length cells) nulls es region (c .0) d (k .null-only) x (all-patterns region cells (nulls ++ es) s (k .rows)) n l) w b h
 column-is-answered t cells body (version2 nulls bs region c k x r n l m z) field b h =
     let s : length region ≤ limit = omega (arith, region2 (length cells) nulls bs region) in
-    let w : Whole cells (nulls ++ joined bs) region = record { placed = k .rows; once = two-has-each-once t nulls (joined bs) r (k .null-only); covers = k .covers; short = s } in
-    answers-as-scan t cells (nulls ++ joined bs) region (body2 (length cells) nulls bs region) field (c .0) z
-    (two-is-read t (length cells) nulls bs region (c .0) (k .null-only) x r (all-patterns region cells (nulls ++ joined bs) s (k .rows)) n l m z) w b h
+    let w : HasColumn cells (nulls ++ joined bs) region = record { placed = k .rows; once = two-has-each-once t nulls (joined bs) r (k .null-only); covers = k .covers; short = s } in
+    answers-as-scan t cells (nulls ++ joined bs) region (body2 (length cells) nulls bs region) field z
+    (two-laid t (length cells) nulls bs region (c .0) (k .null-only) x r (all-patterns region cells (nulls ++ joined bs) s (k .rows)) n l m z) w b h
 
 -- ---- demand 2
 
@@ -78,7 +79,7 @@ pub answered-as-the-scan : AnsweredAsTheScan
 answered-as-the-scan t q literal body field a bl b bf e =
     let (ls, n, first, whole) = ask-parts t q literal body field a e in
     let (short, known, name, read, fit) = asked-back t q literal body ls first in
-    let (spelled, fits, few) = literals-back t literal ls bl known read in
+    let (spelled, fits, few) = literals-back t literal ls bl read in
     let (cells, column, rows, answers) = accepted-is-answered t body field n b bf whole in
     let g : Question t q ls = (known, name, few, fits, fit) in
     record {
@@ -100,7 +101,7 @@ short-of-room t cells body field b h =
     let a = column-is-answered t cells body b (replicate m 0) (bytes-zeros m) (omega arith) in
     let p = audit-passed t body (replicate m 0) (length cells) (a .audited) in
     let s : length field < size (p .read .rows) = rw (p .rows) h in
-    rw (le-leb (length body) limit (p .short), lt-ltb t 12 (p .known), p .is, lt-leb (size (p .read .rows)) (length field) s)
+    rw (le-leb (length body) limit (p .short), p .is, lt-leb (size (p .read .rows)) (length field) s)
 
 pub refused-for-room : RefusedForRoom
 refused-for-room t cells body field r bf b e = go (decLt (length field) (size (length cells)))

@@ -13,10 +13,10 @@ use Rattle.refusal.specs.declared.Refusal.{Refusal}
 use Rattle.refusal.specs.declared.Refusal.the-variants.{Version, Room, Literal, Limit}
 use Rattle.refusal.specs.Reading.{refuse, ok, check, andThen}
 use Rattle.row_field.specs.Meaning.{size, cleared}
-use Rattle.stored_value.specs.Meaning.{Cell}
+use Rattle.stored_value.specs.Meaning.{types, Cell}
 use Rattle.dictionary.specs.Layout.{Entry}
 use Rattle.dictionary.specs.Reading.{Dictionary, dictionary}
-use Rattle.dictionary.proofs.Theorems.{Once}
+use Rattle.dictionary.specs.Claims.{Once}
 use Rattle.bitmap_index.specs.Meaning.{Question, scan}
 use Rattle.bitmap_index.specs.Layout.{EntryRows, ColumnBody}
 use Rattle.bitmap_index.specs.Reading.{audit, auditBuffer, wellFormed, Answer, ask, askBuffer}
@@ -127,7 +127,7 @@ AcceptedAreTheColumns =
 -- ---- 01, VERSION: "body not 1 or 2". Such a body yields no rows: Audit and Ask answer LIMIT or LITERAL where they come first, else VERSION; the buffer stays
 
 pub record RefusesVersion (t q : ℕ) (literal body field : List ℕ) : Type 0 where
-  pub audited : audit t body field ≡ check (leb (length body) limit) Limit (check (ltb t 12) Literal (refuse Version))
+  pub audited : audit t body field ≡ check (leb (length body) limit) Limit (check (ltb t types) Literal (refuse Version))
   pub audited-buffer : auditBuffer t body field ≡ field
   pub answered : ask t q literal body field ≡ andThen (wellFormed t q literal body) (λ ls. refuse Version)
   pub answered-buffer : askBuffer t q literal body field ≡ field

@@ -34,7 +34,8 @@ ExactRows region cells es = All (λ (e : Entry). EntryRows region (rowsWith (e .
 abbrev pub Covers : List Entry → List Cell → Type 0
 Covers es cells = All (λ (c : Cell). someHas c es ≡ true) cells
 
--- ---- the bodies of a column of type t, within 01's limits. That the region's numbers are bytes is not asked: a body is a buffer's, and so all bytes
+-- ---- "A body is the column's if, read as its type, it keeps all rules of body and Roaring form and has its row count", within 01's limits. That the region's
+-- numbers are bytes is not asked: a body is a buffer's, and so all bytes
 
 -- "an entry for each of its values, for each entry exactly the rows of that value, and for null the null rows (has-null 0: none)"; null has at most one entry
 pub record ColumnEntries (cells : List Cell) (region : List ℕ) (nulls es : List Entry) : Type 0 where

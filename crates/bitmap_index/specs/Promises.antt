@@ -7,7 +7,7 @@ use lib.ListN.{length, drop}
 use Rattle.refusal.specs.declared.Refusal.{Refusal}
 use Rattle.refusal.specs.Reading.{Out, refuse, ok, numbersOf}
 use Rattle.row_field.specs.Meaning.{cleared}
-use Rattle.stored_value.specs.Meaning.{Cell}
+use Rattle.stored_value.specs.Meaning.{mostLiterals, Cell}
 use Rattle.stored_value.specs.Reading.{literals}
 use Rattle.dictionary.specs.declared.Checked.{Checked}
 use Rattle.dictionary.specs.declared.Checked.the-variants.{Found}
@@ -54,7 +54,7 @@ Prepares t body field (Found h) = (is : IsRead t body h) × (prepared t body fie
 
 -- bytes are read as the literals ls
 abbrev pub ReadAs : ℕ → List ℕ → List (List ℕ) → Type 0
-ReadAs t literal ls = literals t 1024 [] literal ≡ ok ls
+ReadAs t literal ls = literals t mostLiterals [] literal ≡ ok ls
 
 -- what holds of the literals, if they are read as any
 abbrev pub ForLiterals : ℕ → List ℕ → (List (List ℕ) → Type 0) → Type 0

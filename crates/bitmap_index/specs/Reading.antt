@@ -14,6 +14,7 @@ use Rattle.roaring.specs.declared.Extent.{Extent}
 use Rattle.roaring.specs.declared.Extent.the-variants.{AsLong, Exactly}
 use Rattle.roaring.specs.Reading.{measured}
 use Rattle.refusal.specs.Reading.{Out, refuse, ok, check, andThen}
+use Rattle.stored_value.specs.Meaning.{types, mostLiterals}
 use Rattle.stored_value.specs.Reading.{literals}
 use Rattle.dictionary.specs.Layout.{Entry}
 use Rattle.dictionary.specs.Reading.{Dictionary, dictionary}
@@ -25,15 +26,16 @@ use Rattle.bitmap_index.specs.Meaning.{questions, chosen, takes, keeps}
 
 -- ---- the bitmaps
 
+-- "Length −1, and every version 1 entry, means as long as the bitmap is; any other length must be exactly the bitmap's"
 unfoldable pub extentOf : ℕ → Extent
 extentOf extent = cond (eqb extent minusOne) AsLong (Exactly extent)
 
--- a bitmap's rows placed in a field of n rows: BITMAP and RANGE as roaring has them, then TWICE
+-- a bitmap's rows placed in a field of n rows: "BITMAP, else RANGE, else TWICE", the first two as roaring says them
 unfoldable pub placeBitmap : Extent → ℕ → List ℕ → List ℕ → Out Refusal (List ℕ)
 placeBitmap extent n bytes field =
     andThen (measured extent n bytes) (λ bitmap. check (not (anySet field (bitmap .rows))) Twice (ok (markAll field (bitmap .rows))))
 
--- an entry's rows: the single row of a negative offset, or the bitmap at that place of the region
+-- "a negative offset means the single row −1 − offset, and the length isn't looked at .. Otherwise the bitmap starts at the body plus the offset"
 unfoldable pub placeAt : ℤ → ℕ → ℕ → List ℕ → List ℕ → Out Refusal (List ℕ)
 placeAt (negsuc r) extent n region field = check (ltb r n) Range (check (not (bit field r)) Twice (ok (mark field r)))
 placeAt (pos o) extent n region field = placeBitmap (extentOf extent) n (drop o region) field
@@ -41,22 +43,22 @@ placeAt (pos o) extent n region field = placeBitmap (extentOf extent) n (drop o 
 unfoldable pub placeEntry : ℕ → List ℕ → List ℕ → Entry → Out Refusal (List ℕ)
 placeEntry n region field e = placeAt (signed32 (e .offset)) (e .extent) n region field
 
--- the rows of entries, in their order
+-- "null's and each entry's bitmap in stored order"
 unfoldable pub placeEntries : ℕ → List ℕ → List Entry → List ℕ → Out Refusal (List ℕ)
 placeEntries n region [] field = ok field
 placeEntries n region (e ∷ es) field = andThen (placeEntry n region field e) (placeEntries n region es)
 
 -- ---- Audit: the limit, the type, the dictionary, ROOM; then every bitmap in a zero field, then MISSING
 
+-- "a lent field has fewer than ceil(n/8) bytes"
 unfoldable pub roomFor : List ℕ → Dictionary → Out Refusal Dictionary
 roomFor field d = check (leb (size (d .rows)) (length field)) Room (ok d)
 
--- all that comes before a byte of the field is written
+-- all that comes before a byte of the field is written. Of an unknown type, `dictionary` says LITERAL before it looks at a byte
 unfoldable pub prepared : ℕ → List ℕ → List ℕ → Out Refusal Dictionary
-prepared t body field =
-    check (leb (length body) limit) Limit (check (ltb t 12) Literal (andThen (dictionary t body) (roomFor field)))
+prepared t body field = check (leb (length body) limit) Limit (andThen (dictionary t body) (roomFor field))
 
--- in a field that is zero
+-- in a field that is zero: every row has its place, and else "a row never placed"
 unfoldable pub audited : Dictionary → List ℕ → Out Refusal ℕ
 audited d zero =
     andThen (placeEntries (d .rows) (d .region) (d .entries) zero) (λ full. check (eqb (count full (d .rows)) (d .rows)) Missing (ok (d .rows)))
@@ -64,7 +66,7 @@ audited d zero =
 unfoldable pub audit : ℕ → List ℕ → List ℕ → Out Refusal ℕ
 audit t body field = andThen (prepared t body field) (λ d. audited d (cleared (d .rows) field))
 
--- the buffer then: as it was up to and at ROOM, and with the field's bytes zero from there on
+-- "Refusals before and at the ROOM stage leave the buffer untouched. Later ones leave the field's ceil(n/8) bytes zero. An accepted audit leaves them zero too"
 unfoldable pub zeroedFrom : Out Refusal Dictionary → List ℕ → List ℕ
 zeroedFrom (refuse r) field = field
 zeroedFrom (ok d) field = cleared (d .rows) field
@@ -74,6 +76,7 @@ auditBuffer t body field = zeroedFrom (prepared t body field) field
 
 -- ---- Ask: the literals, the audit, then the rows of each chosen entry in a zero field, and how many they are
 
+-- the entries whose rows the question chooses
 unfoldable pub chosenOf : ℕ → List (List ℕ) → List Entry → List Entry
 chosenOf q ls [] = []
 chosenOf q ls (e ∷ es) = cond (chosen q ls (e .cell)) (e ∷ chosenOf q ls es) (chosenOf q ls es)
@@ -83,25 +86,27 @@ pub record Answer : Type 0 where
   pub buffer : List ℕ
   pub matched : ℕ
 
--- in a field that is zero
+-- in a field that is zero: the chosen entries' rows, and the count of ones in the field
 unfoldable pub answered : ℕ → List (List ℕ) → Dictionary → List ℕ → Out Refusal Answer
 answered q ls d zero =
     andThen (placeEntries (d .rows) (d .region) (chosenOf q ls (d .entries)) zero) (λ field. ok (record { buffer = field; matched = count field (d .rows) }))
 
+-- "audits the whole body, then answers"
 unfoldable pub auditedAnswer : ℕ → List (List ℕ) → Dictionary → List ℕ → Out Refusal Answer
 auditedAnswer q ls d zero = andThen (audited d zero) (λ rows. answered q ls d zero)
 
--- the limits, the type and the question, then the literals and their number: whether the question is well-formed
+-- "A well-formed question has a known type and name and literals that fit, in form and number": the limits on both buffers, the type and the question, then
+-- the literals in turn, then their number
 unfoldable pub wellFormed : ℕ → ℕ → List ℕ → List ℕ → Out Refusal (List (List ℕ))
 wellFormed t q literal body =
-    check (leb (length body) limit && leb (length literal) limit) Limit (check (ltb t 12 && ltb q questions) Literal
-    (andThen (literals t 1024 [] literal) (λ ls. check (takes q (length ls)) Literal (ok ls))))
+    check (leb (length body) limit && leb (length literal) limit) Limit (check (ltb t types && ltb q questions) Literal
+    (andThen (literals t mostLiterals [] literal) (λ ls. check (takes q (length ls)) Literal (ok ls))))
 
 unfoldable pub ask : ℕ → ℕ → List ℕ → List ℕ → List ℕ → Out Refusal Answer
 ask t q literal body field =
     andThen (wellFormed t q literal body) (λ ls. andThen (prepared t body field) (λ d. auditedAnswer q ls d (cleared (d .rows) field)))
 
--- the buffer then: the answer's, and with a refusal as Audit's, untouched where the question is refused
+-- the buffer then: the answer's, and with a refusal what Audit leaves; a question that is refused leaves it untouched
 unfoldable pub answerBuffer : Out Refusal Answer → List ℕ → List ℕ
 answerBuffer (refuse r) otherwise = otherwise
 answerBuffer (ok a) otherwise = a .buffer

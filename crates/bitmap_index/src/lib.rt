@@ -20,9 +20,7 @@ use roaring::Extent;
 use roaring::Marked;
 use stored_value::Counted;
 
-// How many types and questions there are (document 01, "The table of widths", "Questions").
-const TYPES: u32 = 12;
-
+// How many questions there are (document 01, "Questions").
 const QUESTIONS: u32 = 6;
 
 // What Audit answers: a refusal, or the row count.
@@ -268,15 +266,12 @@ fn audit_field(field: &mut [u8], body: &[u8], summary: Summary, t: u32) -> Audit
     answer
 }
 
-// The limit, the type, the dictionary, ROOM: all that comes before a byte of the field is written.
+// The limit, the dictionary, which tests the type first, and ROOM: all that comes before a byte of the field is written.
 fn prepare(body: &[u8], t: u32, field: &[u8]) -> Checked
     ensures { λ r. ⌜ Prepares t (now (body .entry)) (now (field .entry)) r ⌝ }
 {
     if refusal::LIMIT < body.len() as u64 {
         return Checked::Refused(Refusal::Limit);
-    }
-    if TYPES <= t {
-        return Checked::Refused(Refusal::Literal);
     }
     let checked = dictionary::read(body, t);
     match checked {
@@ -325,7 +320,7 @@ fn test_question(body: &[u8], t: u32, question: u32, literals: &[u8]) -> Outcome
     if refusal::LIMIT < literals.len() as u64 {
         return Outcome::Refused(Refusal::Limit);
     }
-    if TYPES <= t {
+    if stored_value::TYPES <= t {
         return Outcome::Refused(Refusal::Literal);
     }
     if QUESTIONS <= question {

@@ -14,9 +14,10 @@ use mir.Val.{SFits, toZ, ofZ}
 use mir.Facts.{toZ-ofZ}
 use borrow.Author.Tests.{le-leb, lt-leb, lt-ltb, le-ltb, ne-eqb}
 use Rattle.numbers.specs.Meaning.{big, beAt, number, signed32, signBit, minusOne}
+use Rattle.stored_value.specs.Meaning.{types}
 use Rattle.refusal.specs.Meaning.{limit}
 use Rattle.refusal.specs.declared.Refusal.{Refusal}
-use Rattle.refusal.specs.declared.Refusal.the-variants.{Short, Dict, Limit, Version}
+use Rattle.refusal.specs.declared.Refusal.the-variants.{Short, Version, Dict, Literal, Limit}
 use Rattle.refusal.specs.Reading.{Out, refuse, check, numbersOf}
 use Rattle.numbers.specs.declared.Position.{Position}
 use Rattle.dictionary.specs.declared.Cursor.{Cursor}
@@ -119,52 +120,52 @@ known t (suc (suc zero)) s l m = refl
 known t (suc (suc (suc v))) s l m = absurd (omega arith)
 
 module _ (s : List ℕ) where
-  pub fixed-empty : length s < 1 → (t : ℕ) → dictionary t s ≡ refuse Short
-  unfolding dictionary
-  fixed-empty h t = word-short 1 s 0 _ (omega arith)
+  pub fixed-empty : length s < 1 → (t : ℕ) → t < types → dictionary t s ≡ refuse Short
+  unfolding dictionary check
+  fixed-empty h t k = rw (lt-ltb t types k) (word-short 1 s 0 _ (omega arith))
 
   module _ (l : 1 ≤ length s) {v : ℕ} (e : v ≡ getD s 0 0) where
-    versioned : (t : ℕ) → dictionary t s ≡ check (eqb v 1 || eqb v 2) Version
+    versioned : (t : ℕ) → t < types → dictionary t s ≡ check (eqb v 1 || eqb v 2) Version
         (counted limit (drop 1 s) (λ rows s. counted (cond (eqb v 1) mostValues1 mostValues2) s (λ n s.
         number big 1 (refuse Short) s (λ hasNull s. check (leb hasNull 1) Dict
         (nullOf (eqb v 2) (eqb hasNull 1) s (λ nulls s.
         cond (eqb v 1) (entriesOne t rows n nulls [] s) (blocked t rows n nulls s)))))))
-    unfolding dictionary
-    versioned t = let b : beAt 1 s 0 ≡ v = byte-at s 0 ∙ sym e in word-at 1 s 0 _ l ∙ simp b
+    unfolding dictionary check
+    versioned t k = let b : beAt 1 s 0 ≡ v = byte-at s 0 ∙ sym e in rw (lt-ltb t types k) (word-at 1 s 0 _ l ∙ simp b)
 
-    pub fixed-version : (v < 1) ⊎ (2 < v) → (t : ℕ) → dictionary t s ≡ refuse Version
+    pub fixed-version : (v < 1) ⊎ (2 < v) → (t : ℕ) → t < types → dictionary t s ≡ refuse Version
     unfolding check
-    fixed-version h t = versioned t ∙ simp (ne-eqb v 1 (λ q. ⊎-elim (λ w. omega arith) (λ w. omega arith) h), ne-eqb v 2 (λ q. ⊎-elim (λ w. omega arith) (λ w. omega arith) h))
+    fixed-version h t k = versioned t k ∙ simp (ne-eqb v 1 (λ q. ⊎-elim (λ w. omega arith) (λ w. omega arith) h), ne-eqb v 2 (λ q. ⊎-elim (λ w. omega arith) (λ w. omega arith) h))
 
     module _ (lo : 1 ≤ v) (hi : v ≤ 2) where
-      pub fixed-opened : (t : ℕ) → dictionary t s ≡ opened t v (drop 1 s)
-      fixed-opened t = versioned t ∙ known t v (drop 1 s) lo hi
+      pub fixed-opened : (t : ℕ) → t < types → dictionary t s ≡ opened t v (drop 1 s)
+      fixed-opened t k = versioned t k ∙ known t v (drop 1 s) lo hi
 
-      pub fixed-rows : {r : Refusal} → CountAt limit s 1 (Count.Refused r) → (t : ℕ) → dictionary t s ≡ refuse r
-      fixed-rows q t = fixed-opened t ∙ q _
+      pub fixed-rows : {r : Refusal} → CountAt limit s 1 (Count.Refused r) → (t : ℕ) → t < types → dictionary t s ≡ refuse r
+      fixed-rows q t k = fixed-opened t k ∙ q _
 
       module _ {rows m : ℕ} (R : CountAt limit s 1 (Is rows)) (M : m ≡ cond (eqb v 2) mostValues2 mostValues1) where
-        pub fixed-values : {r : Refusal} → CountAt m s 5 (Count.Refused r) → (t : ℕ) → dictionary t s ≡ refuse r
-        fixed-values q t = fixed-opened t ∙ R .0 _ ∙ rw M at q _
+        pub fixed-values : {r : Refusal} → CountAt m s 5 (Count.Refused r) → (t : ℕ) → t < types → dictionary t s ≡ refuse r
+        fixed-values q t k = fixed-opened t k ∙ R .0 _ ∙ rw M at q _
 
         module _ {n : ℕ} (N : CountAt m s 5 (Is n)) where
-          numbered : (t : ℕ) → dictionary t s ≡ number big 1 (refuse Short) (drop 9 s) (λ h s. check (leb h 1) Dict (nullOf (eqb v 2) (eqb h 1) s (λ ns s. entriesOf (eqb v 2) t rows n ns s)))
-          numbered t = fixed-opened t ∙ R .0 _ ∙ (rw M at N) .0 _
+          numbered : (t : ℕ) → t < types → dictionary t s ≡ number big 1 (refuse Short) (drop 9 s) (λ h s. check (leb h 1) Dict (nullOf (eqb v 2) (eqb h 1) s (λ ns s. entriesOf (eqb v 2) t rows n ns s)))
+          numbered t k = fixed-opened t k ∙ R .0 _ ∙ (rw M at N) .0 _
 
-          pub fixed-short : length s < 10 → (t : ℕ) → dictionary t s ≡ refuse Short
-          fixed-short h t = numbered t ∙ word-short 1 s 9 _ (omega arith)
+          pub fixed-short : length s < 10 → (t : ℕ) → t < types → dictionary t s ≡ refuse Short
+          fixed-short h t k = numbered t k ∙ word-short 1 s 9 _ (omega arith)
 
           module _ (r : 10 ≤ length s) {h : ℕ} (g : h ≡ getD s 9 0) where
-            flagged : (t : ℕ) → dictionary t s ≡ check (leb h 1) Dict (nullOf (eqb v 2) (eqb h 1) (drop 10 s) (λ ns s. entriesOf (eqb v 2) t rows n ns s))
-            flagged t = let b : beAt 1 s 9 ≡ h = byte-at s 9 ∙ sym g in numbered t ∙ word-at 1 s 9 _ r ∙ simp b
+            flagged : (t : ℕ) → t < types → dictionary t s ≡ check (leb h 1) Dict (nullOf (eqb v 2) (eqb h 1) (drop 10 s) (λ ns s. entriesOf (eqb v 2) t rows n ns s))
+            flagged t k = let b : beAt 1 s 9 ≡ h = byte-at s 9 ∙ sym g in numbered t k ∙ word-at 1 s 9 _ r ∙ simp b
 
-            pub fixed-wrong : 1 < h → (t : ℕ) → dictionary t s ≡ refuse Dict
+            pub fixed-wrong : 1 < h → (t : ℕ) → t < types → dictionary t s ≡ refuse Dict
             unfolding check
-            fixed-wrong w t = flagged t ∙ simp (lt-leb h 1 w)
+            fixed-wrong w t k = flagged t k ∙ simp (lt-leb h 1 w)
 
             pub fixed-fields : h ≤ 1 → FixedOf s (Fields (eqb v 2) (eqb h 1) rows n)
             unfolding check
-            fixed-fields w = (λ t. flagged t ∙ simp (le-leb h 1 w), r, rw e)
+            fixed-fields w = (λ t k. flagged t k ∙ simp (le-leb h 1 w), r, rw e)
 
 -- ---- the whole, by its fields, null's entry and its entries
 
@@ -177,28 +178,32 @@ by-one t n s at version2 r h w = rw h w
 module _ (t : ℕ) (s : List ℕ) where
   pub refused-so : {r : Refusal} → dictionary t s ≡ refuse r → ReadsDictionary t s (Checked.Refused r)
   unfolding numbersOf
-  refused-so e = record { so = e; numbers = rw e }
+  refused-so e = record { answer = e; numbers = rw e }
+
+  pub read-unknown : types ≤ t → ReadsDictionary t s (Checked.Refused Literal)
+  unfolding dictionary check
+  read-unknown h = refused-so (rw (le-ltb t types h))
 
   found-so : (h : Summary) → IsRead t s h → ReadsDictionary t s (Checked.Found h)
   unfolding numbersOf
-  found-so h d = record { so = d; numbers = rw (d .so, length-append (nullsOf h) (d .entries), d .summary .many) }
+  found-so h d = record { answer = d; numbers = rw (d .so, length-append (nullsOf h) (d .entries), d .summary .many) }
 
-  module _ {x : Fixed} {version2 has : Bool} {rows values : ℕ} (e : x ≡ Fixed.Fields version2 has rows values) (f : FixedOf s x) {y : Null} (n : NullAt version2 has s 10 y) where
+  module _ (k : t < types) {x : Fixed} {version2 has : Bool} {rows values : ℕ} (e : x ≡ Fixed.Fields version2 has rows values) (f : FixedOf s x) {y : Null} (n : NullAt version2 has s 10 y) where
     pub read-null : {r : Refusal} → y ≡ Null.Refused r → ReadsDictionary t s (Checked.Refused r)
-    read-null g = refused-so ((rw e at f) .0 t ∙ (rw g at n) _)
+    read-null g = refused-so ((rw e at f) .0 t k ∙ (rw g at n) _)
 
     module _ {offset : ℤ} {extent : ℕ} {next : Position} (g : y ≡ Null.Numbers offset extent next) {z : AllEntries} (w : AllEntriesAt version2 t values s (next .0) z) where
       pub read-refused : {r : Refusal} → z ≡ AllEntries.Refused r → ReadsDictionary t s (Checked.Refused r)
-      read-refused h = refused-so ((rw e at f) .0 t ∙ (rw g at n) .0 _ ∙ (rw h at w) rows (nulls has offset extent))
+      read-refused h = refused-so ((rw e at f) .0 t k ∙ (rw g at n) .0 _ ∙ (rw h at w) rows (nulls has offset extent))
 
       pub read-found : {first : Cursor} {region : Position} → SFits w32 offset → z ≡ AllEntries.Sound first region → ReadsDictionary t s
           (Checked.Found (record { rows = rows; values = values; version2 = version2; «has_null» = has; «null_offset» = toZ w32 (ofZ w32 offset); «null_extent» = extent; first = first; region = region }))
-      read-found k h =
+      read-found fit h =
           let v = rw h at w in
-          rw (toZ-ofZ k)
+          rw (toZ-ofZ fit)
           (found-so _ (record {
             entries = v .0;
-            so = (rw e at f) .0 t ∙ (rw g at n) .0 _ ∙ v .1 rows (nulls has offset extent);
+            so = (rw e at f) .0 t k ∙ (rw g at n) .0 _ ∙ v .1 rows (nulls has offset extent);
             summary =
                 record { many = v .2; stand = v .3; left = v .4; start = v .5; region = v .6; version = (rw e at f) .2; zeros = (rw g at n) .2 };
           }))

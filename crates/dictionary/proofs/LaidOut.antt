@@ -3,21 +3,23 @@ use mathlib.Core.Path.{_≡_, refl, ap, _∙_}
 use Prim.Native.Nat.{ℕ, suc, _+_, _≤_, _<_}
 use native.Mathlib.Nat.{zero-add}
 use native.Mathlib.Omega.{arith}
-use mathlib.Core.Bool.{Bool, true, false, _||_, cond}
+use mathlib.Core.Bool.{true, false, _||_, cond}
 use mathlib.Core.List.{List, [], _∷_, _++_, append-assoc, append-nil}
 use lib.ListN.{length, length-append}
 use lib.Seq.{take-at, drop-at}
 use lib.Dec.{eqb, leb}
 use borrow.Author.Tests.{le-leb, lt-ltb, eq-eqb, ne-eqb}
-use Rattle.numbers.specs.Meaning.{be, big, number, joined}
+use Rattle.numbers.specs.Meaning.{be, big, number, joined, signBit}
+use Rattle.numbers.proofs.Booleans.{or-neither}
 use Rattle.numbers.proofs.Laws.{number-laid}
+use Rattle.refusal.specs.Meaning.{limit}
 use Rattle.refusal.specs.declared.Refusal.{Refusal}
 use Rattle.refusal.specs.declared.Refusal.the-variants.{Short, Dict}
-use Rattle.stored_value.specs.Meaning.{Cell, null, value, sameCell}
+use Rattle.stored_value.specs.Meaning.{types, Cell, null, value, sameCell}
 use Rattle.refusal.specs.Reading.{Out, refuse, ok, check, andThen}
 use Rattle.stored_value.specs.Reading.{valueOf}
 use Rattle.dictionary.specs.Promises.{Patterns}
-use Rattle.dictionary.specs.Layout.{Entry, Valued, NullOnly, someHas, Distinct, NoExtents, valueBytes, entries1, hasNull, null1, body1, first, Past, Rises, NoneEmpty, entries2, block, blocks, directory, null2, body2}
+use Rattle.dictionary.specs.Layout.{Entry, mostValues1, mostValues2, mostBlocks, Valued, NullOnly, someHas, Distinct, NoExtents, valueBytes, entries1, hasNull, null1, body1, first, Past, Rises, NoneEmpty, entries2, block, blocks, directory, null2, body2}
 use Rattle.dictionary.specs.Reading.{counted, Dictionary, entriesOne, Listing, listings, past, isDue, entriesTwo, behind, blocksOf, blocked, nullOf, dictionary}
 use Rattle.numbers.proofs.SameBytes.{same-refl}
 use Rattle.stored_value.proofs.Laws.{value-laid, sameCell-sym}
@@ -28,12 +30,12 @@ cell-back : (t : ℕ) (c : Cell) → Valued t c → value (valueBytes c) ≡ c
 cell-back t null h = absurd h
 cell-back t (value v) h = refl
 
-valueOf-laid : {A : Type 0} (t : ℕ) (c : Cell) (tail : List ℕ) (k : List ℕ → List ℕ → Out Refusal A) → t < 12 → Valued t c
+valueOf-laid : {A : Type 0} (t : ℕ) (c : Cell) (tail : List ℕ) (k : List ℕ → List ℕ → Out Refusal A) → Valued t c
     → valueOf Short Dict t (valueBytes c ++ tail) k ≡ k (valueBytes c) tail
 unfolding valueOf andThen
-valueOf-laid t null tail k h v = absurd v
-valueOf-laid t (value w) tail k h v =
-    rw (value-laid Short Dict t w tail v h, take-at w tail (length w) refl, drop-at w tail (length w) refl)
+valueOf-laid t null tail k v = absurd v
+valueOf-laid t (value w) tail k v =
+    rw (value-laid Short Dict t w tail v, take-at w tail (length w) refl, drop-at w tail (length w) refl)
 
 -- ---- version 1: no entry's cell stands among those before it
 
@@ -41,40 +43,36 @@ abbrev pub Apart : List Entry → List Entry → Type 0
 Apart before [] = Unit {0}
 Apart before (e ∷ es) = (someHas (e .cell) before ≡ false) × Apart before es
 
-pub or-false : (a b : Bool) → (a || b) ≡ false → (a ≡ false) × (b ≡ false)
-or-false true b e = let z : _≡_ {A = ℕ} 0 1 = cc in absurd (omega arith)
-or-false false b e = (refl, e)
-
 some-last : (c : Cell) (es : List Entry) (e : Entry) → someHas c es ≡ false → sameCell c (e .cell) ≡ false → someHas c (es ++ (e ∷ [])) ≡ false
 some-last c [] e p q = rw q
 some-last c (d ∷ es) e p q =
-    let o = or-false (sameCell c (d .cell)) (someHas c es) p in
+    let o = or-neither (sameCell c (d .cell)) (someHas c es) p in
     rw (o .0, some-last c es e (o .1) q)
 
 apart-more : (before : List Entry) (e : Entry) (es : List Entry) → Apart before es → someHas (e .cell) es ≡ false → Apart (before ++ (e ∷ [])) es
 apart-more before e [] a p = tt
 apart-more before e (d ∷ es) a p =
-    let o = or-false (sameCell (e .cell) (d .cell)) (someHas (e .cell) es) p in
+    let o = or-neither (sameCell (e .cell) (d .cell)) (someHas (e .cell) es) p in
     (some-last (d .cell) before e (a .0) (sameCell-sym (d .cell) (e .cell) ∙ o .0), apart-more before e es (a .1) (o .1))
 
 apart-none : (es : List Entry) → Apart [] es
 apart-none [] = tt
 apart-none (e ∷ es) = (refl, apart-none es)
 
-entriesOne-laid : (t rows : ℕ) (nulls before es : List Entry) (region : List ℕ) → t < 12 → Distinct t es → Apart before es → NoExtents es → Patterns es
+entriesOne-laid : (t rows : ℕ) (nulls before es : List Entry) (region : List ℕ) → Distinct t es → Apart before es → NoExtents es → Patterns es
     → entriesOne t rows (length es) nulls before (entries1 es ++ region) ≡ ok (record { rows = rows; entries = nulls ++ (before ++ es); region = region })
 unfolding entriesOne check
-entriesOne-laid t rows nulls before [] region h d a x p = simp append-nil
-entriesOne-laid t rows nulls before (e ∷ es) region h d a x p =
+entriesOne-laid t rows nulls before [] region d a x p = simp append-nil
+entriesOne-laid t rows nulls before (e ∷ es) region d a x p =
     let c : Cell = e .cell in
     rw (append-assoc (valueBytes c) (be 4 (e .offset) ++ entries1 es) region)
-    (valueOf-laid t c (be 4 (e .offset) ++ (entries1 es ++ region)) _ h (d .0)
+    (valueOf-laid t c (be 4 (e .offset) ++ (entries1 es ++ region)) _ (d .0)
     ∙ rw (cell-back t c (d .0), a .0)
     (number-laid big 4 (refuse Short) (e .offset) (entries1 es ++ region) _ (p .0)
-    ∙ rw (← x .0) (entriesOne-laid t rows nulls (before ++ (e ∷ [])) es region h (d .2) (apart-more before e es (a .1) (d .1)) (x .1) (p .2)
+    ∙ rw (← x .0) (entriesOne-laid t rows nulls (before ++ (e ∷ [])) es region (d .2) (apart-more before e es (a .1) (d .1)) (x .1) (p .2)
     ∙ rw (append-assoc before (e ∷ []) es))))
 
--- ---- the head
+-- ---- the fields before the entries
 
 patterns-cut : (xs ys : List Entry) → Patterns (xs ++ ys) → Patterns xs × Patterns ys
 patterns-cut [] ys p = (tt, p)
@@ -84,10 +82,10 @@ extents-cut : (xs ys : List Entry) → NoExtents (xs ++ ys) → NoExtents xs × 
 extents-cut [] ys p = (tt, p)
 extents-cut (x ∷ xs) ys p = let q = extents-cut xs ys (p .1) in ((p .0, q .0), q .1)
 
-counted-laid : {A : Type 0} (most n : ℕ) (s : List ℕ) (k : ℕ → List ℕ → Out Refusal A) → n ≤ most → n ≤ 2147483647 → counted most (be 4 n ++ s) k ≡ k n s
+counted-laid : {A : Type 0} (most n : ℕ) (s : List ℕ) (k : ℕ → List ℕ → Out Refusal A) → n ≤ most → n ≤ limit → counted most (be 4 n ++ s) k ≡ k n s
 unfolding counted check
 counted-laid most n s k h l =
-    number-laid big 4 (refuse Short) n s _ (omega arith) ∙ rw (lt-ltb n 2147483648 (omega arith), le-leb n most h)
+    number-laid big 4 (refuse Short) n s _ (omega arith) ∙ rw (lt-ltb n signBit (omega arith), le-leb n most h)
 
 pub byte-laid : {A : Type 0} (b : ℕ) (s : List ℕ) (k : ℕ → List ℕ → Out Refusal A) → number big 1 (refuse Short) (b ∷ s) k ≡ k b s
 unfolding number
@@ -99,19 +97,20 @@ null-flag (e ∷ es) = omega arith
 
 -- the most values of a version
 most : ℕ → ℕ
-most v = cond (eqb v 1) 4096 65536
+most v = cond (eqb v 1) mostValues1 mostValues2
 
-fixed-laid : (t v rows n : ℕ) (nulls : List Entry) (s : List ℕ) → (eqb v 1 || eqb v 2) ≡ true → rows ≤ 2147483647 → n ≤ most v → n ≤ 65536
+fixed-laid : (t v rows n : ℕ) (nulls : List Entry) (s : List ℕ) → t < types → (eqb v 1 || eqb v 2) ≡ true → rows ≤ limit → n ≤ most v → n ≤ mostValues2
     → dictionary t (v ∷ (be 4 rows ++ (be 4 n ++ (hasNull nulls ∷ s))))
     ≡ nullOf (eqb v 2) (eqb (hasNull nulls) 1) s (λ nulls s. cond (eqb v 1) (entriesOne t rows n nulls [] s) (blocked t rows n nulls s))
 unfolding dictionary check most
-fixed-laid t v rows n nulls s e hr hm hn =
+fixed-laid t v rows n nulls s k e hr hm hn =
     let f : hasNull nulls ≤ 1 = null-flag nulls in
-    byte-laid v (be 4 rows ++ (be 4 n ++ (hasNull nulls ∷ s))) _
-    ∙ rw e (counted-laid 2147483647 rows (be 4 n ++ (hasNull nulls ∷ s)) _ hr hr
+    rw (lt-ltb t types k)
+    (byte-laid v (be 4 rows ++ (be 4 n ++ (hasNull nulls ∷ s))) _
+    ∙ rw e (counted-laid limit rows (be 4 n ++ (hasNull nulls ∷ s)) _ hr hr
     ∙ counted-laid (most v) n (hasNull nulls ∷ s) _ hm (omega arith)
     ∙ byte-laid (hasNull nulls) s _
-    ∙ rw (le-leb (hasNull nulls) 1 f))
+    ∙ rw (le-leb (hasNull nulls) 1 f)))
 
 null1-laid : (nulls : List Entry) (s : List ℕ) (k : List Entry → List ℕ → Out Refusal Dictionary) → NullOnly nulls → NoExtents nulls → Patterns nulls
     → nullOf false (eqb (hasNull nulls) 1) (null1 nulls ++ s) k ≡ k nulls s
@@ -129,16 +128,16 @@ null2-laid (e ∷ es) s k h p =
     ∙ number-laid big 4 (refuse Short) (e .extent) s _ (p .1) ∙ rw (← h .0, h .1)
 
 -- laid out in version 1, so read
-pub one-laid : (t rows : ℕ) (nulls es : List Entry) (region : List ℕ) → t < 12 → Distinct t es → NullOnly nulls → NoExtents (nulls ++ es)
-    → Patterns (nulls ++ es) → rows ≤ 2147483647 → length es ≤ 4096
+pub one-laid : (t rows : ℕ) (nulls es : List Entry) (region : List ℕ) → t < types → Distinct t es → NullOnly nulls → NoExtents (nulls ++ es)
+    → Patterns (nulls ++ es) → rows ≤ limit → length es ≤ mostValues1
     → dictionary t (body1 rows nulls es region) ≡ ok (record { rows = rows; entries = nulls ++ es; region = region })
 unfolding most
 one-laid t rows nulls es region h d o x p r l =
     let q = patterns-cut nulls es p in
     let y = extents-cut nulls es x in
-    fixed-laid t 1 rows (length es) nulls (null1 nulls ++ (entries1 es ++ region)) refl r l (omega arith)
+    fixed-laid t 1 rows (length es) nulls (null1 nulls ++ (entries1 es ++ region)) h refl r l (omega arith)
     ∙ null1-laid nulls (entries1 es ++ region) _ o (y .0) (q .0)
-    ∙ entriesOne-laid t rows nulls [] es region h d (apart-none es) (y .1) (q .1)
+    ∙ entriesOne-laid t rows nulls [] es region d (apart-none es) (y .1) (q .1)
 
 -- ---- version 2: the directory
 
@@ -171,17 +170,17 @@ headed t before (b ∷ bs) h r =
     (first-valued t before b (h .0) (q .0), headed t (lastOf before b) bs (h .1) (q .1))
 
 listings-laid : {A : Type 0} (t at : ℕ) (bs : List (List Entry)) (ds : List Listing) (s : List ℕ) (k : List Listing → List ℕ → Out Refusal A)
-    → t < 12 → Headed t bs → at + length (blocks bs) ≤ 2147483647 → listings t (length bs) ds (directory at bs ++ s) k ≡ k (ds ++ listingsOf at bs) s
+    → Headed t bs → at + length (blocks bs) ≤ limit → listings t (length bs) ds (directory at bs ++ s) k ≡ k (ds ++ listingsOf at bs) s
 unfolding listings
-listings-laid t at [] ds s k h v l = simp append-nil
-listings-laid t at (b ∷ bs) ds s k h v l =
+listings-laid t at [] ds s k v l = simp append-nil
+listings-laid t at (b ∷ bs) ds s k v l =
     let c : Cell = first b in
     let rest : List ℕ = directory (at + length (block b)) bs in
     let m : length (block b ++ blocks bs) ≡ length (block b) + length (blocks bs) = length-append (block b) (blocks bs) in
     rw (append-assoc (valueBytes c) (be 4 at ++ rest) s)
-    (valueOf-laid t c (be 4 at ++ (rest ++ s)) _ h (v .0)
+    (valueOf-laid t c (be 4 at ++ (rest ++ s)) _ (v .0)
     ∙ number-laid big 4 (refuse Short) at (rest ++ s) _ (omega arith)
-    ∙ listings-laid t (at + length (block b)) bs (ds ++ (record { first = valueBytes c; at = at } ∷ [])) s k h (v .1) (omega arith)
+    ∙ listings-laid t (at + length (block b)) bs (ds ++ (record { first = valueBytes c; at = at } ∷ [])) s k (v .1) (omega arith)
     ∙ rw (append-assoc ds (record { first = valueBytes c; at = at } ∷ []) (listingsOf (at + length (block b)) bs)))
 
 -- ---- the blocks
@@ -208,18 +207,18 @@ begins-own [] = tt
 begins-own (e ∷ es) = same-refl (valueBytes (e .cell))
 
 entriesTwo-laid : {A : Type 0} (t : ℕ) (before due : Cell) (es sofar : List Entry) (s : List ℕ) (k : Cell → List Entry → List ℕ → Out Refusal A)
-    → t < 12 → Rises t before es → Begins due es → Patterns es
+    → Rises t before es → Begins due es → Patterns es
     → entriesTwo t (length es) before due sofar (entries2 es ++ s) k ≡ k (lastOf before es) (sofar ++ es) s
 unfolding entriesTwo check
-entriesTwo-laid t before due [] sofar s k h r b p = simp append-nil
-entriesTwo-laid t before due (e ∷ es) sofar s k h r b p =
+entriesTwo-laid t before due [] sofar s k r b p = simp append-nil
+entriesTwo-laid t before due (e ∷ es) sofar s k r b p =
     let c : Cell = e .cell in
     rw (append-assoc (valueBytes c) (be 4 (e .offset) ++ (be 4 (e .extent) ++ entries2 es)) s)
-    (valueOf-laid t c (be 4 (e .offset) ++ (be 4 (e .extent) ++ (entries2 es ++ s))) _ h (r .0)
+    (valueOf-laid t c (be 4 (e .offset) ++ (be 4 (e .extent) ++ (entries2 es ++ s))) _ (r .0)
     ∙ rw (past-true t before c (r .0) (r .1), b, cell-back t c (r .0))
     (number-laid big 4 (refuse Short) (e .offset) (be 4 (e .extent) ++ (entries2 es ++ s)) _ (p .0)
     ∙ number-laid big 4 (refuse Short) (e .extent) (entries2 es ++ s) _ (p .1)
-    ∙ entriesTwo-laid t c null es (sofar ++ (e ∷ [])) s k h (r .2) (begins-any es) (p .2)
+    ∙ entriesTwo-laid t c null es (sofar ++ (e ∷ [])) s k (r .2) (begins-any es) (p .2)
     ∙ rw (append-assoc sofar (e ∷ []) es)))
 
 pub behind-is : (at : ℕ) (base s : List ℕ) → length base ≡ at + length s → behind base s ≡ at
@@ -227,11 +226,11 @@ unfolding behind
 behind-is at base s h = omega arith
 
 blocksOf-laid : (t at : ℕ) (base : List ℕ) (before : Cell) (bs : List (List Entry)) (sofar : List Entry) (s : List ℕ) (k : List Entry → List ℕ → Out Refusal Dictionary)
-    → t < 12 → length base ≡ at + length (blocks bs ++ s) → NoneEmpty bs → Rises t before (joined bs) → Patterns (joined bs) → length (joined bs) ≤ 65536
+    → length base ≡ at + length (blocks bs ++ s) → NoneEmpty bs → Rises t before (joined bs) → Patterns (joined bs) → length (joined bs) ≤ mostValues2
     → blocksOf t (listingsOf at bs) base before sofar (blocks bs ++ s) k ≡ k (sofar ++ joined bs) s
 unfolding blocksOf check
-blocksOf-laid t at base before [] sofar s k h z n r p l = simp append-nil
-blocksOf-laid t at base before (b ∷ bs) sofar s k h z n r p l =
+blocksOf-laid t at base before [] sofar s k z n r p l = simp append-nil
+blocksOf-laid t at base before (b ∷ bs) sofar s k z n r p l =
     let m : length (b ++ joined bs) ≡ length b + length (joined bs) = length-append b (joined bs) in
     let rest : List ℕ = blocks bs ++ s in
     let e : (block b ++ blocks bs) ++ s ≡ block b ++ rest = append-assoc (block b) (blocks bs) s in
@@ -241,9 +240,9 @@ blocksOf-laid t at base before (b ∷ bs) sofar s k h z n r p l =
     let u = rises-cut t before b (joined bs) r in
     rw (e, behind-is at base (block b ++ rest) z′, eq-eqb at at refl)
     (number-laid big 4 (refuse Short) (length b) (entries2 b ++ rest) _ (omega arith)
-    ∙ rw (le-leb 1 (length b) (n .0), lt-ltb (length b) 2147483648 (omega arith))
-    (entriesTwo-laid t before (value (valueBytes (first b))) b sofar rest _ h (u .0) (begins-own b) (q .0)
-    ∙ blocksOf-laid t (at + length (block b)) base (lastOf before b) bs (sofar ++ b) s k h w (n .1) (u .1) (q .1) (omega arith)
+    ∙ rw (le-leb 1 (length b) (n .0), lt-ltb (length b) signBit (omega arith))
+    (entriesTwo-laid t before (value (valueBytes (first b))) b sofar rest _ (u .0) (begins-own b) (q .0)
+    ∙ blocksOf-laid t (at + length (block b)) base (lastOf before b) bs (sofar ++ b) s k w (n .1) (u .1) (q .1) (omega arith)
     ∙ rw (append-assoc sofar b (joined bs))))
 
 -- blocks are there exactly when values are
@@ -253,19 +252,19 @@ none-exactly (b ∷ bs) n =
     let m : length (b ++ joined bs) ≡ length b + length (joined bs) = length-append b (joined bs) in
     rw (ne-eqb (length (b ++ joined bs)) 0 (omega (arith, n .0)), le-leb 1 (suc (length bs)) (omega arith))
 
-blocked-laid : (t rows : ℕ) (nulls : List Entry) (bs : List (List Entry)) (region : List ℕ) → t < 12 → NoneEmpty bs → Rises t null (joined bs)
-    → Patterns (joined bs) → length (joined bs) ≤ 65536 → length bs ≤ 65536 → length (blocks bs) ≤ 2147483647
+blocked-laid : (t rows : ℕ) (nulls : List Entry) (bs : List (List Entry)) (region : List ℕ) → NoneEmpty bs → Rises t null (joined bs)
+    → Patterns (joined bs) → length (joined bs) ≤ mostValues2 → length bs ≤ mostBlocks → length (blocks bs) ≤ limit
     → blocked t rows (length (joined bs)) nulls (be 4 (length bs) ++ (directory 0 bs ++ (be 4 (length (blocks bs)) ++ (blocks bs ++ region))))
     ≡ ok (record { rows = rows; entries = nulls ++ joined bs; region = region })
 unfolding blocked check
-blocked-laid t rows nulls bs region h n r p l m z =
+blocked-laid t rows nulls bs region n r p l m z =
     let base : List ℕ = blocks bs ++ region in
     let d : length base ≡ length (blocks bs) + length region = length-append (blocks bs) region in
-    counted-laid 65536 (length bs) (directory 0 bs ++ (be 4 (length (blocks bs)) ++ base)) _ m (omega arith)
+    counted-laid mostBlocks (length bs) (directory 0 bs ++ (be 4 (length (blocks bs)) ++ base)) _ m (omega arith)
     ∙ rw (none-exactly bs n)
-    (listings-laid t 0 bs [] (be 4 (length (blocks bs)) ++ base) _ h (headed t null bs n r) (omega arith)
+    (listings-laid t 0 bs [] (be 4 (length (blocks bs)) ++ base) _ (headed t null bs n r) (omega arith)
     ∙ number-laid big 4 (refuse Short) (length (blocks bs)) base _ (omega arith)
-    ∙ blocksOf-laid t 0 base null bs [] region _ h (omega arith) n r p l
+    ∙ blocksOf-laid t 0 base null bs [] region _ (omega arith) n r p l
     ∙ rw (
       behind-is (length (blocks bs)) base region d,
       eq-eqb (length (blocks bs)) (length (blocks bs)) refl,
@@ -273,16 +272,16 @@ blocked-laid t rows nulls bs region h n r p l m z =
     ))
 
 -- laid out in version 2, so read
-pub two-laid : (t rows : ℕ) (nulls : List Entry) (bs : List (List Entry)) (region : List ℕ) → t < 12 → NullOnly nulls → NoneEmpty bs
-    → Rises t null (joined bs) → Patterns (nulls ++ joined bs) → rows ≤ 2147483647 → length (joined bs) ≤ 65536 → length bs ≤ 65536
-    → length (body2 rows nulls bs region) ≤ 2147483647
+pub two-laid : (t rows : ℕ) (nulls : List Entry) (bs : List (List Entry)) (region : List ℕ) → t < types → NullOnly nulls → NoneEmpty bs
+    → Rises t null (joined bs) → Patterns (nulls ++ joined bs) → rows ≤ limit → length (joined bs) ≤ mostValues2 → length bs ≤ mostBlocks
+    → length (body2 rows nulls bs region) ≤ limit
     → dictionary t (body2 rows nulls bs region) ≡ ok (record { rows = rows; entries = nulls ++ joined bs; region = region })
 unfolding most
 two-laid t rows nulls bs region h o n r p hr l m z =
     let q = patterns-cut nulls (joined bs) p in
     let tail : List ℕ = be 4 (length bs) ++ (directory 0 bs ++ (be 4 (length (blocks bs)) ++ (blocks bs ++ region))) in
-    let y : length (blocks bs) ≤ 2147483647 =
+    let y : length (blocks bs) ≤ limit =
     omega (arith, length-append (null2 nulls) tail, length-append (directory 0 bs) (be 4 (length (blocks bs)) ++ (blocks bs ++ region)), length-append (blocks bs) region) in
-    fixed-laid t 2 rows (length (joined bs)) nulls (null2 nulls ++ tail) refl hr l l
+    fixed-laid t 2 rows (length (joined bs)) nulls (null2 nulls ++ tail) h refl hr l l
     ∙ null2-laid nulls tail _ o (q .0)
-    ∙ blocked-laid t rows nulls bs region h n r (q .1) l m y
+    ∙ blocked-laid t rows nulls bs region n r (q .1) l m y

@@ -3,7 +3,6 @@ pub mod Fields
 pub mod VersionTwo
 pub mod LaidOut
 pub mod Accepted
-pub mod Order
 pub mod Theorems
 pub mod Steps
 pub mod Offsets

@@ -1,23 +1,24 @@
 -- The reading by the code's steps. Entries that are read stand where the code finds them.
 use Prim.Native.Nat.{ℕ, zero, suc, _+_, _-_, _≤_, _<_}
 use mathlib.Core.Path.{_≡_, refl, ap, sym, _∙_}
-use mathlib.Core.Bool.{Bool, true, false, not, _||_, cond}
+use mathlib.Core.Bool.{Bool, true, false, not, _||_}
 use mathlib.Core.List.{List, [], _∷_, _++_, append-assoc, append-nil}
 use native.Mathlib.Omega.{arith}
-use lib.Dec.{eqb, ltb, leb}
+use lib.Dec.{eqb}
 use lib.ListN.{length, take, drop, length-append, length-drop}
 use lib.Seq.{drop-drop}
-use borrow.Author.Tests.{leb-true, eqb-false, ne-eqb}
+use borrow.Author.Tests.{ne-eqb}
 use Rattle.numbers.specs.Meaning.{big, beAt, number, same, minusOne}
 use Rattle.numbers.proofs.Laws.{number-at, number-short, numberAt-drop}
 use Rattle.refusal.specs.declared.Refusal.{Refusal}
-use Rattle.refusal.specs.declared.Refusal.the-variants.{Short, Dict, Limit}
+use Rattle.refusal.specs.declared.Refusal.the-variants.{Short, Dict}
 use Rattle.stored_value.specs.declared.Sized.{Sized}
 use Rattle.stored_value.specs.declared.Sized.the-variants.{Bytes}
-use Rattle.stored_value.specs.Meaning.{value, width, isString, booleanOk, sameCell}
-use Rattle.refusal.proofs.Laws.{check-ok}
+use Rattle.stored_value.specs.Meaning.{value, sameCell}
+use Rattle.stored_value.proofs.Laws.{value-read}
+use Rattle.stored_value.proofs.Steps.{size-refused, size-bytes}
 use Rattle.refusal.specs.Reading.{Out, refuse, ok, check, andThen}
-use Rattle.stored_value.specs.Promises.{sizedBy}
+use Rattle.stored_value.specs.Promises.{SizePromise}
 use Rattle.stored_value.specs.Reading.{valueSize, valueOf}
 use Rattle.dictionary.specs.declared.Value.{Value}
 use Rattle.dictionary.specs.Layout.{Entry, someHas}
@@ -25,65 +26,19 @@ use Rattle.dictionary.specs.Reading.{Dictionary, entriesOne}
 use Rattle.dictionary.specs.Promises.{tail, entryOf, position, EntriesFrom}
 use Rattle.dictionary.specs.Promises.{ValueAt}
 
--- ---- what is accepted passed its tests
+-- ---- a value, as `size` answers it
 
-number-ok : {A : Type 0} (w : ℕ) (r : Refusal) (s : List ℕ) (k : ℕ → List ℕ → Out Refusal A) (a : A) → number big w (refuse r) s k ≡ ok a
-    → (w ≤ length s) × (k (beAt w s 0) (drop w s) ≡ ok a)
-unfolding number
-number-ok {A} w r s k a e = go (leb w (length s)) refl e
-  where
-    go : (b : Bool) → leb w (length s) ≡ b → cond b (k (beAt w s 0) (drop w s)) (refuse r) ≡ ok a → (w ≤ length s) × (k (beAt w s 0) (drop w s) ≡ ok a)
-    go true t e = (leb-true w (length s) t, e)
-    go false t e = absurd (let z : _≡_ {A = ℕ} 0 1 = cc in omega arith)
-
--- ---- a value's size
-
--- a value has a byte, and its bytes are there
-pub size-within : (t : ℕ) (s : List ℕ) (n : ℕ) → valueSize Short Dict t s ≡ ok n → (1 ≤ n) × (n ≤ length s)
-unfolding valueSize isString
-size-within t s n e = go (eqb (width t) 0) refl e
-  where
-    go : (b : Bool) → eqb (width t) 0 ≡ b → cond b
-        (number big 4 (refuse Short) s (λ n rest. check (ltb n 2147483648) Dict (check (leb n 65535) Limit (check (leb n (length rest)) Short (ok (4 + n))))))
-        (check (leb (width t) (length s)) Short (check (booleanOk t s) Dict (ok (width t)))) ≡ ok n → (1 ≤ n) × (n ≤ length s)
-    go true b e =
-        let x = number-ok 4 Short s _ n e in
-        let y = check-ok _ _ _ n (x .1) in
-        let z = check-ok _ _ _ n (y .1) in
-        let w = check-ok _ _ _ n (z .1) in
-        let l = leb-true (beAt 4 s 0) (length (drop 4 s)) (w .0) in
-        let m = rw length-drop at l in
-        let same : 4 + beAt 4 s 0 ≡ n = cc in
-        (omega arith, omega arith)
-    go false b e =
-        let x = check-ok _ _ _ n e in
-        let y = check-ok _ _ _ n (x .1) in
-        let l = leb-true (width t) (length s) (x .0) in
-        let same : width t ≡ n = cc in
-        let nz : width t ≡ 0 → ⊥ = eqb-false (width t) 0 b in
-        (omega arith, omega arith)
-
-sized-ok : (o : Out Refusal ℕ) (x : Sized) (n : ℕ) → x ≡ sizedBy o → x ≡ Bytes n → o ≡ ok n
-unfolding sizedBy
-sized-ok (refuse r) x n e b = absurd (let z : _≡_ {A = ℕ} 0 1 = cc in omega arith)
-sized-ok (ok m) x n e b = cc
-
-sized-refused : (o : Out Refusal ℕ) (x : Sized) (r : Refusal) → x ≡ sizedBy o → x ≡ Sized.Refused r → o ≡ refuse r
-unfolding sizedBy
-sized-refused (refuse q) x r e b = cc
-sized-refused (ok m) x r e b = absurd (let z : _≡_ {A = ℕ} 0 1 = cc in omega arith)
-
-module _ (t : ℕ) (s : List ℕ) (at : ℕ) {x : Sized} (e : x ≡ sizedBy (valueSize Short Dict t (drop at s))) where
+module _ (t : ℕ) (s : List ℕ) (at : ℕ) {x : Sized} (e : SizePromise (valueSize Short Dict t (drop at s)) x) where
   pub value-none : {r : Refusal} → x ≡ Sized.Refused r → ValueAt t s at (Value.Refused r)
-  value-none {r} b = sized-refused (valueSize Short Dict t (drop at s)) x r e b
+  value-none {r} b = size-refused (valueSize Short Dict t (drop at s)) x r e b
 
   pub value-to : {n : ℕ} → x ≡ Bytes n → ValueAt t s at (Value.To (position (at + n)))
   value-to {n} b =
-      let o = sized-ok (valueSize Short Dict t (drop at s)) x n e b in
-      let w = size-within t (drop at s) n o in
-      let l = rw length-drop at (w .1) in
+      let o = size-bytes (valueSize Short Dict t (drop at s)) x n e b in
+      let w = value-read Short Dict t (drop at s) n o in
+      let l = rw length-drop at (w .fits) in
       let z : at + n - at ≡ n = omega arith in
-      (rw z o, omega arith, omega arith)
+      (rw z o, omega (arith, w .some), omega (arith, w .some))
 
 module _ {A : Type 0} (t : ℕ) (s : List ℕ) (f : List ℕ → List ℕ → Out Refusal A) where
   pub value-ok : (n : ℕ) → valueSize Short Dict t s ≡ ok n → valueOf Short Dict t s f ≡ f (take n s) (drop n s)

@@ -1,64 +1,50 @@
--- The layout and the reading of a dictionary agree: what a caller of this crate cites.
+-- The claims on a dictionary's layout and its reading, proved.
 use mathlib.Core.Path.{_≡_, refl, sym, ap, _∙_, subst}
 use Prim.Native.Nat.{ℕ, _+_, _≤_, _<_}
 use mathlib.Core.Bool.{true, false}
 use mathlib.Core.List.{List, [], _∷_, _++_}
 use lib.ListN.{length}
 use lib.Seq.{getD-append-add}
-use borrow.Author.Tests.{ne-eqb}
+use borrow.Author.Tests.{lt-ltb, le-ltb, ltb-true, ne-eqb}
 use Rattle.numbers.specs.Meaning.{be, joined, Bytes}
-use Rattle.refusal.specs.declared.Refusal.the-variants.{Version}
-use Rattle.stored_value.specs.Meaning.{Cell, null, value, sameCell, less}
-use Rattle.refusal.specs.Reading.{refuse, ok, check}
-use Rattle.dictionary.specs.Promises.{Patterns}
-use Rattle.dictionary.specs.Layout.{Entry, Valued, NullOnly, someHas, Distinct, NoExtents, entries1, hasNull, null1, body1, Past, Rises, NoneEmpty, blocks, directory, null2, body2}
+use Rattle.refusal.specs.Meaning.{limit}
+use Rattle.refusal.specs.Reading.{ok, check}
+use Rattle.refusal.proofs.Laws.{check-ok}
+use Rattle.stored_value.specs.Meaning.{types, Cell, null, value, sameCell, less}
+use Rattle.stored_value.proofs.Order.{less-trans, less-differs}
+use Rattle.dictionary.specs.Layout.{Entry, Valued, NullOnly, someHas, Distinct, entries1, hasNull, null1, body1, Past, Rises, blocks, directory, null2, body2}
 use Rattle.dictionary.specs.Reading.{Dictionary, dictionary}
+use Rattle.dictionary.specs.Claims.{LaidOut, in-one, in-two, LaidOutIsRead, ReadIsLaidOut, UnknownTypeIsRefused, UnknownVersionIsRefused, Once, EachStandsOnce, RegionIsBytes}
 use Rattle.dictionary.proofs.LaidOut.{byte-laid, one-laid, two-laid}
 use Rattle.dictionary.proofs.Accepted.{Good, on-dictionary}
-use Rattle.dictionary.proofs.Order.{less-trans, less-differs}
 
--- 1. A dictionary that is laid out is read, in version 1 and in version 2: as its rows and its entries, null's first, with what lies behind it left over.
-pub one-is-read : (t rows : ℕ) (nulls es : List Entry) (region : List ℕ) → t < 12 → Distinct t es → NullOnly nulls → NoExtents (nulls ++ es)
-    → Patterns (nulls ++ es) → rows ≤ 2147483647 → length es ≤ 4096
-    → dictionary t (body1 rows nulls es region) ≡ ok (record { rows = rows; entries = nulls ++ es; region = region })
-one-is-read t rows nulls es region h d o x p r l = one-laid t rows nulls es region h d o x p r l
+pub laid-out-is-read : LaidOutIsRead
+laid-out-is-read t s d k (in-one rows nulls es region a o x p r n e c) = rw (c, e) (one-laid t rows nulls es region k a o x p r n)
+laid-out-is-read t s d k (in-two rows nulls bs region o ne a p r n m z e c) = rw (c, e) (two-laid t rows nulls bs region k o ne a p r n m z)
 
-pub two-is-read : (t rows : ℕ) (nulls : List Entry) (bs : List (List Entry)) (region : List ℕ) → t < 12 → NullOnly nulls → NoneEmpty bs
-    → Rises t null (joined bs) → Patterns (nulls ++ joined bs) → rows ≤ 2147483647 → length (joined bs) ≤ 65536 → length bs ≤ 65536
-    → length (body2 rows nulls bs region) ≤ 2147483647
-    → dictionary t (body2 rows nulls bs region) ≡ ok (record { rows = rows; entries = nulls ++ joined bs; region = region })
-two-is-read t rows nulls bs region h o n r p hr l m z = two-laid t rows nulls bs region h o n r p hr l m z
-
--- 2. Bytes that are read were laid out, in one of the versions, for the rows and the entries that were read.
-pub data WasLaidOut (t : ℕ) (s : List ℕ) (d : Dictionary) : Type 0 where
-  in-one : (rows : ℕ) (nulls es : List Entry) (region : List ℕ) → Distinct t es → NullOnly nulls → NoExtents (nulls ++ es) → Patterns (nulls ++ es)
-      → rows ≤ 2147483647 → length es ≤ 4096 → d ≡ record { rows = rows; entries = nulls ++ es; region = region } → s ≡ body1 rows nulls es region
-      → WasLaidOut t s d
-  in-two : (rows : ℕ) (nulls : List Entry) (bs : List (List Entry)) (region : List ℕ) → NullOnly nulls → NoneEmpty bs → Rises t null (joined bs)
-      → Patterns (nulls ++ joined bs) → rows ≤ 2147483647 → length (joined bs) ≤ 65536 → length bs ≤ 65536 → length (body2 rows nulls bs region) ≤ 2147483647
-      → d ≡ record { rows = rows; entries = nulls ++ joined bs; region = region } → s ≡ body2 rows nulls bs region → WasLaidOut t s d
-
-pub read-was-laid-out : (t : ℕ) (s : List ℕ) (d : Dictionary) → Bytes s → t < 12 → length s ≤ 2147483647 → dictionary t s ≡ ok d → WasLaidOut t s d
-read-was-laid-out t s d h l m e =
-    on-dictionary (λ (x : List ℕ). length x ≤ 2147483647 → dictionary t x ≡ ok d → WasLaidOut t x d) t s l h (subst Good (sym e) tt)
+pub read-is-laid-out : ReadIsLaidOut
+unfolding dictionary
+read-is-laid-out t s d h m e =
+    let k : t < types = ltb-true t types (check-ok _ _ _ d e .0) in
+    let laid = on-dictionary (λ (x : List ℕ). length x ≤ limit → dictionary t x ≡ ok d → LaidOut t x d) t s h (subst Good (sym e) tt)
     (λ rows nulls es region a o x p r n _ e.
-    let z = one-laid t rows nulls es region l a o x p r n in
+    let z = one-laid t rows nulls es region k a o x p r n in
     in-one rows nulls es region a o x p r n (cc) refl)
     (λ rows nulls bs region o ne a p r n n′ m e.
-    let z = two-laid t rows nulls bs region l o ne a p r n n′ m in
+    let z = two-laid t rows nulls bs region k o ne a p r n n′ m in
     in-two rows nulls bs region o ne a p r n n′ m (cc) refl)
-    m e
+    m e in
+    (k, laid)
 
--- 3. A body whose first byte is neither 1 nor 2 is refused for its version, whatever follows.
-pub version-known : (t v : ℕ) (s : List ℕ) → (v ≡ 1 → ⊥) → (v ≡ 2 → ⊥) → dictionary t (v ∷ s) ≡ refuse Version
+pub unknown-type-is-refused : UnknownTypeIsRefused
 unfolding dictionary check
-version-known t v s n n′ = byte-laid v s _ ∙ rw (ne-eqb v 1 n, ne-eqb v 2 n′)
+unknown-type-is-refused t s h = rw (le-ltb t types h)
 
--- 4. Each cell stands once among the entries.
+pub unknown-version-is-refused : UnknownVersionIsRefused
+unfolding dictionary check
+unknown-version-is-refused t v s k n n′ = rw (lt-ltb t types k) (byte-laid v s _ ∙ rw (ne-eqb v 1 n, ne-eqb v 2 n′))
 
-abbrev pub Once : List Entry → Type 0
-Once [] = Unit {0}
-Once (e ∷ es) = (someHas (e .cell) es ≡ false) × Once es
+-- ---- each cell stands once: in version 1 the values are distinct, in version 2 they rise
 
 abbrev AllValued : ℕ → List Entry → Type 0
 AllValued t [] = Unit {0}
@@ -119,15 +105,17 @@ rises-once : (t : ℕ) (before : Cell) (es : List Entry) → Rises t before es �
 rises-once t before [] r = tt
 rises-once t before (e ∷ es) r = (valued-none t (e .cell) es (r .0) (r .2), rises-once t (e .cell) es (r .2))
 
--- In version 1, whose values are distinct.
 pub one-has-each-once : (t : ℕ) (nulls es : List Entry) → Distinct t es → NullOnly nulls → Once (nulls ++ es)
 one-has-each-once t nulls es d n = with-null t nulls es n (distinct-valued t es d) (distinct-once t es d)
 
--- In version 2, whose values rise.
 pub two-has-each-once : (t : ℕ) (nulls es : List Entry) → Rises t null es → NullOnly nulls → Once (nulls ++ es)
 two-has-each-once t nulls es r n = with-null t nulls es n (rises-valued t null es r) (rises-once t null es r)
 
--- 5. What lies behind the dictionary is bytes too.
+pub each-stands-once : EachStandsOnce
+each-stands-once t s d (in-one rows nulls es region a o _ _ _ _ e c) = rw e (one-has-each-once t nulls es a o)
+each-stands-once t s d (in-two rows nulls bs region o _ r _ _ _ _ _ e c) = rw e (two-has-each-once t nulls (joined bs) r o)
+
+-- ---- what lies behind the dictionary
 
 bytes-behind : (xs ys : List ℕ) → Bytes (xs ++ ys) → Bytes ys
 bytes-behind xs ys h i = rw (getD-append-add xs ys i 0) at (h (length xs + i))
@@ -145,6 +133,6 @@ region-two rows nulls bs region h =
     (bytes-behind (be 4 (length bs)) mid (bytes-behind (null2 nulls) (be 4 (length bs) ++ mid)
     (bytes-behind (2 ∷ (be 4 rows ++ (be 4 (length (joined bs)) ++ (hasNull nulls ∷ [])))) (null2 nulls ++ (be 4 (length bs) ++ mid)) h)))))
 
-pub region-bytes : (t : ℕ) (s : List ℕ) (d : Dictionary) → Bytes s → WasLaidOut t s d → Bytes (d .region)
-region-bytes t s d h (in-one rows nulls es region _ _ _ _ _ _ e c) = rw (ap (λ (x : Dictionary). x .region) e) (region-one rows nulls es region (subst Bytes c h))
-region-bytes t s d h (in-two rows nulls bs region _ _ _ _ _ _ _ _ e c) = rw (ap (λ (x : Dictionary). x .region) e) (region-two rows nulls bs region (subst Bytes c h))
+pub region-is-bytes : RegionIsBytes
+region-is-bytes t s d h (in-one rows nulls es region _ _ _ _ _ _ e c) = rw (ap (λ (x : Dictionary). x .region) e) (region-one rows nulls es region (subst Bytes c h))
+region-is-bytes t s d h (in-two rows nulls bs region _ _ _ _ _ _ _ _ e c) = rw (ap (λ (x : Dictionary). x .region) e) (region-two rows nulls bs region (subst Bytes c h))

@@ -104,14 +104,14 @@ cell-some s c h = rw (lt-ltb (c .start .0) (c .end .0) h)
 
 -- ---- a block's entries: i of the n from `start` on are read; behind them the value before is b, and h what the next must be
 
-pub record Passing (t n : ℕ) (before due : Cell) (start : List ℕ) (i : ℕ) (b h : Cell) (rest : List ℕ) : Type 0 where
+pub record InBlock (t n : ℕ) (before due : Cell) (start : List ℕ) (i : ℕ) (b h : Cell) (rest : List ℕ) : Type 0 where
   pub new : List Entry
   pub so : (es : List Entry) (f : Cell → List Entry → List ℕ → Out Refusal Dictionary) → entriesTwo t n before due es start f ≡ entriesTwo t (n - i) b h (es ++ new) rest f
   pub count : length new ≡ i
   pub stand : (more : List Entry) → EntriesFrom t true (n - i) rest more → EntriesFrom t true n start (new ++ more)
 
-pub passing-first : (t n : ℕ) (before due : Cell) (s : List ℕ) → Passing t n before due s 0 before due s
-passing-first t n before due s =
+pub in-block-first : (t n : ℕ) (before due : Cell) (s : List ℕ) → InBlock t n before due s 0 before due s
+in-block-first t n before due s =
     let z : n - 0 ≡ n = omega arith in
     record { new = []; so = λ es f. rw (z, append-nil); count = refl; stand = λ more g. rw z at g }
 
@@ -120,76 +120,76 @@ numbers t m k es s f =
     number big 4 (refuse Short) (drop k s) (λ offset s'. number big 4 (refuse Short) s' (λ extent s'.
     entriesTwo t m (value (take k s)) null (es ++ (record { cell = value (take k s); offset = offset; extent = extent } ∷ [])) s' f))
 
-passing-turn : (t m : ℕ) (b h : Cell) (es : List Entry) (s : List ℕ) (f : Cell → List Entry → List ℕ → Out Refusal Dictionary) (k : ℕ) → 0 < m → valueSize Short Dict t s ≡ ok k
+in-block-turn : (t m : ℕ) (b h : Cell) (es : List Entry) (s : List ℕ) (f : Cell → List Entry → List ℕ → Out Refusal Dictionary) (k : ℕ) → 0 < m → valueSize Short Dict t s ≡ ok k
     → entriesTwo t m b h es s f ≡ check (past t b (take k s) && isDue h (take k s)) Dict (numbers t (m - 1) k es s f)
 unfolding entriesTwo
-passing-turn t zero b h es s f k z e = absurd (omega arith)
-passing-turn t (suc m) b h es s f k z e = let c : suc m - 1 ≡ m = omega arith in simp c (value-ok t s _ k e)
+in-block-turn t zero b h es s f k z e = absurd (omega arith)
+in-block-turn t (suc m) b h es s f k z e = let c : suc m - 1 ≡ m = omega arith in simp c (value-ok t s _ k e)
 
-passing-broken : (t m : ℕ) (b h : Cell) (es : List Entry) (s : List ℕ) (f : Cell → List Entry → List ℕ → Out Refusal Dictionary) (r : Refusal) → 0 < m → valueSize Short Dict t s ≡ refuse r
+in-block-broken : (t m : ℕ) (b h : Cell) (es : List Entry) (s : List ℕ) (f : Cell → List Entry → List ℕ → Out Refusal Dictionary) (r : Refusal) → 0 < m → valueSize Short Dict t s ≡ refuse r
     → entriesTwo t m b h es s f ≡ refuse r
 unfolding entriesTwo
-passing-broken t zero b h es s f r z e = absurd (omega arith)
-passing-broken t (suc m) b h es s f r z e = value-refused t s _ r e
+in-block-broken t zero b h es s f r z e = absurd (omega arith)
+in-block-broken t (suc m) b h es s f r z e = value-refused t s _ r e
 
-module _ {t n : ℕ} {before due : Cell} {start : List ℕ} {i : ℕ} {b h : Cell} {rest : List ℕ} (st : Passing t n before due start i b h rest) where
-  pub passing-done : n ≤ i → (es : List Entry) (f : Cell → List Entry → List ℕ → Out Refusal Dictionary) → entriesTwo t n before due es start f ≡ f b (es ++ st .new) rest
+module _ {t n : ℕ} {before due : Cell} {start : List ℕ} {i : ℕ} {b h : Cell} {rest : List ℕ} (st : InBlock t n before due start i b h rest) where
+  pub in-block-done : n ≤ i → (es : List Entry) (f : Cell → List Entry → List ℕ → Out Refusal Dictionary) → entriesTwo t n before due es start f ≡ f b (es ++ st .new) rest
   unfolding entriesTwo
-  passing-done l es f = let z : n - i ≡ 0 = omega arith in st .so es f ∙ simp z
+  in-block-done l es f = let z : n - i ≡ 0 = omega arith in st .so es f ∙ simp z
 
-  pub passing-stand : n ≤ i → (more : List Entry) → EntriesFrom t true 0 rest more → EntriesFrom t true n start (st .new ++ more)
-  passing-stand l more g = let z : n - i ≡ 0 = omega arith in st .stand more (rw z g)
+  pub in-block-stand : n ≤ i → (more : List Entry) → EntriesFrom t true 0 rest more → EntriesFrom t true n start (st .new ++ more)
+  in-block-stand l more g = let z : n - i ≡ 0 = omega arith in st .stand more (rw z g)
 
   module _ (lt : i < n) where
-    pub passing-refused : {r : Refusal} → valueSize Short Dict t rest ≡ refuse r
+    pub in-block-refused : {r : Refusal} → valueSize Short Dict t rest ≡ refuse r
         → (es : List Entry) (f : Cell → List Entry → List ℕ → Out Refusal Dictionary) → entriesTwo t n before due es start f ≡ refuse r
-    passing-refused {r} e es f = st .so es f ∙ passing-broken t (n - i) b h (es ++ st .new) rest f r (omega arith) e
+    in-block-refused {r} e es f = st .so es f ∙ in-block-broken t (n - i) b h (es ++ st .new) rest f r (omega arith) e
 
     module _ {k : ℕ} (e : valueSize Short Dict t rest ≡ ok k) where
-      passing-unrolled : (es : List Entry) (f : Cell → List Entry → List ℕ → Out Refusal Dictionary) → entriesTwo t n before due es start f
+      in-block-unrolled : (es : List Entry) (f : Cell → List Entry → List ℕ → Out Refusal Dictionary) → entriesTwo t n before due es start f
           ≡ check (past t b (take k rest) && isDue h (take k rest)) Dict (numbers t (n - i - 1) k (es ++ st .new) rest f)
-      passing-unrolled es f = st .so es f ∙ passing-turn t (n - i) b h (es ++ st .new) rest f k (omega arith) e
+      in-block-unrolled es f = st .so es f ∙ in-block-turn t (n - i) b h (es ++ st .new) rest f k (omega arith) e
 
-      pub passing-low : {x : Bool} → x ≡ past t b (take k rest) → x ≡ false
+      pub in-block-low : {x : Bool} → x ≡ past t b (take k rest) → x ≡ false
           → (es : List Entry) (f : Cell → List Entry → List ℕ → Out Refusal Dictionary) → entriesTwo t n before due es start f ≡ refuse Dict
       unfolding check
-      passing-low g c es f = passing-unrolled es f ∙ simp (← g, c)
+      in-block-low g c es f = in-block-unrolled es f ∙ simp (← g, c)
 
-      pub passing-other : {x y : Bool} → x ≡ past t b (take k rest) → x ≡ true → y ≡ isDue h (take k rest) → y ≡ false
+      pub in-block-other : {x y : Bool} → x ≡ past t b (take k rest) → x ≡ true → y ≡ isDue h (take k rest) → y ≡ false
           → (es : List Entry) (f : Cell → List Entry → List ℕ → Out Refusal Dictionary) → entriesTwo t n before due es start f ≡ refuse Dict
       unfolding check
-      passing-other g c d m es f = passing-unrolled es f ∙ simp (← g, c, ← d, m)
+      in-block-other g c d m es f = in-block-unrolled es f ∙ simp (← g, c, ← d, m)
 
       module _ {x y : Bool} (g : x ≡ past t b (take k rest)) (higher : x ≡ true) (d : y ≡ isDue h (take k rest)) (listed : y ≡ true) where
-        passing-admitted : (es : List Entry) (f : Cell → List Entry → List ℕ → Out Refusal Dictionary) → entriesTwo t n before due es start f ≡ numbers t (n - i - 1) k (es ++ st .new) rest f
+        in-block-admitted : (es : List Entry) (f : Cell → List Entry → List ℕ → Out Refusal Dictionary) → entriesTwo t n before due es start f ≡ numbers t (n - i - 1) k (es ++ st .new) rest f
         unfolding check
-        passing-admitted es f = passing-unrolled es f ∙ simp (← g, higher, ← d, listed)
+        in-block-admitted es f = in-block-unrolled es f ∙ simp (← g, higher, ← d, listed)
 
-        pub passing-short : length rest - k < 8 → (es : List Entry) (f : Cell → List Entry → List ℕ → Out Refusal Dictionary) → entriesTwo t n before due es start f ≡ refuse Short
-        passing-short l es f = passing-admitted es f ∙ numbers-short (leb (k + 4) (length rest)) refl
+        pub in-block-short : length rest - k < 8 → (es : List Entry) (f : Cell → List Entry → List ℕ → Out Refusal Dictionary) → entriesTwo t n before due es start f ≡ refuse Short
+        in-block-short l es f = in-block-admitted es f ∙ numbers-short (leb (k + 4) (length rest)) refl
           where
             numbers-short : (w : Bool) → leb (k + 4) (length rest) ≡ w → numbers t (n - i - 1) k (es ++ st .new) rest f ≡ refuse Short
             numbers-short true w = word-at 4 rest k _ (leb-true (k + 4) (length rest) w) ∙ word-short 4 rest (k + 4) _ (omega arith)
             numbers-short false w = let v : length rest < k + 4 = leb-false (k + 4) (length rest) w in word-short 4 rest k _ (omega arith)
 
-        pub passing-next : k + 8 ≤ length rest → Passing t n before due start (i + 1) (value (take k rest)) null (drop (k + 8) rest)
-        passing-next l =
+        pub in-block-next : k + 8 ≤ length rest → InBlock t n before due start (i + 1) (value (take k rest)) null (drop (k + 8) rest)
+        in-block-next l =
             let c : n - i - 1 ≡ n - (i + 1) = omega arith in
             let q : k + 4 + 4 ≡ k + 8 = omega arith in
             record {
               new = st .new ++ (entryOf true k rest ∷ []);
-              so = λ es f. passing-admitted es f ∙ word-at 4 rest k _ (omega arith) ∙ word-at 4 rest (k + 4) _ (omega arith) ∙ simp (c, q, append-assoc);
+              so = λ es f. in-block-admitted es f ∙ word-at 4 rest k _ (omega arith) ∙ word-at 4 rest (k + 4) _ (omega arith) ∙ simp (c, q, append-assoc);
               count = simp length-append (omega (arith, st .count));
               stand = λ more m. rw append-assoc (st .stand (entryOf true k rest ∷ more) (stand-cons t true (n - i) rest k more (omega arith) e l (rw c m)));
             }
 
 -- the same at the code's positions: the value stands from p to e
-pub passing-on : {t n : ℕ} {before due : Cell} {start : List ℕ} {i : ℕ} {b h : Cell} (s : List ℕ) (p e : ℕ) → Passing t n before due start i b h (drop p s) → i < n
+pub in-block-on : {t n : ℕ} {before due : Cell} {start : List ℕ} {i : ℕ} {b h : Cell} (s : List ℕ) (p e : ℕ) → InBlock t n before due start i b h (drop p s) → i < n
     → ValueAt t s p (Value.To (position e)) → {x y : Bool} → x ≡ past t b (take (e - p) (drop p s)) → x ≡ true → y ≡ isDue h (take (e - p) (drop p s)) → y ≡ true → e + 8 ≤ length s
-    → Passing t n before due start (i + 1) (cellAt s (span p e)) null (drop (e + 8) s)
-passing-on s p e st lt v g c d m r =
+    → InBlock t n before due start (i + 1) (cellAt s (span p e)) null (drop (e + 8) s)
+in-block-on s p e st lt v g c d m r =
     let l : e - p + 8 ≤ length (drop p s) = simp length-drop (omega arith) in
-    rw (drop-past s p e 8 (omega arith), ← cell-some s (span p e) (v .1)) at (passing-next st lt (v .0) g c d m l)
+    rw (drop-past s p e 8 (omega arith), ← cell-some s (span p e) (v .1)) at (in-block-next st lt (v .0) g c d m l)
 
 -- ---- a block: its listing stands at q, with a value that ends at e, and the block at p
 
@@ -206,12 +206,19 @@ behind-at : (s : List ℕ) (base p : ℕ) → base ≤ p → p ≤ length s → 
 unfolding behind
 behind-at s base p h l = simp length-drop (omega arith)
 
-module _ (t : ℕ) (s : List ℕ) (base q p e : ℕ) (from : base ≤ p) (to : p ≤ length s) (v : ValueAt t s q (Value.To (position e)))
-    (before : Span) (d : Listing) (ds : List Listing) (l : Listed t (drop q s) (d ∷ ds)) where
+-- the listing d of the block stands at q, before the listings ds
+pub record AtBlock (t : ℕ) (s : List ℕ) (base q p e : ℕ) (before : Span) (d : Listing) (ds : List Listing) : Type 0 where
+  pub from : base ≤ p
+  pub to : p ≤ length s
+  pub value : ValueAt t s q (Value.To (position e))
+  pub listed : Listed t (drop q s) (d ∷ ds)
+
+module _ {t : ℕ} {s : List ℕ} {base q p e : ℕ} {before : Span} {d : Listing} {ds : List Listing} (here : AtBlock t s base q p e before d ds) where
   pub block-listed : (e + 4 ≤ length s) × Listed t (drop (e + 4) s) ds
   block-listed =
-      let h = listed-first t (drop q s) (e - q) d ds (v .0) l in
+      let h = listed-first t (drop q s) (e - q) d ds (here .value .0) (here .listed) in
       let r = rw length-drop at (h .1) in
+      let v = here .value in
       (omega arith, rw (drop-past s q e 4 (omega arith)) at (h .2))
 
   module _ (es : List Entry) (f : List Entry → List ℕ → Out Refusal Dictionary) where
@@ -220,10 +227,11 @@ module _ (t : ℕ) (s : List ℕ) (base q p e : ℕ) (from : base ≤ p) (to : p
         (entriesTwo t n (cellAt s before) (cellAt s (span q e)) es s' (λ before es s'. blocksOf t ds (drop base s) before es s' f))))
     unfolding blocksOf
     block-turn =
-        let h = listed-first t (drop q s) (e - q) d ds (v .0) l in
+        let h = listed-first t (drop q s) (e - q) d ds (here .value .0) (here .listed) in
+        let v = here .value in
         let o = offset-behind s q e (omega arith) in
-        let c = cell-some s (span q e) (v .1) in
-        simp (h .0, o, behind-at s base p from to, c)
+        let c = cell-some s (span q e) (here .value .1) in
+        simp (h .0, o, behind-at s base p (here .from) (here .to), c)
 
     pub block-misplaced : {a : ℕ} → a ≡ beAt 4 s e → (a ≡ p - base → ⊥) → blocksOf t (d ∷ ds) (drop base s) (cellAt s before) es (drop p s) f ≡ refuse Dict
     unfolding check
@@ -274,7 +282,7 @@ block-stand t s p es h m c l st =
 
 -- ---- the blocks: i of those that the directory lists are read, with `sum` entries; the listings left stand at `dir`, and `rest` is left
 
-pub record Blocking (t : ℕ) (ds : List Listing) (base : List ℕ) (i : ℕ) (dir : List ℕ) (before : Cell) (sum : ℕ) (rest : List ℕ) : Type 0 where
+pub record InBlocks (t : ℕ) (ds : List Listing) (base : List ℕ) (i : ℕ) (dir : List ℕ) (before : Cell) (sum : ℕ) (rest : List ℕ) : Type 0 where
   pub left : List Listing
   pub listed : Listed t dir left
   pub count : length left ≡ length ds - i
@@ -283,39 +291,39 @@ pub record Blocking (t : ℕ) (ds : List Listing) (base : List ℕ) (i : ℕ) (d
   pub total : length es ≡ sum
   pub stand : (more : List Entry) → EntriesFrom t true 0 rest more → EntriesFrom t true 0 base (es ++ more)
 
-pub blocking-first : (t : ℕ) (ds : List Listing) (base dir : List ℕ) → Listed t dir ds → Blocking t ds base 0 dir null 0 base
-blocking-first t ds base dir l = record { left = ds; listed = l; count = omega arith; es = []; so = λ f. refl; total = refl; stand = λ more g. g }
+pub in-blocks-first : (t : ℕ) (ds : List Listing) (base dir : List ℕ) → Listed t dir ds → InBlocks t ds base 0 dir null 0 base
+in-blocks-first t ds base dir l = record { left = ds; listed = l; count = omega arith; es = []; so = λ f. refl; total = refl; stand = λ more g. g }
 
 module _ {t : ℕ} {ds : List Listing} {base : List ℕ} {i : ℕ} {dir : List ℕ} {before : Cell} {sum : ℕ} {rest : List ℕ}
-    (st : Blocking t ds base i dir before sum rest) where
-  pub blocking-done : length ds ≤ i → (f : List Entry → List ℕ → Out Refusal Dictionary) → blocksOf t ds base null [] base f ≡ f (st .es) rest
+    (st : InBlocks t ds base i dir before sum rest) where
+  pub in-blocks-done : length ds ≤ i → (f : List Entry → List ℕ → Out Refusal Dictionary) → blocksOf t ds base null [] base f ≡ f (st .es) rest
   unfolding blocksOf
-  blocking-done h f = st .so f ∙ by (st .left) (omega (arith, st .count))
+  in-blocks-done h f = st .so f ∙ by (st .left) (omega (arith, st .count))
     where
       by : (left : List Listing) → length left ≡ 0 → blocksOf t left base before (st .es) rest f ≡ f (st .es) rest
       by [] z = refl
       by (d ∷ left) z = absurd (omega arith)
 
-  pub blocking-stand : EntriesFrom t true 0 base (st .es)
+  pub in-blocks-stand : EntriesFrom t true 0 base (st .es)
   unfolding EntriesFrom
-  blocking-stand = rw append-nil at (st .stand [] tt)
+  in-blocks-stand = rw append-nil at (st .stand [] tt)
 
-module _ {t : ℕ} {ds : List Listing} {i sum : ℕ} (s : List ℕ) (base q p : ℕ) (before : Span) (st : Blocking t ds (drop base s) i (drop q s) (cellAt s before) sum (drop p s)) (lt : i < length ds) where
-  pub blocking-refused : {r : Refusal} → BlockAt t before s base q p (Block.Refused r)
+module _ {t : ℕ} {ds : List Listing} {i sum : ℕ} (s : List ℕ) (base q p : ℕ) (before : Span) (st : InBlocks t ds (drop base s) i (drop q s) (cellAt s before) sum (drop p s)) (lt : i < length ds) where
+  pub in-blocks-refused : {r : Refusal} → BlockAt t before s base q p (Block.Refused r)
       → (f : List Entry → List ℕ → Out Refusal Dictionary) → blocksOf t ds (drop base s) null [] (drop base s) f ≡ refuse r
-  blocking-refused {r} x f = st .so f ∙ by (st .left) (st .listed) (omega (arith, st .count))
+  in-blocks-refused {r} x f = st .so f ∙ by (st .left) (st .listed) (omega (arith, st .count))
     where
       by : (left : List Listing) → Listed t (drop q s) left → 0 < length left → blocksOf t left (drop base s) (cellAt s before) (st .es) (drop p s) f ≡ refuse r
       by [] l z = absurd (omega arith)
       by (d ∷ left) l z = x d left l (st .es) f
 
-  pub blocking-next : (listing next number : ℕ) (last : Span) → BlockAt t before s base q p (Block.Ends (position listing) (position next) last number)
-      → Blocking t ds (drop base s) (i + 1) (drop listing s) (cellAt s last) (sum + number) (drop next s)
-  blocking-next listing next number last x = by (st .left) (st .listed) (st .count) (st .so)
+  pub in-blocks-next : (listing next number : ℕ) (last : Span) → BlockAt t before s base q p (Block.Ends (position listing) (position next) last number)
+      → InBlocks t ds (drop base s) (i + 1) (drop listing s) (cellAt s last) (sum + number) (drop next s)
+  in-blocks-next listing next number last x = by (st .left) (st .listed) (st .count) (st .so)
     where
       by : (left : List Listing) → Listed t (drop q s) left → length left ≡ length ds - i
           → ((f : List Entry → List ℕ → Out Refusal Dictionary) → blocksOf t ds (drop base s) null [] (drop base s) f ≡ blocksOf t left (drop base s) (cellAt s before) (st .es) (drop p s) f)
-          → Blocking t ds (drop base s) (i + 1) (drop listing s) (cellAt s last) (sum + number) (drop next s)
+          → InBlocks t ds (drop base s) (i + 1) (drop listing s) (cellAt s last) (sum + number) (drop next s)
       by [] l c so = absurd (omega arith)
       by (d ∷ left) l c so =
           let y = x .0 d left l in

@@ -14,7 +14,7 @@ use Rattle.refusal.specs.Meaning.{numberOf}
 use Rattle.refusal.specs.Reading.{Out, refuse, ok, numbersOf}
 use Rattle.refusal.specs.declared.Refusal.{Refusal}
 use Rattle.refusal.specs.declared.Refusal.the-variants.{Short, Dict}
-use Rattle.stored_value.specs.Meaning.{Cell, null, value}
+use Rattle.stored_value.specs.Meaning.{types, Cell, null, value}
 use Rattle.stored_value.specs.Reading.{valueSize}
 use Rattle.dictionary.specs.declared.Cursor.{Cursor}
 use Rattle.dictionary.specs.declared.Summary.{Summary}
@@ -115,9 +115,12 @@ abbrev pub checkedOut : Checked → ℕ × (ℕ × ℕ)
 checkedOut (Checked.Refused r) = (numberOf r, (0, 0))
 checkedOut (Found h) = (0, (h .rows, length (nullsOf h) + h .values))
 
+abbrev pub dictionaryNumbers : Dictionary → ℕ × (ℕ × ℕ)
+dictionaryNumbers d = (0, (d .rows, length (d .entries)))
+
 pub record ReadsDictionary (t : ℕ) (s : List ℕ) (r : Checked) : Type 0 where
-  pub so : SaysDictionary t s r
-  pub numbers : checkedOut r ≡ numbersOf (0, 0) (λ (d : Dictionary). (0, (d .rows, length (d .entries)))) (dictionary t s)
+  pub answer : SaysDictionary t s r
+  pub numbers : checkedOut r ≡ numbersOf (0, 0) dictionaryNumbers (dictionary t s)
 
 -- ---- `next`: the entry at a cursor of any bytes
 
@@ -199,11 +202,11 @@ NullAt version2 has s at (Null.Numbers offset extent next) =
 abbrev pub entriesOf : Bool → ℕ → ℕ → ℕ → List Entry → List ℕ → Out Refusal Dictionary
 entriesOf version2 t rows n ns s = cond version2 (blocked t rows n ns s) (entriesOne t rows n ns [] s)
 
--- the ten bytes that every dictionary begins with
+-- the ten bytes that every dictionary of a known type begins with
 abbrev pub FixedOf : List ℕ → Fixed → Type 0
-FixedOf s (Fixed.Refused r) = (t : ℕ) → dictionary t s ≡ refuse r
+FixedOf s (Fixed.Refused r) = (t : ℕ) → t < types → dictionary t s ≡ refuse r
 FixedOf s (Fixed.Fields version2 has rows values) =
-    ((t : ℕ) → dictionary t s ≡ nullOf version2 has (drop 10 s) (λ ns s. entriesOf version2 t rows values ns s)) × (10 ≤ length s)
+    ((t : ℕ) → t < types → dictionary t s ≡ nullOf version2 has (drop 10 s) (λ ns s. entriesOf version2 t rows values ns s)) × (10 ≤ length s)
     × (version2 ≡ eqb (getD s 0 0) 2)
 
 -- ---- version 2

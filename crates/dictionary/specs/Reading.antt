@@ -1,4 +1,4 @@
--- What is read of any bytes as a body's dictionary (01, "Bitmap body"): in byte order, each field SHORT, then its rule.
+-- What is read of any bytes as a body's dictionary of type t (01, "Bitmap body"): in byte order, each field SHORT, then its rule.
 use Prim.Native.Nat.{ℕ, zero, suc, _-_}
 use mathlib.Core.Bool.{Bool, true, false, not, _&&_, _||_, cond}
 use mathlib.Core.List.{List, [], _∷_, _++_}
@@ -7,8 +7,8 @@ use lib.ListN.{length}
 use Rattle.numbers.specs.Meaning.{big, number, same, signBit, minusOne}
 use Rattle.refusal.specs.Meaning.{limit}
 use Rattle.refusal.specs.declared.Refusal.{Refusal}
-use Rattle.refusal.specs.declared.Refusal.the-variants.{Short, Version, Dict, Limit}
-use Rattle.stored_value.specs.Meaning.{Cell, null, value, less}
+use Rattle.refusal.specs.declared.Refusal.the-variants.{Short, Version, Dict, Literal, Limit}
+use Rattle.stored_value.specs.Meaning.{types, Cell, null, value, less}
 use Rattle.refusal.specs.Reading.{Out, refuse, ok, check}
 use Rattle.stored_value.specs.Reading.{valueOf}
 use Rattle.dictionary.specs.Layout.{Entry, someHas, mostValues1, mostValues2, mostBlocks}
@@ -86,10 +86,12 @@ nullOf false true s k = number big 4 (refuse Short) s (λ offset s. k (record { 
 nullOf true true s k =
     number big 4 (refuse Short) s (λ offset s. number big 4 (refuse Short) s (λ extent s. k (record { cell = null; offset = offset; extent = extent } ∷ []) s))
 
+-- an unknown type is LITERAL, before any byte
 unfoldable pub dictionary : ℕ → List ℕ → Out Refusal Dictionary
 dictionary t s =
-    number big 1 (refuse Short) s (λ version s. check (eqb version 1 || eqb version 2) Version
+    check (ltb t types) Literal
+    (number big 1 (refuse Short) s (λ version s. check (eqb version 1 || eqb version 2) Version
     (counted limit s (λ rows s. counted (cond (eqb version 1) mostValues1 mostValues2) s (λ n s.
     number big 1 (refuse Short) s (λ hasNull s. check (leb hasNull 1) Dict
     (nullOf (eqb version 2) (eqb hasNull 1) s (λ nulls s.
-    cond (eqb version 1) (entriesOne t rows n nulls [] s) (blocked t rows n nulls s))))))))
+    cond (eqb version 1) (entriesOne t rows n nulls [] s) (blocked t rows n nulls s)))))))))

@@ -2,25 +2,25 @@
 --
 use Prim.Native.Nat.{ℕ, zero, suc, _+_, _<_, _≤_}
 use mathlib.Core.Path.{_≡_, refl, sym, ap, _∙_, subst}
-use mathlib.Core.Bool.{Bool, true, false}
+use mathlib.Core.Bool.{Bool, true, false, cond}
 use mathlib.Core.List.{List, [], _∷_, _++_, append-assoc, append-nil}
 use native.Mathlib.Omega.{arith}
+use native.Mathlib.Decide.{decLt}
 use lib.Dec.{ltb, leb}
-use lib.ListN.{length, take, drop, length-append, take-append-drop, List·getD-append}
+use lib.ListN.{length, getD, take, drop, length-append, length-drop, take-append-drop, List·getD-append, List·getD-eq-default}
 use lib.Seq.{take-at, drop-at, length-take-le, getD-take}
-use borrow.Author.Tests.{lt-ltb, le-leb, ne-eqb, eqb-false, leb-true}
-use Rattle.numbers.specs.Meaning.{be, big, joined, Bytes}
+use borrow.Author.Tests.{lt-ltb, le-ltb, ltb-true, le-leb, ne-eqb, eqb-false, leb-true}
+use Rattle.numbers.specs.Meaning.{be, beAt, big, joined, Bytes, signBit}
 use Rattle.numbers.specs.Meaning as meaning
-use Rattle.numbers.proofs.ByteLists.{bytes-drop}
-use Rattle.numbers.proofs.Laws.{on-number, number-laid}
+use Rattle.numbers.proofs.ByteLists.{bytes-take, bytes-drop}
+use Rattle.numbers.proofs.Laws.{number-laid, numberAt-back}
 use Rattle.numbers.proofs.SameBytes.{same-refl, same→eq, same-sym}
 use Rattle.refusal.specs.declared.Refusal.{Refusal}
 use Rattle.refusal.specs.declared.Refusal.the-variants.{Literal, Limit}
-use Rattle.stored_value.specs.Meaning.{width, isString, booleanOk, Value, number, string, Cell, null, value, sameCell, listed, Literals}
-use Rattle.refusal.proofs.Laws.{check-ok}
 use Rattle.refusal.specs.Reading.{Out, refuse, ok, check, andThen}
-use Rattle.stored_value.specs.Promises.{Lists}
-use Rattle.stored_value.specs.Reading.{valueSize, valueOf, literals}
+use Rattle.refusal.proofs.Laws.{not-ok, check-ok}
+use Rattle.stored_value.specs.Meaning.{widths, types, width, isString, longestString, booleanOk, Value, number, string, Cell, null, value, sameCell, listed, mostLiterals, Literals}
+use Rattle.stored_value.specs.Reading.{valueSize, valueOf, literals, fitting, readable, listedIn}
 
 -- ---- the same cell
 
@@ -47,21 +47,42 @@ sameCell-sym (value v) (value w) = same-sym v w
 
 -- what is asked of a string's length, and of the bytes behind it
 abbrev pub stringSize : Refusal → Refusal → ℕ → List ℕ → Out Refusal ℕ
-stringSize short broken n rest = check (ltb n 2147483648) broken (check (leb n 65535) Limit (check (leb n (length rest)) short (ok (4 + n))))
+stringSize short broken n rest = check (ltb n signBit) broken (check (leb n longestString) Limit (check (leb n (length rest)) short (ok (4 + n))))
 
 module _ (short broken : Refusal) (t : ℕ) (s : List ℕ) where
-  pub size-number : isString t ≡ false
-      → valueSize short broken t s ≡ check (leb (width t) (length s)) short (check (booleanOk t s) broken (ok (width t)))
-  unfolding valueSize
-  size-number e = rw e
+  pub size-unknown : types ≤ t → valueSize short broken t s ≡ refuse Literal
+  unfolding valueSize check
+  size-unknown h = rw (le-ltb t types h)
 
-  pub size-string : isString t ≡ true → valueSize short broken t s ≡ meaning.number big 4 (refuse short) s (stringSize short broken)
-  unfolding valueSize
-  size-string e = rw e
+  module _ (k : t < types) where
+    pub size-number : isString t ≡ false
+        → valueSize short broken t s ≡ check (leb (width t) (length s)) short (check (booleanOk t s) broken (ok (width t)))
+    unfolding valueSize check
+    size-number e = rw (lt-ltb t types k, e)
+
+    pub size-string : isString t ≡ true → valueSize short broken t s ≡ meaning.number big 4 (refuse short) s (stringSize short broken)
+    unfolding valueSize check
+    size-string e = rw (lt-ltb t types k, e)
 
 pub width-some : (t : ℕ) → isString t ≡ false → 0 < width t
 unfolding isString
 width-some t e = let n = eqb-false (width t) 0 e in omega arith
+
+-- a type with a width is known
+width-known : (t : ℕ) → 0 < width t → t < types
+unfolding width
+width-known t h = go (decLt t types)
+  where
+    go : Dec (t < types) → t < types
+    go (yes k) = k
+    go (no n) =
+        let l : types ≤ t = omega arith in
+        let e : getD widths t 0 ≡ 0 = List·getD-eq-default widths 0 l in
+        absurd (omega arith)
+
+pub value-known : (t : ℕ) (v : List ℕ) → Value t v → t < types
+value-known t v (number v′ n l b o) = width-known t (width-some t n)
+value-known t v (string c k n l b) = k
 
 -- ---- values: laid out, so read; read, so laid out
 
@@ -69,42 +90,47 @@ first-byte : (t : ℕ) (v tail : List ℕ) → 0 < length v → booleanOk t (v +
 unfolding booleanOk
 first-byte t v tail p = rw (List·getD-append v tail 0 0 p)
 
-pub value-laid : (short broken : Refusal) (t : ℕ) (v tail : List ℕ) → Value t v → t < 12 → valueSize short broken t (v ++ tail) ≡ ok (length v)
+pub value-laid : (short broken : Refusal) (t : ℕ) (v tail : List ℕ) → Value t v → valueSize short broken t (v ++ tail) ≡ ok (length v)
 unfolding check
-value-laid short broken t v tail (number v′ n l b o) h =
-    let f = first-byte t v tail (omega (arith, width-some t n)) in
+value-laid short broken t v tail (number v′ n l b o) =
+    let w = width-some t n in
+    let f = first-byte t v tail (omega arith) in
     let q : width t ≤ length (v ++ tail) = simp length-append (omega arith) in
-    rw (size-number short broken t (v ++ tail) n, le-leb (width t) (length (v ++ tail)) q, f, o, l)
-value-laid short broken t v tail (string c n l b) h =
-    let p : length c < 2147483648 = omega arith in
+    rw (size-number short broken t (v ++ tail) (width-known t w) n, le-leb (width t) (length (v ++ tail)) q, f, o, l)
+value-laid short broken t v tail (string c k n l b) =
+    let p : length c < signBit = omega arith in
     let q : length c ≤ length (c ++ tail) = simp length-append (omega arith) in
-    size-string short broken t (v ++ tail) n
+    size-string short broken t (v ++ tail) k n
     ∙ number-laid big 4 (refuse short) (length c) (c ++ tail) (stringSize short broken) (omega arith)
-    ∙ rw (lt-ltb (length c) 2147483648 p, le-leb (length c) 65535 l, le-leb (length c) (length (c ++ tail)) q) (ap ok (omega arith))
-
-never : {A X : Type 0} (o : Out Refusal A) (r : Refusal) (a : A) → o ≡ refuse r → o ≡ ok a → X
-never o r a e f = absurd (let z : _≡_ {A = ℕ} 0 1 = cc in omega arith)
-
--- what is said of a value that was read
-pub record Read (t : ℕ) (s : List ℕ) (k : ℕ) : Type 0 where
-  pub some : 1 ≤ k
-  pub fits : k ≤ length s
-  pub whole : Value t (take k s)
-
-pub bytes-take : (n : ℕ) (s : List ℕ) → Bytes s → Bytes (take n s)
-bytes-take zero s h i = omega arith
-bytes-take (suc n) [] h i = omega arith
-bytes-take (suc n) (b ∷ s) h zero = h 0
-bytes-take (suc n) (b ∷ s) h (suc i) = bytes-take n s (λ j. h (suc j)) i
+    ∙ rw (lt-ltb (length c) signBit p, le-leb (length c) longestString l, le-leb (length c) (length (c ++ tail)) q) (ap ok (omega arith))
 
 first-taken : (t k : ℕ) (s : List ℕ) → 0 < k → booleanOk t (take k s) ≡ booleanOk t s
 unfolding booleanOk
 first-taken t k s p = rw (getD-take k s 0 0 p)
 
-module _ (short broken : Refusal) (t : ℕ) (s : List ℕ) (k : ℕ) (h : Bytes s) (e : valueSize short broken t s ≡ ok k) where
-  read-number : isString t ≡ false → Read t s k
+number-ok : {A : Type 0} (w : ℕ) (r : Refusal) (s : List ℕ) (k : ℕ → List ℕ → Out Refusal A) (a : A) → meaning.number big w (refuse r) s k ≡ ok a
+    → (w ≤ length s) × (k (beAt w s 0) (drop w s) ≡ ok a)
+unfolding meaning.number
+number-ok {A} w r s k a e = go (leb w (length s)) refl e
+  where
+    go : (b : Bool) → leb w (length s) ≡ b → cond b (k (beAt w s 0) (drop w s)) (refuse r) ≡ ok a → (w ≤ length s) × (k (beAt w s 0) (drop w s) ≡ ok a)
+    go true t e = (leb-true w (length s) t, e)
+    go false t e = absurd (not-ok e)
+
+-- what is said of a value that was read
+pub record ValueRead (t : ℕ) (s : List ℕ) (k : ℕ) : Type 0 where
+  pub some : 1 ≤ k
+  pub fits : k ≤ length s
+  pub whole : Bytes s → Value t (take k s)
+
+module _ (short broken : Refusal) (t : ℕ) (s : List ℕ) (k : ℕ) (e : valueSize short broken t s ≡ ok k) where
+  known : t < types
+  unfolding valueSize
+  known = ltb-true t types (check-ok _ _ _ k e .0)
+
+  read-number : isString t ≡ false → ValueRead t s k
   read-number n =
-      let f = check-ok _ _ _ k (sym (size-number short broken t s n) ∙ e) in
+      let f = check-ok _ _ _ k (sym (size-number short broken t s known n) ∙ e) in
       let g = check-ok _ _ _ k (f .1) in
       let l : width t ≤ length s = leb-true (width t) (length s) (f .0) in
       let q : width t ≡ k = cc in
@@ -112,59 +138,41 @@ module _ (short broken : Refusal) (t : ℕ) (s : List ℕ) (k : ℕ) (h : Bytes 
       record {
         some = omega arith;
         fits = omega arith;
-        whole = number (take k s) n (length-take-le k s (omega arith) ∙ sym q) (bytes-take k s h) (first-taken t k s (omega arith) ∙ g .0);
+        whole = λ h. number (take k s) n (length-take-le k s (omega arith) ∙ sym q) (bytes-take k s h) (first-taken t k s (omega arith) ∙ g .0);
       }
 
-  read-string : isString t ≡ true → Read t s k
+  read-string : isString t ≡ true → ValueRead t s k
   read-string n =
-      on-number big 4 (refuse short) (λ (x : Out Refusal ℕ). x ≡ ok k) (λ (l : List ℕ). Read t l k) s (stringSize short broken)
-      (never (refuse short) short k refl) h (sym (size-string short broken t s n) ∙ e)
-      (λ v c _ hc x. string-whole v c hc x)
-    where
-      string-whole : (v : ℕ) (c : List ℕ) → Bytes c → stringSize short broken v c ≡ ok k → Read t (be 4 v ++ c) k
-      string-whole v c hc x =
-          let f = check-ok _ _ _ k (check-ok _ _ _ k x .1) in
-          let g = check-ok _ _ _ k (f .1) in
-          let m : v ≤ 65535 = leb-true v 65535 (f .0) in
-          let l : v ≤ length c = leb-true v (length c) (g .0) in
-          let q : 4 + v ≡ k = cc in
-          let r : k ≡ suc (suc (suc (suc v))) = omega arith in
-          let y : Value t (be 4 v ++ take v c) =
-          subst (λ (j : ℕ). Value t (be 4 j ++ take v c)) (length-take-le v c l)
-          (string (take v c) n (omega (arith, length-take-le v c l)) (bytes-take v c hc)) in
-          record {
-            some = omega arith;
-            fits = omega arith;
-            whole = rw r y;
-          }
+      let x = number-ok 4 short s (stringSize short broken) k (sym (size-string short broken t s known n) ∙ e) in
+      let c : List ℕ = drop 4 s in
+      let v : ℕ = beAt 4 s 0 in
+      let f = check-ok _ _ _ k (check-ok _ _ _ k (x .1) .1) in
+      let g = check-ok _ _ _ k (f .1) in
+      let m : v ≤ longestString = leb-true v longestString (f .0) in
+      let l : v ≤ length c = leb-true v (length c) (g .0) in
+      let z = rw length-drop at l in
+      let q : 4 + v ≡ k = cc in
+      record {
+        some = omega arith;
+        fits = omega arith;
+        whole = λ h.
+            let r : k ≡ suc (suc (suc (suc v))) = omega arith in
+            let y : Value t (be 4 v ++ take v c) =
+            subst (λ (j : ℕ). Value t (be 4 j ++ take v c)) (length-take-le v c l)
+            (string (take v c) known n (omega (arith, length-take-le v c l)) (bytes-take v c (bytes-drop 4 s h))) in
+            subst (λ (u : List ℕ). Value t (take k u)) (sym (numberAt-back big 4 s h (x .0))) (rw r y);
+      }
 
-  pub value-read : Read t s k
+  pub value-read : ValueRead t s k
   value-read = by (isString t) refl
     where
-      by : (b : Bool) → isString t ≡ b → Read t s k
+      by : (b : Bool) → isString t ≡ b → ValueRead t s k
       by true n = read-string n
       by false n = read-number n
 
-module _ (short broken : Refusal) (t : ℕ) (s : List ℕ) (k : ℕ) (h : Bytes s) where
-  pub value-back : t < 12 → valueSize short broken t s ≡ ok k → (k ≤ length s) × Value t (take k s)
-  value-back _ e = let r = value-read short broken t s k h e in (r .fits, r .whole)
-
-  pub value-some : valueSize short broken t s ≡ ok k → 1 ≤ k
-  value-some e = value-read short broken t s k h e .some
-
 pub value-length : (t : ℕ) (v : List ℕ) → Value t v → 1 ≤ length v
 value-length t v (number v′ n l b o) = omega (arith, width-some t n)
-value-length t v (string c n l b) = omega arith
-
--- ---- whether a value is listed, of literals that are read
-
-module _ (v : List ℕ) (b : Bool) where
-  pub lists-by : (o : Out Refusal (List (List ℕ))) → ((ls : List (List ℕ)) → o ≡ ok ls → b ≡ listed v ls) → Lists v o b
-  lists-by (refuse r) f = tt
-  lists-by (ok ls) f = f ls refl
-
-  pub lists-read : {o : Out Refusal (List (List ℕ))} (ls : List (List ℕ)) → o ≡ ok ls → Lists v o b → b ≡ listed v ls
-  lists-read ls e = subst (λ (x : Out Refusal (List (List ℕ))). Lists v x b → b ≡ listed v ls) (sym e) (λ x. x)
+value-length t v (string c k n l b) = omega arith
 
 -- ---- literals: laid out, so read; read, so laid out
 
@@ -188,18 +196,18 @@ module _ (t : ℕ) (ls : List (List ℕ)) (s : List ℕ) (p : 0 < length s) wher
   unfolding literals valueOf andThen
   literals-refused n r e = rw (ne-eqb (length s) 0 (omega arith), e)
 
-laid-from : (t n : ℕ) (acc ls : List (List ℕ)) → Literals t ls → t < 12 → length ls ≤ n → literals t n acc (joined ls) ≡ ok (acc ++ ls)
-laid-from t n acc [] x h m = literals-end t n acc ∙ ap ok (sym (append-nil acc))
-laid-from t zero acc (l ∷ ls) x h m = absurd (omega arith)
-laid-from t (suc n) acc (l ∷ ls) x h m =
+laid-from : (t n : ℕ) (acc ls : List (List ℕ)) → Literals t ls → length ls ≤ n → literals t n acc (joined ls) ≡ ok (acc ++ ls)
+laid-from t n acc [] x m = literals-end t n acc ∙ ap ok (sym (append-nil acc))
+laid-from t zero acc (l ∷ ls) x m = absurd (omega arith)
+laid-from t (suc n) acc (l ∷ ls) x m =
     let s : List ℕ = l ++ joined ls in
     let p : 0 < length s = rw length-append (omega (arith, value-length t l (x .0))) in
-    let e = literals-next t acc s p n (length l) (value-laid Literal Literal t l (joined ls) (x .0) h) in
+    let e = literals-next t acc s p n (length l) (value-laid Literal Literal t l (joined ls) (x .0)) in
     let q = rw (take-at l (joined ls) (length l) refl, drop-at l (joined ls) (length l) refl) at e in
-    q ∙ laid-from t n (acc ++ (l ∷ [])) ls (x .1) h (omega arith) ∙ ap ok (append-assoc acc (l ∷ []) ls)
+    q ∙ laid-from t n (acc ++ (l ∷ [])) ls (x .1) (omega arith) ∙ ap ok (append-assoc acc (l ∷ []) ls)
 
-pub literals-laid : (t : ℕ) (ls : List (List ℕ)) → Literals t ls → t < 12 → length ls ≤ 1024 → literals t 1024 [] (joined ls) ≡ ok ls
-literals-laid t ls x h m = laid-from t 1024 [] ls x h m
+pub literals-laid : (t : ℕ) (ls : List (List ℕ)) → Literals t ls → length ls ≤ mostLiterals → literals t mostLiterals [] (joined ls) ≡ ok ls
+literals-laid t ls x m = laid-from t mostLiterals [] ls x m
 
 -- what is said of literals that were read behind `acc`, n at most
 abbrev From : ℕ → ℕ → List (List ℕ) → List ℕ → List (List ℕ) → Type 0
@@ -210,31 +218,65 @@ none t n acc ls e = let q = literals-end t n acc in ([], cc (append-nil acc), re
 
 back-from : (t n : ℕ) (acc : List (List ℕ)) (s : List ℕ) (ls : List (List ℕ)) → Bytes s → literals t n acc s ≡ ok ls → From t n acc s ls
 back-from t zero acc [] ls h e = none t zero acc ls e
-back-from t zero acc (b ∷ s) ls h e = never _ Limit ls (literals-full t acc (b ∷ s) (omega arith)) e
+back-from t zero acc (b ∷ s) ls h e = absurd (not-ok (sym (literals-full t acc (b ∷ s) (omega arith)) ∙ e))
 back-from t (suc n) acc [] ls h e = none t (suc n) acc ls e
 back-from t (suc n) acc (b ∷ s) ls h e = by (valueSize Literal Literal t (b ∷ s)) refl (λ k. back-from t n _ (drop k (b ∷ s)) ls (bytes-drop k (b ∷ s) h))
   where
     by : (o : Out Refusal ℕ) → valueSize Literal Literal t (b ∷ s) ≡ o
         → ((k : ℕ) → literals t n (acc ++ (take k (b ∷ s) ∷ [])) (drop k (b ∷ s)) ≡ ok ls → From t n (acc ++ (take k (b ∷ s) ∷ [])) (drop k (b ∷ s)) ls)
         → From t (suc n) acc (b ∷ s) ls
-    by (refuse r) v next = never _ r ls (literals-refused t acc (b ∷ s) (omega arith) n r v) e
+    by (refuse r) v next = absurd (not-ok (sym (literals-refused t acc (b ∷ s) (omega arith) n r v) ∙ e))
     by (ok k) v next =
         let l : List ℕ = take k (b ∷ s) in
         let m = next k (sym (literals-next t acc (b ∷ s) (omega arith) n k v) ∙ e) in (
           l ∷ m .0,
           m .1 ∙ append-assoc acc (l ∷ []) (m .0),
           sym (take-append-drop k (b ∷ s)) ∙ ap (λ (x : List ℕ). l ++ x) (m .2),
-          (value-read Literal Literal t (b ∷ s) k h v .whole, m .3),
+          (value-read Literal Literal t (b ∷ s) k v .whole h, m .3),
           omega (arith, m .4),
         )
 
--- what was read before stays
-pub literals-more : (t n : ℕ) (acc : List (List ℕ)) (s : List ℕ) (ls : List (List ℕ)) → Bytes s → literals t n acc s ≡ ok ls
-    → (ms : List (List ℕ)) × (ls ≡ acc ++ ms)
-literals-more t n acc s ls h e = let m = back-from t n acc s ls h e in (m .0, m .1)
+pub literals-back : (t : ℕ) (s : List ℕ) (ls : List (List ℕ)) → Bytes s → literals t mostLiterals [] s ≡ ok ls
+    → (s ≡ joined ls) × Literals t ls × (length ls ≤ mostLiterals)
+literals-back t s ls h e =
+    let m = back-from t mostLiterals [] s ls h e in
+    subst (λ (x : List (List ℕ)). (s ≡ joined x) × Literals t x × (length x ≤ mostLiterals)) (sym (m .1)) (m .2, m .3, m .4)
 
-pub literals-back : (t : ℕ) (s : List ℕ) (ls : List (List ℕ)) → Bytes s → t < 12 → literals t 1024 [] s ≡ ok ls
-    → (s ≡ joined ls) × Literals t ls × (length ls ≤ 1024)
-literals-back t s ls h _ e =
-    let m = back-from t 1024 [] s ls h e in
-    subst (λ (x : List (List ℕ)). (s ≡ joined x) × Literals t x × (length x ≤ 1024)) (sym (m .1)) (m .2, m .3, m .4)
+-- ---- literals that are read are those that can be
+
+pub none-readable : (t n : ℕ) → readable t n [] ≡ []
+unfolding readable
+none-readable t zero = refl
+none-readable t (suc n) = by (valueSize Literal Literal t []) refl
+  where
+    by : (o : Out Refusal ℕ) → valueSize Literal Literal t [] ≡ o → fitting o (λ k. take k [] ∷ readable t n (drop k [])) ≡ []
+    by (refuse r) v = refl
+    by (ok k) v = let r = value-read Literal Literal t [] k v in absurd (omega (arith, r .some, r .fits))
+
+-- behind `acc`, with n more that may come and m that are looked for
+readable-from : (t n m : ℕ) (acc : List (List ℕ)) (s : List ℕ) (ls : List (List ℕ)) → length s ≤ m → literals t n acc s ≡ ok ls → ls ≡ acc ++ readable t m s
+unfolding readable
+readable-from t n zero acc [] ls h e = let q = literals-end t n acc in cc (append-nil acc)
+readable-from t n zero acc (b ∷ s) ls h e = absurd (omega arith)
+readable-from t n (suc m) acc [] ls h e = let q = literals-end t n acc in cc (append-nil acc, none-readable t (suc m))
+readable-from t zero (suc m) acc (b ∷ s) ls h e = absurd (not-ok (sym (literals-full t acc (b ∷ s) (omega arith)) ∙ e))
+readable-from t (suc n) (suc m) acc (b ∷ s) ls h e =
+    by (valueSize Literal Literal t (b ∷ s)) refl (λ k. readable-from t n m _ (drop k (b ∷ s)) ls)
+  where
+    by : (o : Out Refusal ℕ) → valueSize Literal Literal t (b ∷ s) ≡ o
+        → ((k : ℕ) → length (drop k (b ∷ s)) ≤ m → literals t n (acc ++ (take k (b ∷ s) ∷ [])) (drop k (b ∷ s)) ≡ ok ls
+        → ls ≡ (acc ++ (take k (b ∷ s) ∷ [])) ++ readable t m (drop k (b ∷ s)))
+        → ls ≡ acc ++ readable t (suc m) (b ∷ s)
+    by (refuse r) v next = absurd (not-ok (sym (literals-refused t acc (b ∷ s) (omega arith) n r v) ∙ e))
+    by (ok k) v next =
+        let r = value-read Literal Literal t (b ∷ s) k v in
+        let l : length (drop k (b ∷ s)) ≤ m = rw length-drop (omega (arith, r .some)) in
+        next k l (sym (literals-next t acc (b ∷ s) (omega arith) n k v) ∙ e) ∙ rw v (append-assoc acc (take k (b ∷ s) ∷ []) (readable t m (drop k (b ∷ s))))
+
+pub readable-literals : (t : ℕ) (s : List ℕ) (ls : List (List ℕ)) → literals t mostLiterals [] s ≡ ok ls → readable t (length s) s ≡ ls
+readable-literals t s ls e = sym (readable-from t mostLiterals (length s) [] s ls (omega arith) e)
+
+-- so of accepted literals a value is listed that is one of them
+pub listed-in : (t : ℕ) (v s : List ℕ) (ls : List (List ℕ)) → literals t mostLiterals [] s ≡ ok ls → listedIn t v s ≡ listed v ls
+unfolding listedIn
+listed-in t v s ls e = ap (listed v) (readable-literals t s ls e)

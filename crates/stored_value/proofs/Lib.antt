@@ -1,6 +1,7 @@
 -- What only the proofs cite.
 pub mod Widths
 pub mod TwosComplement
-pub mod Steps
-pub mod Passed
 pub mod Laws
+pub mod Steps
+pub mod Listing
+pub mod Order

@@ -16,15 +16,15 @@ use mir.Facts.{toZ-ofZ}
 use lib.ListN.{length, getD, take, drop, length-drop, drop-of-length-le}
 use lib.Seq.{drop-cons, drop-drop, getD-drop}
 use borrow.Author.Tests.{eq-eqb, ne-eqb, le-leb, lt-leb, lt-ltb, le-ltb}
-use Rattle.numbers.specs.Meaning.{beAt, big, Bytes}
-use Rattle.numbers.proofs.ByteLists.{bytes-drop}
+use Rattle.numbers.specs.Meaning.{beAt, big, signBit}
 use Rattle.numbers.proofs.Laws.{number-at, number-short}
 use Rattle.refusal.specs.declared.Refusal.{Refusal}
 use Rattle.refusal.specs.declared.Refusal.the-variants.{Literal, Limit}
 use Rattle.stored_value.specs.declared.Sized.{Sized}
-use Rattle.stored_value.specs.Meaning.{width, isString, booleanOk, signedNumber, bytesLess, less}
-use Rattle.refusal.specs.Reading.{Out, refuse, ok, check}
-use Rattle.stored_value.specs.Promises.{sizedBy}
+use Rattle.stored_value.specs.declared.Counted.{Counted}
+use Rattle.stored_value.specs.Meaning.{types, width, isString, longestString, booleanOk, signedNumber, bytesLess, less}
+use Rattle.refusal.specs.Reading.{Out, refuse, ok, check, numbersOf}
+use Rattle.stored_value.specs.Promises.{sizedBy, SizePromise, countedBy, CountPromise}
 use Rattle.stored_value.specs.Reading.{valueSize, literals}
 use Rattle.stored_value.proofs.Laws.{stringSize, size-number, size-string, value-read, literals-end, literals-full, literals-refused, literals-next}
 
@@ -60,45 +60,49 @@ module _ (a b : List ℕ) (i : ℕ) where
 
 -- ---- `less`, by the width w that the code found
 
-module _ (t : ℕ) (a b : List ℕ) (w : ℕ) (e : w ≡ width t) where
+pub less-unknown : (t : ℕ) (a b : List ℕ) → types ≤ t → false ≡ less t a b
+unfolding less
+less-unknown t a b h = rw (le-ltb t types h)
+
+module _ (t : ℕ) (a b : List ℕ) (k : t < types) (w : ℕ) (e : w ≡ width t) where
   pub less-string : w ≡ 0 → bytesLess (drop 4 a) (drop 4 b) ≡ less t a b
   unfolding less isString
-  less-string z = rw (← e, z)
+  less-string z = rw (lt-ltb t types k, ← e, z)
 
   pub less-number : (w ≡ 0 → ⊥) → (x y : ℤ) → (x ≡ signedNumber w a) × SFits w64 x → (y ≡ signedNumber w b) × SFits w64 y
       → ltZ (toZ w64 (ofZ w64 x)) (toZ w64 (ofZ w64 y)) ≡ less t a b
   unfolding less isString
-  less-number n x y f g = rw (toZ-ofZ (f .1), toZ-ofZ (g .1), ← e, ne-eqb w 0 n, ← f .0, ← g .0)
+  less-number n x y f g = rw (lt-ltb t types k, toZ-ofZ (f .1), toZ-ofZ (g .1), ← e, ne-eqb w 0 n, ← f .0, ← g .0)
 
 -- ---- `size`: what each answer goes by, said of the value at p
 
-module _ (short broken : Refusal) (t : ℕ) (s : List ℕ) (p : ℕ) where
+module _ (short broken : Refusal) (t : ℕ) (s : List ℕ) (p : ℕ) (k : t < types) where
   module _ (w : width t ≡ 0) where
     is-string : isString t ≡ true
     unfolding isString
     is-string = eq-eqb (width t) 0 w
 
     pub string-short : length s - p < 4 → valueSize short broken t (drop p s) ≡ refuse short
-    string-short h = size-string short broken t (drop p s) is-string ∙ number-short big 4 (refuse short) s p (stringSize short broken) h
+    string-short h = size-string short broken t (drop p s) k is-string ∙ number-short big 4 (refuse short) s p (stringSize short broken) h
 
     module _ (h : p + 4 ≤ length s) where
       by-length : valueSize short broken t (drop p s) ≡ stringSize short broken (beAt 4 s p) (drop (p + 4) s)
-      by-length = size-string short broken t (drop p s) is-string ∙ number-at big 4 (refuse short) s p (stringSize short broken) h
+      by-length = size-string short broken t (drop p s) k is-string ∙ number-at big 4 (refuse short) s p (stringSize short broken) h
 
-      pub string-negative : 2147483648 ≤ beAt 4 s p → valueSize short broken t (drop p s) ≡ refuse broken
+      pub string-negative : signBit ≤ beAt 4 s p → valueSize short broken t (drop p s) ≡ refuse broken
       unfolding check
-      string-negative g = by-length ∙ rw (le-ltb (beAt 4 s p) 2147483648 g)
+      string-negative g = by-length ∙ rw (le-ltb (beAt 4 s p) signBit g)
 
-      pub string-over : beAt 4 s p < 2147483648 → 65535 < beAt 4 s p → valueSize short broken t (drop p s) ≡ refuse Limit
+      pub string-over : beAt 4 s p < signBit → longestString < beAt 4 s p → valueSize short broken t (drop p s) ≡ refuse Limit
       unfolding check
-      string-over g o = by-length ∙ rw (lt-ltb (beAt 4 s p) 2147483648 g, lt-leb (beAt 4 s p) 65535 o)
+      string-over g o = by-length ∙ rw (lt-ltb (beAt 4 s p) signBit g, lt-leb (beAt 4 s p) longestString o)
 
-      module _ (o : beAt 4 s p ≤ 65535) where
+      module _ (o : beAt 4 s p ≤ longestString) where
         by-bytes : valueSize short broken t (drop p s) ≡ check (leb (beAt 4 s p) (length s - (p + 4))) short (ok (4 + beAt 4 s p))
         unfolding check
         by-bytes =
-            let g : beAt 4 s p < 2147483648 = omega arith in
-            by-length ∙ rw (lt-ltb (beAt 4 s p) 2147483648 g, le-leb (beAt 4 s p) 65535 o, length-drop (p + 4) s)
+            let g : beAt 4 s p < signBit = omega arith in
+            by-length ∙ rw (lt-ltb (beAt 4 s p) signBit g, le-leb (beAt 4 s p) longestString o, length-drop (p + 4) s)
 
         pub string-cut : length s - (p + 4) < beAt 4 s p → valueSize short broken t (drop p s) ≡ refuse short
         unfolding check
@@ -117,14 +121,14 @@ module _ (short broken : Refusal) (t : ℕ) (s : List ℕ) (p : ℕ) where
     unfolding check
     number-cut h =
         let l : length (drop p s) < width t = rw length-drop h in
-        size-number short broken t (drop p s) is-number ∙ rw (lt-leb (width t) (length (drop p s)) l)
+        size-number short broken t (drop p s) k is-number ∙ rw (lt-leb (width t) (length (drop p s)) l)
 
     module _ (h : width t ≤ length s - p) where
       by-boolean : (b : Bool) → booleanOk t (drop p s) ≡ b → valueSize short broken t (drop p s) ≡ check b broken (ok (width t))
       unfolding check
       by-boolean b e =
           let l : width t ≤ length (drop p s) = rw length-drop h in
-          size-number short broken t (drop p s) is-number ∙ rw (le-leb (width t) (length (drop p s)) l, e)
+          size-number short broken t (drop p s) k is-number ∙ rw (le-leb (width t) (length (drop p s)) l, e)
 
       first : getD (drop p s) 0 0 ≡ getD s p 0
       first = getD-drop p s 0 0 ∙ ap (λ (i : ℕ). getD s i 0) (add-zero p)
@@ -148,21 +152,29 @@ module _ (short broken : Refusal) (t : ℕ) (s : List ℕ) (p : ℕ) where
       by (yes w) = string-short w (omega arith)
       by (no w) = number-cut (omega arith) (omega arith)
 
--- what `size` answered is what was read
-pub size-refused : (o : Out Refusal ℕ) (x : Sized) (r : Refusal) → x ≡ sizedBy o → x ≡ Sized.Refused r → o ≡ refuse r
-unfolding sizedBy
-size-refused (refuse q) x r e f = cc
-size-refused (ok n) x r e f = cc
+-- the promise of what was read, and what was read of an answer
+pub says-refused : {o : Out Refusal ℕ} {r : Refusal} → o ≡ refuse r → SizePromise o (Sized.Refused r)
+unfolding sizedBy numbersOf
+says-refused e = record { answer = rw e; numbers = rw e }
 
-pub size-bytes : (o : Out Refusal ℕ) (x : Sized) (n : ℕ) → x ≡ sizedBy o → x ≡ Sized.Bytes n → o ≡ ok n
-unfolding sizedBy
-size-bytes (refuse q) x n e f = cc
-size-bytes (ok m) x n e f = cc
+pub says-bytes : {o : Out Refusal ℕ} {m n : ℕ} → m ≡ n → o ≡ ok n → SizePromise o (Sized.Bytes m)
+unfolding sizedBy numbersOf
+says-bytes h e = record { answer = rw (e, h); numbers = rw (e, h) }
 
-pub size-within : (short broken : Refusal) (t : ℕ) (s : List ℕ) (p n : ℕ) → Bytes s → p ≤ length s → valueSize short broken t (drop p s) ≡ ok n
+pub size-refused : (o : Out Refusal ℕ) (x : Sized) (r : Refusal) → SizePromise o x → x ≡ Sized.Refused r → o ≡ refuse r
+unfolding sizedBy
+size-refused (refuse q) x r e f = cc (e .answer)
+size-refused (ok n) x r e f = cc (e .answer)
+
+pub size-bytes : (o : Out Refusal ℕ) (x : Sized) (n : ℕ) → SizePromise o x → x ≡ Sized.Bytes n → o ≡ ok n
+unfolding sizedBy
+size-bytes (refuse q) x n e f = cc (e .answer)
+size-bytes (ok m) x n e f = cc (e .answer)
+
+pub size-within : (short broken : Refusal) (t : ℕ) (s : List ℕ) (p n : ℕ) → p ≤ length s → valueSize short broken t (drop p s) ≡ ok n
     → (1 ≤ n) × (p + n ≤ length s)
-size-within short broken t s p n h l e =
-    let r = value-read short broken t (drop p s) n (bytes-drop p s h) e in
+size-within short broken t s p n l e =
+    let r = value-read short broken t (drop p s) n e in
     let f = rw length-drop at (r .fits) in
     (r .some, omega arith)
 
@@ -189,3 +201,11 @@ module _ (t m i : ℕ) (ls : List (List ℕ)) (s : List ℕ) (p : ℕ) where
       pub turn-next : (n : ℕ) → valueSize Literal Literal t (drop p s) ≡ ok n
           → literals t (m - i) ls (drop p s) ≡ literals t (m - (i + 1)) (ls ++ (take n (drop p s) ∷ [])) (drop (p + n) s)
       turn-next n e = rw (more, ← drop-drop n p s) (literals-next t ls (drop p s) left (m - (i + 1)) n e)
+
+pub counts-refused : {o : Out Refusal (List (List ℕ))} {r : Refusal} → o ≡ refuse r → CountPromise o (Counted.Refused r)
+unfolding countedBy numbersOf
+counts-refused e = record { answer = rw e; numbers = rw e }
+
+pub counts-literals : {o : Out Refusal (List (List ℕ))} {n : ℕ} (ls : List (List ℕ)) → length ls ≡ n → o ≡ ok ls → CountPromise o (Counted.Count n)
+unfolding countedBy numbersOf
+counts-literals ls h e = record { answer = rw (e, h); numbers = rw (e, h) }

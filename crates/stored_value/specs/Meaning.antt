@@ -1,6 +1,6 @@
 -- The twelve types of a column and their values in stored form (01, the table of widths), their order, what a row holds, and literals.
 use mathlib.Core.Path.{_≡_}
-use Prim.Native.Nat.{ℕ, _≤_}
+use Prim.Native.Nat.{ℕ, _≤_, _<_}
 use mathlib.Core.Bool.{Bool, true, false, _&&_, _||_, cond}
 use mathlib.Core.List.{List, [], _∷_, _++_}
 use lib.Dec.{eqb, ltb, leb}
@@ -16,7 +16,10 @@ use Rattle.numbers.specs.Meaning.{All, same, be, beAt, signed, Bytes}
 abbrev pub widths : List ℕ
 widths = 1 ∷ 1 ∷ 2 ∷ 4 ∷ 4 ∷ 4 ∷ 8 ∷ 8 ∷ 8 ∷ 0 ∷ 0 ∷ 0 ∷ []
 
--- an unknown type has 0 too: whoever is given a type tests it before its values
+-- from here on a type is unknown; it has no values
+abbrev pub types : ℕ
+types = 12
+
 unfoldable pub width : ℕ → ℕ
 width t = getD widths t 0
 
@@ -27,10 +30,14 @@ isString t = eqb (width t) 0
 unfoldable pub booleanOk : ℕ → List ℕ → Bool
 booleanOk t v = cond (eqb t 1) (leb (getD v 0 0) 1) true
 
+-- 01, "Limits": a stored string, in bytes
+abbrev pub longestString : ℕ
+longestString = 65535
+
 -- a value in the stored form of its type
 pub data Value (t : ℕ) : List ℕ → Type 0 where
   number : (v : List ℕ) → isString t ≡ false → length v ≡ width t → Bytes v → booleanOk t v ≡ true → Value t v
-  string : (c : List ℕ) → isString t ≡ true → length c ≤ 65535 → Bytes c → Value t (be 4 (length c) ++ c)
+  string : (c : List ℕ) → t < types → isString t ≡ true → length c ≤ longestString → Bytes c → Value t (be 4 (length c) ++ c)
 
 -- ---- the order of values (01, "Numbers compare signed .. Strings compare by unsigned bytes, a prefix first")
 
@@ -44,9 +51,9 @@ bytesLess [] (y ∷ ys) = true
 bytesLess (x ∷ xs) [] = false
 bytesLess (x ∷ xs) (y ∷ ys) = ltb x y || (eqb x y && bytesLess xs ys)
 
--- a string's bytes stand behind its length of four
+-- a string's bytes stand behind its length of four. Of an unknown type nothing is less
 unfoldable pub less : ℕ → List ℕ → List ℕ → Bool
-less t v w = cond (isString t) (bytesLess (drop 4 v) (drop 4 w)) (ltZ (signedNumber (width t) v) (signedNumber (width t) w))
+less t v w = ltb t types && cond (isString t) (bytesLess (drop 4 v) (drop 4 w)) (ltZ (signedNumber (width t) v) (signedNumber (width t) w))
 
 -- ---- what a row holds, and literals
 
@@ -65,6 +72,10 @@ sameCell (value v) (value w) = same v w
 unfoldable pub listed : List ℕ → List (List ℕ) → Bool
 listed v [] = false
 listed v (l ∷ ls) = same v l || listed v ls
+
+-- 01, "Limits"
+abbrev pub mostLiterals : ℕ
+mostLiterals = 1024
 
 -- literals of type t, each in its stored form; the bytes of all are `joined`, one after another
 abbrev pub Literals : ℕ → List (List ℕ) → Type 0

@@ -5,13 +5,21 @@ ghost use mathlib.Core.List.{[]};
 ghost use lib.ListN.{getD, drop};
 ghost use mir.Syntax.{w64};
 ghost use mir.Val.{SFits};
-ghost use Rattle.stored_value.specs.Meaning.{width, signedNumber, bytesLess};
+ghost use Rattle.stored_value.specs.Meaning.{width, signedNumber, bytesLess, mostLiterals};
 ghost use Rattle.stored_value.specs.Meaning as meaning;
-ghost use Rattle.stored_value.specs.Promises.{sizedBy, countedBy, Lists};
-ghost use Rattle.stored_value.specs.Reading.{valueSize};
+ghost use Rattle.stored_value.specs.Promises.{SizePromise, CountPromise};
+ghost use Rattle.stored_value.specs.Reading.{valueSize, listedIn};
 ghost use Rattle.stored_value.specs.Reading as reading;
 use numbers::Position;
 use refusal::Refusal;
+
+// From here on a type is unknown.
+pub const TYPES: u32 = 12;
+
+// Document 01, "Limits": a stored string, in bytes, and how many literals there may be.
+const LONGEST_STRING: u64 = 65_535;
+
+const MOST_LITERALS: u64 = 1_024;
 
 // 01's table of widths over its twelve types, in its order; 0 stands for a string: a 4-byte length and the bytes. Stored values and literals go by it.
 const WIDTHS: [u8; 12] = [1, 1, 2, 4, 4, 4, 8, 8, 8, 0, 0, 0];
@@ -32,16 +40,19 @@ pub enum Counted {
 fn width_of(t: u32) -> usize
     ensures { λ r. ⌜ (r ≡ width t) × (r ≤ 8) ⌝ }
 {
-    if t < 12 {
+    if t < TYPES {
         return WIDTHS[t as usize] as usize;
     }
     0
 }
 
-// The size of the value at `at`. A string's length is tested before its bytes.
+// The size of the value at `at`. An unknown type is LITERAL. A string's length is tested before its bytes.
 pub fn size(s: &[u8], at: Position, t: u32, short: Refusal, broken: Refusal) -> Sized
-    ensures { λ r. ⌜ r ≡ sizedBy (valueSize short broken t (drop (at .0) (now (s .entry)))) ⌝ }
+    ensures { λ r. ⌜ SizePromise (valueSize short broken t (drop (at .0) (now (s .entry)))) r ⌝ }
 {
+    if TYPES <= t {
+        return Sized::Refused(Refusal::Literal);
+    }
     let p = at.0;
     if s.len() < p {
         return Sized::Refused(short);
@@ -52,11 +63,11 @@ pub fn size(s: &[u8], at: Position, t: u32, short: Refusal, broken: Refusal) -> 
         if left < 4 {
             return Sized::Refused(short);
         }
-        let n = numbers::be32(s, Position(p));
-        if 2147483648 <= n {
+        let n = numbers::be32(s, at);
+        if numbers::SIGN_BIT <= n {
             return Sized::Refused(broken);
         }
-        if 65535 < n {
+        if LONGEST_STRING < n {
             return Sized::Refused(Refusal::Limit);
         }
         if ((left - 4) as u64) < n {
@@ -75,12 +86,12 @@ pub fn size(s: &[u8], at: Position, t: u32, short: Refusal, broken: Refusal) -> 
     Sized::Bytes(w)
 }
 
-// The byte at i; one that is missing counts as 0.
-fn byte_at(s: &[u8], i: usize) -> u64
-    ensures { λ r. ⌜ (r ≡ getD (now (s .entry)) i 0) × (r < 256) ⌝ }
+// The byte at a position; one that is missing counts as 0.
+fn byte_at(s: &[u8], at: Position) -> u64
+    ensures { λ r. ⌜ (r ≡ getD (now (s .entry)) (at .0) 0) × (r < 256) ⌝ }
 {
-    if i < s.len() {
-        return numbers::byte(s, Position(i));
+    if at.0 < s.len() {
+        return numbers::byte(s, at);
     }
     0
 }
@@ -95,7 +106,7 @@ fn signed(s: &[u8], w: usize) -> i64
     let mut last: u64 = 0;
     let mut i = 0;
     while i < w {
-        x = x * 256 + byte_at(s, i);
+        x = x * 256 + byte_at(s, Position(i));
         last = last * 256 + 255;
         i += 1;
     }
@@ -105,11 +116,11 @@ fn signed(s: &[u8], w: usize) -> i64
     -1 - ((last - x) as i64)
 }
 
-// Whether a comes before b from the byte `from` on: by unsigned bytes, a prefix first.
-fn bytes_less(a: &[u8], b: &[u8], from: usize) -> bool
-    ensures { λ r. ⌜ r ≡ bytesLess (drop from (now (a .entry))) (drop from (now (b .entry))) ⌝ }
+// Whether a comes before b from a position on: by unsigned bytes, a prefix first.
+fn bytes_less(a: &[u8], b: &[u8], from: Position) -> bool
+    ensures { λ r. ⌜ r ≡ bytesLess (drop (from .0) (now (a .entry))) (drop (from .0) (now (b .entry))) ⌝ }
 {
-    let mut i = from;
+    let mut i = from.0;
     while i < a.len() {
         if b.len() <= i {
             return false;
@@ -127,25 +138,28 @@ fn bytes_less(a: &[u8], b: &[u8], from: usize) -> bool
     i < b.len()
 }
 
-// Whether a comes before b among the values of type t: numbers signed, strings by unsigned bytes, a prefix first.
+// Whether a comes before b among the values of type t: numbers signed, strings by unsigned bytes, a prefix first. Of an unknown type nothing does.
 pub fn less(t: u32, a: &[u8], b: &[u8]) -> bool
     ensures { λ r. ⌜ r ≡ meaning.less t (now (a .entry)) (now (b .entry)) ⌝ }
 {
+    if TYPES <= t {
+        return false;
+    }
     let w = width_of(t);
     if w == 0 {
-        return bytes_less(a, b, 4);
+        return bytes_less(a, b, Position(4));
     }
     signed(a, w) < signed(b, w)
 }
 
 // Literals of type t, one after another to the end of s.
 pub fn literals(s: &[u8], t: u32) -> Counted
-    ensures { λ r. ⌜ r ≡ countedBy (reading.literals t 1024 [] (now (s .entry))) ⌝ }
+    ensures { λ r. ⌜ CountPromise (reading.literals t mostLiterals [] (now (s .entry))) r ⌝ }
 {
     let mut i: u64 = 0;
     let mut p = 0;
     while p < s.len() {
-        if i == 1024 {
+        if i == MOST_LITERALS {
             return Counted::Refused(Refusal::Limit);
         }
         match size(s, Position(p), t, Refusal::Literal, Refusal::Literal) {
@@ -161,9 +175,9 @@ pub fn literals(s: &[u8], t: u32) -> Counted
     Counted::Count(i)
 }
 
-// Whether a literal has v's bytes. Of literals that `literals` refuses either answer may come: whoever calls has tested them with it.
+// Whether a literal has v's bytes: of literals that `literals` refuses, one of those before the first misfit.
 pub fn listed(v: &[u8], literals: &[u8], t: u32) -> bool
-    ensures { λ r. ⌜ Lists (now (v .entry)) (reading.literals t 1024 [] (now (literals .entry))) r ⌝ }
+    ensures { λ r. ⌜ r ≡ listedIn t (now (v .entry)) (now (literals .entry)) ⌝ }
 {
     let mut p = 0;
     while p < literals.len() {

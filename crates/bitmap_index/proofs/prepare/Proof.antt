@@ -1,6 +1,6 @@
 -- `prepare` meets its contract by the stages in their order.
 use borrow.Author.Tests.{not-true, not-false}
-use Rattle.bitmap_index.proofs.Auditing.{too-long, no-type, no-dictionary, no-room, ready}
+use Rattle.bitmap_index.proofs.Auditing.{too-long, no-dictionary, no-room, ready}
 use borrow.Author.Needs.{needs}
 use Rattle.bitmap_index.proofs.prepare.Statement.{statement}
 use Rattle.bitmap_index.proofs.prepare.Tie as tie
@@ -12,45 +12,31 @@ returns c =
 
 returns-2 : tie.Need-returns-2
 returns-2 c =
-    let a = c .before .before .before .before .args in
-    no-type (a .t) (a .body .now) (a .field .now) (c .before .if1 .left) (c .if2 .taken)
+    let at-read = c .before .before .before .before .before in
+    let a = at-read .before .before .before .before .args in
+    no-room (a .t) (a .body .now) (a .field .now) (at-read .before .if1 .left) (c .before .before .before .checked2 .given .1) (at-read .read .ensures) (c .before .has-room .ensures) (not-true _ (c .if2 .taken))
 
 returns-3 : tie.Need-returns-3
 returns-3 c =
-    let at-checked = c .before .before .before in
-    let at-read = at-checked .before .before in
-    let at-if2 = at-read .before in
-    let at-if1 = at-if2 .before in
-    let a = at-if1 .before .before .before .args in
-    no-room (a .t) (a .body .now) (a .field .now) (at-if1 .if1 .left) (at-if2 .if2 .left) (at-checked .checked2 .given .1) (at-read .read .ensures) (c .before .has-room .ensures) (not-true _ (c .if3 .taken))
+    let at-read = c .before .before .before in
+    let a = at-read .before .before .before .before .args in
+    no-dictionary (a .t) (a .body .now) (a .field .now) (at-read .before .if1 .left) (c .before .checked .given .1) (at-read .read .ensures)
 
 returns-4 : tie.Need-returns-4
 returns-4 c =
-    let at-read = c .before .before .before in
-    let at-if2 = at-read .before in
-    let at-if1 = at-if2 .before in
-    let a = at-if1 .before .before .before .args in
-    no-dictionary (a .t) (a .body .now) (a .field .now) (at-if1 .if1 .left) (at-if2 .if2 .left) (c .before .checked .given .1) (at-read .read .ensures)
-
-returns-5 : tie.Need-returns-5
-returns-5 c =
-    let at-checked = c .before .before .before in
-    let at-read = at-checked .before .before in
-    let at-if2 = at-read .before in
-    let at-if1 = at-if2 .before in
-    let a = at-if1 .before .before .before .args in
-    ready (a .t) (a .body .now) (a .field .now) (at-if1 .if1 .left) (at-if2 .if2 .left) (at-checked .checked2 .given .1) (at-read .read .ensures) (c .before .has-room .ensures) (not-false _ (c .if3 .left))
+    let at-read = c .before .before .before .before .before in
+    let a = at-read .before .before .before .before .args in
+    ready (a .t) (a .body .now) (a .field .now) (at-read .before .if1 .left) (c .before .before .before .checked2 .given .1) (at-read .read .ensures) (c .before .has-room .ensures) (not-false _ (c .if2 .left))
 
 pub prepare-spec : {M : Type 1} → statement M
 prepare-spec =
     tie.close
     (tie.spec
     returns
+    (λ c κs. search needs)
+    (λ c. search needs)
+    (λ c. search needs)
+    (λ c κs. search needs)
     returns-2
-    (λ c κs. search needs)
-    (λ c. search needs)
-    (λ c. search needs)
-    (λ c κs. search needs)
     returns-3
-    returns-4
-    returns-5)
+    returns-4)

@@ -1,5 +1,5 @@
 -- `all_blocks` meets its contract. The loop's invariant: whatever listings the directory has, what is left of them and of the reading gives the whole
--- (`Blocking`).
+-- (`InBlocks`).
 use Prim.Native.Nat.{_-_, _*_, _≤_}
 use mathlib.Core.List.{List}
 use mathlib.Core.Path.{_≡_}
@@ -9,7 +9,7 @@ use borrow.Author.Needs.{needs}
 use Rattle.numbers.specs.Meaning.{signBit}
 use Rattle.dictionary.specs.Promises.{Listed, cellAt}
 use Rattle.dictionary.specs.Reading.{Listing}
-use Rattle.dictionary.proofs.VersionTwo.{Blocking, blocking-first, blocking-done, blocking-stand, blocking-refused, blocking-next}
+use Rattle.dictionary.proofs.VersionTwo.{InBlocks, in-blocks-first, in-blocks-done, in-blocks-stand, in-blocks-refused, in-blocks-next}
 use Rattle.dictionary.proofs.all_blocks.Statement.{statement}
 use Rattle.dictionary.proofs.all_blocks.Tie as tie
 
@@ -17,7 +17,7 @@ abbrev Inv-loop : tie.InvT-loop
 Inv-loop body t b base i₀ list₀ at₀ before₀ total₀ i list at before total =
     (base .0 ≤ at .0) × (at .0 ≤ length body) × (before .end .0 ≤ length body) × (i ≤ b) × (total ≤ signBit * i)
     × ((ds : List Listing) → Listed t (drop (list₀ .0) body) ds → length ds ≡ b
-    → Blocking t ds (drop (base .0) body) i (drop (list .0) body) (cellAt body before) total (drop (at .0) body))
+    → InBlocks t ds (drop (base .0) body) i (drop (list .0) body) (cellAt body before) total (drop (at .0) body))
 
 abbrev μ-loop : tie.MeasureT-loop
 μ-loop body t b base i₀ list₀ at₀ before₀ total₀ i list at before total = b - i
@@ -25,7 +25,7 @@ abbrev μ-loop : tie.MeasureT-loop
 loop-holds : tie.Need-loop-holds Inv-loop μ-loop
 loop-holds c =
     let a = c .before .args in
-    let start = blocking-first (a .t) in
+    let start = in-blocks-first (a .t) in
     (omega arith, c .before .pre .0, omega arith, omega arith, omega arith, λ ds l z. start ds (drop (a .base .0) (a .body .now)) (drop (a .directory .0) (a .body .now)) l)
 
 one-block-requires : tie.Need-one-block-requires Inv-loop μ-loop
@@ -35,7 +35,7 @@ returns : tie.Need-returns Inv-loop μ-loop
 returns c = λ ds l z.
     let a = c .before .before .before .before .before .before .before .args in
     let o = c .before .before .before .before .before .loop in
-    blocking-refused (a .body .now) (a .base .0) (o .list .0) (o .at .0) (o .before) (o .inv .5 ds l z) (omega arith) (rw (c .before .r .given .1) at (c .before .before .before .one-block .ensures))
+    in-blocks-refused (a .body .now) (a .base .0) (o .list .0) (o .at .0) (o .before) (o .inv .5 ds l z) (omega arith) (rw (c .before .r .given .1) at (c .before .before .before .one-block .ensures))
 
 add-total : tie.Need-add-total Inv-loop μ-loop
 add-total c = let x = rw (c .before .listing .given .1) at (c .before .before .before .one-block .ensures) in omega (arith, x .4)
@@ -51,13 +51,13 @@ loop-again c =
       x .3,
       omega arith,
       omega (arith, x .4),
-      λ ds l z. blocking-next (a .body .now) (a .base .0) (o .list .0) (o .at .0) (o .before) (o .inv .5 ds l z) (omega arith) (g .0 .0) (g .1 .0 .0) (g .1 .1 .1 .0) (g .1 .1 .0) x,
+      λ ds l z. in-blocks-next (a .body .now) (a .base .0) (o .list .0) (o .at .0) (o .before) (o .inv .5 ds l z) (omega arith) (g .0 .0) (g .1 .0 .0) (g .1 .1 .1 .0) (g .1 .1 .0) x,
     )
 
 returns-2 : tie.Need-returns-2 Inv-loop μ-loop
 returns-2 c =
     let o = c .before .loop in
-    (λ ds l z. let st = o .inv .5 ds l z in (st .es, blocking-done st (omega arith), st .total, blocking-stand st), o .inv .0, o .inv .1)
+    (λ ds l z. let st = o .inv .5 ds l z in (st .es, in-blocks-done st (omega arith), st .total, in-blocks-stand st), o .inv .0, o .inv .1)
 
 pub all-blocks-spec : {M : Type 1} → statement M
 all-blocks-spec =

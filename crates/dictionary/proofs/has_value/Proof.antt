@@ -19,7 +19,10 @@ loop-holds : tie.Need-loop-holds Inv-loop μ-loop
 loop-holds c = let a = c .before .before .args in sought-first (a .t) (a .v .now) (drop (a .at .0) (a .body .now)) (a .n)
 
 -- the entry's value
-found : (c : tie.After-known-told Inv-loop μ-loop) → let a = c .before .before .before .before .before .before .before .before .args in ValueAt (a .t) (a .body .now) (c .before .before .before .before .before .loop .p) (Value.To (c .before .to .given .0 .0))
+found : (c : tie.After-known-told Inv-loop μ-loop)
+    → let l = c .before .before .before .before .before in
+    let a = l .before .before .before .args in
+    ValueAt (a .t) (a .body .now) (l .loop .p) (Value.To (c .before .to .given .0 .0))
 found c = rw (c .before .to .given .1) at (c .before .before .before .value-end .ensures)
 
 returns : tie.Need-returns Inv-loop μ-loop
@@ -46,9 +49,10 @@ add-p c = let w = found (c .before .before .before) in omega arith
 loop-again : tie.Need-loop-again Inv-loop μ-loop
 loop-again c =
     let k = c .before .before .before in
+    let l = k .before .before .before .before .before in
     let w = found k in
-    let next = sought-next (k .before .before .before .before .before .loop .inv) (k .before .before .before .before .loop-test .taken) (w .0) (c .before .same .ensures) (c .if1 .left) in
-    rw (drop-past (k .before .before .before .before .before .before .before .before .args .body .now) (k .before .before .before .before .before .loop .p) (k .before .to .given .0 .0 .0) 4 (omega arith)) at next
+    let next = sought-next (l .loop .inv) (k .before .before .before .before .loop-test .taken) (w .0) (c .before .same .ensures) (c .if1 .left) in
+    rw (drop-past (l .before .before .before .args .body .now) (l .loop .p) (k .before .to .given .0 .0 .0) 4 (omega arith)) at next
 
 returns-3 : tie.Need-returns-3 Inv-loop μ-loop
 returns-3 c = sought-done (c .before .loop .inv) (c .loop-test .left)

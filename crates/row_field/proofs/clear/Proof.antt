@@ -11,16 +11,11 @@ use Rattle.row_field.proofs.clear.Statement.{statement}
 use Rattle.row_field.proofs.clear.Tie as tie
 
 abbrev Inv-loop : tie.InvT-loop
-Inv-loop buffer₀ rows end i₀ buffer i = (i ≤ end) × (end ≡ min (size rows) (length buffer₀)) × (length buffer ≡ length buffer₀) × (buffer ≡ replicate i 0 ++ drop i buffer₀)
+Inv-loop buffer₀ rows end i₀ buffer i =
+    (i ≤ end) × (end ≡ min (size rows) (length buffer₀)) × (length buffer ≡ length buffer₀) × (buffer ≡ replicate i 0 ++ drop i buffer₀)
 
 abbrev μ-loop : tie.MeasureT-loop
 μ-loop buffer₀ rows end i₀ buffer i = end - i
-
-bytes-for-requires : tie.Need-bytes-for-requires Inv-loop μ-loop
-bytes-for-requires c κs = tt
-
-smaller-requires : tie.Need-smaller-requires Inv-loop μ-loop
-smaller-requires c κs = tt
 
 loop-holds : tie.Need-loop-holds Inv-loop μ-loop
 loop-holds c = (omega arith, omega arith, refl, refl)
@@ -33,8 +28,9 @@ loop-again c =
 
 returns : tie.Need-returns Inv-loop μ-loop
 returns c =
-    let n = c .before .before .before .before .before .args .rows in
-    let b = c .before .before .before .before .before .args .buffer .now in
+    let start = c .before .before .before .before .before in
+    let n = start .args .rows in
+    let b = start .args .buffer .now in
     let e : c .before .loop .i ≡ min (size n) (length b) = omega arith in
     (rw e at (c .before .loop .inv .3)) ∙ sym (zeroed-as-far (size n) b)
 
@@ -44,8 +40,8 @@ clear-spec =
     (tie.spec
     Inv-loop
     μ-loop
-    bytes-for-requires
-    smaller-requires
+    (λ c κs. tt)
+    (λ c κs. tt)
     loop-holds
     (λ c. omega arith)
     (λ c. omega arith)

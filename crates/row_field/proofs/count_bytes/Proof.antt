@@ -15,9 +15,6 @@ Inv-loop field e words total₀ i₀ total i = (i ≤ e) × (total ≡ count fie
 abbrev μ-loop : tie.MeasureT-loop
 μ-loop field e words total₀ i₀ total i = e - i
 
-count-words-requires : tie.Need-count-words-requires Inv-loop μ-loop
-count-words-requires c κs = (omega arith, omega arith)
-
 loop-holds : tie.Need-loop-holds Inv-loop μ-loop
 loop-holds c =
     let n = c .before .before .args .end .0 / 8 in
@@ -52,7 +49,7 @@ count-bytes-spec =
     (tie.spec
     Inv-loop
     μ-loop
-    count-words-requires
+    (λ c κs. (omega arith, omega arith))
     (λ c. omega arith)
     loop-holds
     (λ c. omega arith)

@@ -35,12 +35,20 @@ first-byte t = t .before .before .before .before
 abbrev start : tie.After-mark-bytes → tie.Start
 start t = first-byte t .before .before .before .before .before .before .before
 
-last-byte-left : (t : tie.After-mark-bytes) → Marks (run (start t .args .first .0) (start t .args .last .0)) (start t .args .field .now) (tail (start t .args .last .0)) (t .mark-bytes .last .0) (first-byte t .mark-byte2 .result || t .mark-bytes .result)
+last-byte-left : (t : tie.After-mark-bytes)
+    → Marks
+    (run (start t .args .first .0) (start t .args .last .0))
+    (start t .args .field .now)
+    (tail (start t .args .last .0))
+    (t .mark-bytes .last .0)
+    (first-byte t .mark-byte2 .result || t .mark-bytes .result)
 last-byte-left t =
     let g = start t .args in
     let f = first-byte t in
-    let h : MarkedInTurn (g .field .now) (f .mark-byte2 .last .0) (head (g .first .0)) (f .mark-byte2 .result) = bits-as (g .first .0 / 8 * 8) (f .before .bits-between2 .ensures) (f .mark-byte2 .ensures) in
-    marks-part (marks-part (marks-first (run (g .first .0) (g .last .0)) (g .field .now)) (run-parts (g .first .0) (g .last .0) (omega arith) (omega arith)) h) refl (t .mark-bytes .ensures)
+    let h : MarkedInTurn (g .field .now) (f .mark-byte2 .last .0) (head (g .first .0)) (f .mark-byte2 .result) =
+    bits-as (g .first .0 / 8 * 8) (f .before .bits-between2 .ensures) (f .mark-byte2 .ensures) in
+    let whole = marks-first (run (g .first .0) (g .last .0)) (g .field .now) in
+    marks-part (marks-part whole (run-parts (g .first .0) (g .last .0) (omega arith) (omega arith)) h) refl (t .mark-bytes .ensures)
 
 returns-4 : tie.Need-returns-4
 returns-4 c =
@@ -53,7 +61,8 @@ returns-5 c =
     let called = c .before .before in
     let t = called .before .before .before .before .before .before in
     let g = start t .args in
-    let h : MarkedInTurn (t .mark-bytes .last .0) (called .mark-byte3 .last .0) (tail (g .last .0)) (called .mark-byte3 .result) = bits-as (g .last .0 / 8 * 8) (called .before .bits-between3 .ensures) (called .mark-byte3 .ensures) in
+    let h : MarkedInTurn (t .mark-bytes .last .0) (called .mark-byte3 .last .0) (tail (g .last .0)) (called .mark-byte3 .result) =
+    bits-as (g .last .0 / 8 * 8) (called .before .bits-between3 .ensures) (called .mark-byte3 .ensures) in
     run-at-once (g .first .0) (g .last .0) (marks-done (marks-part (last-byte-left t) (sym (append-nil (tail (g .last .0)))) h) refl)
 
 pub mark-run-spec : {M : Type 1} → statement M

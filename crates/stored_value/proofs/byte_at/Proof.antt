@@ -7,7 +7,7 @@ use Rattle.stored_value.proofs.byte_at.Statement.{statement}
 use Rattle.stored_value.proofs.byte_at.Tie as tie
 
 returns-2 : tie.Need-returns-2
-returns-2 c = (sym (List·getD-eq-default (c .before .before .args .s .now) 0 (c .if1 .left)), omega arith)
+returns-2 c = (sym (List·getD-eq-default (c .before .before .before .args .s .now) 0 (c .if1 .left)), omega arith)
 
 pub byte-at-spec : {M : Type 1} → statement M
 byte-at-spec =

@@ -9,10 +9,10 @@ use Rattle.stored_value.proofs.bytes_less.Statement.{statement}
 use Rattle.stored_value.proofs.bytes_less.Tie as tie
 
 abbrev Inv-loop : tie.InvT-loop
-Inv-loop a b from i₀ i = bytesLess (drop i a) (drop i b) ≡ bytesLess (drop from a) (drop from b)
+Inv-loop a b i₀ i = bytesLess (drop i a) (drop i b) ≡ bytesLess (drop i₀ a) (drop i₀ b)
 
 abbrev μ-loop : tie.MeasureT-loop
-μ-loop a b from i₀ i = length a - i
+μ-loop a b i₀ i = length a - i
 
 loop-holds : tie.Need-loop-holds Inv-loop μ-loop
 loop-holds c = refl

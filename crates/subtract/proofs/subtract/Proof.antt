@@ -2,7 +2,7 @@
 -- removed are those that were (`left-removed`).
 use Prim.Native.Nat.{ℕ, _+_, _-_}
 use mathlib.Core.Path.{_≡_, refl, sym, ap, _∙_}
-use mathlib.Core.Bool.{true}
+use mathlib.Core.Bool.{true, false}
 use mathlib.Core.List.{List}
 use native.Mathlib.Omega.{arith}
 use lib.Dec.{leb}
@@ -32,24 +32,52 @@ promise : {n : ℕ} {f g after : List ℕ} {r : Subtracted} (o : Out Refusal Cou
     → SubtractPromise n f g after r
 promise o e a b = record { answer = rw e a; buffer = rw e b; numbers = rw e (ap subtractOut a ∙ numbers-by o) }
 
+-- ---- the stages, by their tests
+
+module _ (n : ℕ) (f g : List ℕ) where
+  over-limit : leb n limit ≡ false → subtraction n f g ≡ refuse Limit
+  unfolding subtraction check
+  over-limit l = rw l
+
+  first-short : leb n limit ≡ true → leb (size n) (length f) ≡ false → subtraction n f g ≡ refuse Room
+  unfolding subtraction check
+  first-short l h = rw (l, h)
+
+  second-short : leb n limit ≡ true → leb (size n) (length f) ≡ true → leb (size n) (length g) ≡ false → subtraction n f g ≡ refuse Room
+  unfolding subtraction check
+  second-short l h k = rw (l, h, k)
+
+  accepted : leb n limit ≡ true → leb (size n) (length f) ≡ true → leb (size n) (length g) ≡ true
+      → subtraction n f g ≡ ok (record { left = count (subtracted n f g) n; removed = removed n f g })
+  unfolding subtraction check
+  accepted l h k = rw (l, h, k)
+
+-- ---- the answers
+
 returns : tie.Need-returns
-unfolding subtraction check subtractedBy bufferBy
-returns c = promise (refuse Limit) (rw (lt-leb _ limit (c .if1 .taken))) refl refl
+unfolding subtractedBy bufferBy
+returns c =
+    let a = c .before .before .before .args in
+    promise (refuse Limit) (over-limit (a .rows) (a .first .now) (a .second .now) (lt-leb _ limit (c .if1 .taken))) refl refl
 
 returns-2 : tie.Need-returns-2
-unfolding subtraction check subtractedBy bufferBy
+unfolding subtractedBy bufferBy
 returns-2 c =
-    let l = le-leb _ limit (c .before .before .before .if1 .left) in
-    let f = sym (c .before .has-room .ensures) ∙ not-true _ (c .if2 .taken) in
-    promise (refuse Room) (rw (l, f)) refl refl
+    let within = c .before .before .before in
+    let a = within .before .before .before .args in
+    promise (refuse Room)
+    (first-short (a .rows) (a .first .now) (a .second .now) (le-leb _ limit (within .if1 .left)) (sym (c .before .has-room .ensures) ∙ not-true _ (c .if2 .taken)))
+    refl
+    refl
 
 returns-3 : tie.Need-returns-3
-unfolding subtraction check subtractedBy bufferBy
+unfolding subtractedBy bufferBy
 returns-3 c =
-    let l = le-leb _ limit (c .before .before .before .before .before .if1 .left) in
+    let within = c .before .before .before .before .before in
+    let a = within .before .before .before .args in
     let f = sym (c .before .before .before .has-room .ensures) ∙ not-false _ (c .before .before .if2 .left) in
     let g = sym (c .before .has-room2 .ensures) ∙ not-true _ (c .if3 .taken) in
-    promise (refuse Room) (rw (l, f, g)) refl refl
+    promise (refuse Room) (second-short (a .rows) (a .first .now) (a .second .now) (le-leb _ limit (within .if1 .left)) f g) refl refl
 
 -- ---- past the tests
 
@@ -85,7 +113,8 @@ tested c = counted c .before .before
 
 -- rows left and rows removed are the rows that were
 module _ (c : tie.After-count2) where
-  left : c .count2 .result ≡ count (subtracted (start (tested c) .args .rows) (start (tested c) .args .first .now) (start (tested c) .args .second .now)) (start (tested c) .args .rows)
+  left : c .count2 .result
+      ≡ count (subtracted (start (tested c) .args .rows) (start (tested c) .args .first .now) (start (tested c) .args .second .now)) (start (tested c) .args .rows)
   left = c .count2 .ensures ∙ ap (λ (d : List ℕ). count d (start (tested c) .args .rows)) (c .before .before .before .before .subtract-rows .ensures)
 
   parts : c .count2 .result + removed (start (tested c) .args .rows) (start (tested c) .args .first .now) (start (tested c) .args .second .now)
@@ -97,11 +126,6 @@ module _ (c : tie.After-count2) where
 sub-removed : tie.Need-sub-removed
 sub-removed c = omega (arith, parts c)
 
-accepted : (n : ℕ) (f g : List ℕ) → leb n limit ≡ true → leb (size n) (length f) ≡ true → leb (size n) (length g) ≡ true
-    → subtraction n f g ≡ ok (record { left = count (subtracted n f g) n; removed = removed n f g })
-unfolding subtraction check
-accepted n f g l h k = rw (l, h, k)
-
 returns-4 : tie.Need-returns-4
 unfolding subtractedBy bufferBy
 returns-4 c =
@@ -109,7 +133,8 @@ returns-4 c =
     let a = start t .args in
     let l = left c in
     let r : counted c .count .result - c .count2 .result ≡ removed (a .rows) (a .first .now) (a .second .now) = omega (arith, parts c) in
-    promise (ok (record { left = _; removed = _ })) (accepted (a .rows) (a .first .now) (a .second .now) (within t) (first-room t) (second-room t)) (cc) (c .before .before .before .before .subtract-rows .ensures)
+    let o = accepted (a .rows) (a .first .now) (a .second .now) (within t) (first-room t) (second-room t) in
+    promise (ok (record { left = _; removed = _ })) o (cc) (c .before .before .before .before .subtract-rows .ensures)
 
 pub subtract-spec : {M : Type 1} → statement M
 subtract-spec =

@@ -1,5 +1,5 @@
 -- The order of values is strict: no value is less than itself, and what is less than a lesser one is less.
-use mathlib.Core.Path.{_≡_, refl, sym, _∙_}
+use mathlib.Core.Path.{_≡_, refl, _∙_}
 use mathlib.Core.Logic.{_⊎_, ⊎-elim, inl, inr}
 use Prim.Native.Nat.{ℕ, _<_}
 use native.Mathlib.Omega.{arith}
@@ -11,19 +11,13 @@ use lib.IntN.{ℤ, pos, negsuc}
 use lib.Signed.{ltZ}
 use borrow.Author.Tests.{ltb-true, eqb-true, lt-ltb, le-ltb, eq-eqb}
 use Rattle.numbers.specs.Meaning.{same}
-use Rattle.stored_value.specs.Meaning.{width, isString, signedNumber, bytesLess, less}
+use Rattle.stored_value.specs.Meaning.{types, width, isString, signedNumber, bytesLess, less}
+use Rattle.numbers.proofs.Booleans.{and-both}
 use Rattle.numbers.proofs.SameBytes.{same→eq}
-
-never : true ≡ false → ⊥
-never e = let z : _≡_ {A = ℕ} 0 1 = cc in omega arith
 
 or-cases : (a b : Bool) → (a || b) ≡ true → (a ≡ true) ⊎ (b ≡ true)
 or-cases true b e = inl refl
 or-cases false b e = inr e
-
-and-both : (a b : Bool) → (a && b) ≡ true → (a ≡ true) × (b ≡ true)
-and-both true b e = (refl, e)
-and-both false b e = absurd (never (sym e))
 
 -- ---- bytes
 
@@ -51,7 +45,7 @@ unfolding bytesLess
 bytes-trans [] [] w e f = f
 bytes-trans [] (y ∷ ys) [] e f = f
 bytes-trans [] (y ∷ ys) (z ∷ zs) e f = refl
-bytes-trans (x ∷ xs) [] w e f = absurd (never (sym e))
+bytes-trans (x ∷ xs) [] w e f = cc
 bytes-trans (x ∷ xs) (y ∷ ys) [] e f = f
 bytes-trans (x ∷ xs) (y ∷ ys) (z ∷ zs) e f =
     let step = bytes-trans xs ys zs in
@@ -69,30 +63,32 @@ not-below (negsuc a) = le-ltb a a (omega arith)
 below-trans : (a b c : ℤ) → ltZ a b ≡ true → ltZ b c ≡ true → ltZ a c ≡ true
 below-trans (pos a) (pos b) (pos c) e f = lt-ltb a c (omega (arith, ltb-true a b e, ltb-true b c f))
 below-trans (pos a) (pos b) (negsuc c) e f = f
-below-trans (pos a) (negsuc b) c e f = absurd (never (sym e))
+below-trans (pos a) (negsuc b) c e f = cc
 below-trans (negsuc a) b (pos c) e f = refl
-below-trans (negsuc a) (pos b) (negsuc c) e f = absurd (never (sym f))
+below-trans (negsuc a) (pos b) (negsuc c) e f = cc
 below-trans (negsuc a) (negsuc b) (negsuc c) e f = lt-ltb c a (omega (arith, ltb-true b a e, ltb-true c b f))
 
 -- ---- values
 
 pub less-not-self : (t : ℕ) (v : List ℕ) → less t v v ≡ false
 unfolding less
-less-not-self t v = go (isString t)
+less-not-self t v = go (ltb t types) (isString t)
   where
-    go : (b : Bool) → cond b (bytesLess (drop 4 v) (drop 4 v)) (ltZ (signedNumber (width t) v) (signedNumber (width t) v)) ≡ false
-    go true = bytes-not-self (drop 4 v)
-    go false = not-below (signedNumber (width t) v)
+    go : (k b : Bool) → k && cond b (bytesLess (drop 4 v) (drop 4 v)) (ltZ (signedNumber (width t) v) (signedNumber (width t) v)) ≡ false
+    go false b = refl
+    go true true = bytes-not-self (drop 4 v)
+    go true false = not-below (signedNumber (width t) v)
 
 pub less-trans : (t : ℕ) (u v w : List ℕ) → less t u v ≡ true → less t v w ≡ true → less t u w ≡ true
 unfolding less
-less-trans t u v w = go (isString t)
+less-trans t u v w = go (ltb t types) (isString t)
   where
-    go : (b : Bool) → cond b (bytesLess (drop 4 u) (drop 4 v)) (ltZ (signedNumber (width t) u) (signedNumber (width t) v)) ≡ true
-        → cond b (bytesLess (drop 4 v) (drop 4 w)) (ltZ (signedNumber (width t) v) (signedNumber (width t) w)) ≡ true
-        → cond b (bytesLess (drop 4 u) (drop 4 w)) (ltZ (signedNumber (width t) u) (signedNumber (width t) w)) ≡ true
-    go true e f = bytes-trans (drop 4 u) (drop 4 v) (drop 4 w) e f
-    go false e f = below-trans (signedNumber (width t) u) (signedNumber (width t) v) (signedNumber (width t) w) e f
+    go : (k b : Bool) → k && cond b (bytesLess (drop 4 u) (drop 4 v)) (ltZ (signedNumber (width t) u) (signedNumber (width t) v)) ≡ true
+        → k && cond b (bytesLess (drop 4 v) (drop 4 w)) (ltZ (signedNumber (width t) v) (signedNumber (width t) w)) ≡ true
+        → k && cond b (bytesLess (drop 4 u) (drop 4 w)) (ltZ (signedNumber (width t) u) (signedNumber (width t) w)) ≡ true
+    go false b e f = e
+    go true true e f = bytes-trans (drop 4 u) (drop 4 v) (drop 4 w) e f
+    go true false e f = below-trans (signedNumber (width t) u) (signedNumber (width t) v) (signedNumber (width t) w) e f
 
 -- a value is not the one that it is less than
 pub less-differs : (t : ℕ) (v w : List ℕ) → less t v w ≡ true → same v w ≡ false
@@ -100,4 +96,4 @@ less-differs t v w e = go (same v w) refl
   where
     go : (b : Bool) → same v w ≡ b → same v w ≡ false
     go false p = p
-    go true p = let q : v ≡ w = same→eq v w p in absurd (never (sym (rw q at e) ∙ less-not-self t w))
+    go true p = let q : v ≡ w = same→eq v w p in let x = rw q at e in cc (less-not-self t w)
