@@ -13,7 +13,7 @@ use Rattle.index_file.specs.declared.Located.{Located}
 use Rattle.index_file.specs.Reading.{Part, Sought, found, absent, find, locatedBy, soughtNumbers}
 use Rattle.index_file.proofs.Theorems.{found-within}
 use Rattle.bitmap_index.specs.declared.Answered.{Answered}
-use Rattle.bitmap_index.specs.Reading.{Answer, ask, askBuffer, answeredBy, askOut, askNumbers}
+use Rattle.bitmap_index.specs.Reading.{Answer, ask, answeredBy, askOut, askNumbers}
 use Rattle.bitmap_index.specs.Promises.{AskPromise}
 use Rattle.file_to_answers.specs.declared.FileAnswer.{FileAnswer}
 use Rattle.file_to_answers.specs.Reading.{used, lookedAt, askPart, askPartBuffer, askFile, askFileBuffer, fileAnswerBy, askFileOut, askFileNumbers}
@@ -110,9 +110,12 @@ Promise bytes column kind t q literals before after r =
 
 module _ (bytes column kind : List ℕ) (t q : ℕ) (literals before : List ℕ) (b : Bytes before) where
   both : {after : List ℕ} {r : FileAnswer} → AskFilePromise bytes column kind t q literals before after r → Promise bytes column kind t q literals before after r
-  both p = (p, λ cells ls f w l room.
-    let s = file-is-answered t cells column kind bytes f before b room q ls w in
-    (p .answer ∙ rw l (ap fileAnswerBy (s .0)), p .buffer ∙ rw l (s .1)))
+  both p = (
+    p,
+    λ cells ls f w l room.
+        let s = file-is-answered t cells column kind bytes f before b room q ls w in
+        (p .answer ∙ rw l (ap fileAnswerBy (s .0)), p .buffer ∙ rw l (s .1)),
+  )
 
   module _ {l : Located} (e : l ≡ locatedBy (find bytes column kind)) where
     pub asked-absent : l ≡ Located.Absent → Promise bytes column kind t q literals before before FileAnswer.Absent

@@ -1,10 +1,10 @@
 -- The starred table's statement: each case is computed, and the layouts of its bytes are given.
-use Prim.Native.Nat.{ℕ, zero, suc, _-_, _≤_, _<_}
+use Prim.Native.Nat.{ℕ, _-_, _≤_, _<_}
 use mathlib.Core.Path.{_≡_, refl}
 use mathlib.Core.List.{List, [], _∷_}
 use native.Mathlib.Omega.{arith}
 use borrow.Author.Tests.{le-ltb}
-use Rattle.numbers.specs.Meaning.{number, signed32, same, Bytes, minusOne}
+use Rattle.numbers.specs.Meaning.{number, signed32, same, minusOne}
 use Rattle.numbers.proofs.ByteLists.{bytes-one}
 use Rattle.refusal.specs.Meaning.{limit}
 use Rattle.refusal.specs.declared.Refusal.the-variants.{Range}
@@ -116,6 +116,22 @@ named-last = (refl, λ extent n region field. refl, λ c extent region h. single
 
 pub starred : StarredHolds
 unfolding number head.find head.file head.count head.name head.entries head.afterEntry head.columns head.afterColumn head.placed head.head soughtNumbers numbersOf used askFile askPart read readPlain readFlagged contents containers offsetIs body bodySize bodyValues sound valuesOf runsOf valuesRise runsRise bit mark markAll anySet zeroed upTo rowsFrom placeAt placeEntry placeEntries check andThen valueSize valueOf literals width isString booleanOk same sameCell signedNumber less listed counted entriesOne listings past isDue entriesTwo behind blocksOf blocked nullOf dictionary chosen takes scanFrom scan roomFor prepared audited audit chosenOf answered auditedAnswer wellFormed ask answeredBy keeps
-starred =
-    ((refl, refl, its-file, refl), ((refl, one-is-its-body), ((refl, two-is-its-body), ((refl, refl, refl, refl, refl), ((refl, refl, refl, refl, refl), ((refl, refl, refl, refl, refl),
-    ((refl, array-bitmap), ((refl, run-bitmap), (named-0, (named-last, (always, tt)))))))))))
+starred = (
+  (refl, refl, its-file, refl),
+  (
+    (refl, one-is-its-body),
+    (
+      (refl, two-is-its-body),
+      (
+        (refl, refl, refl, refl, refl),
+        (
+          (refl, refl, refl, refl, refl),
+          (
+            (refl, refl, refl, refl, refl),
+            ((refl, array-bitmap), ((refl, run-bitmap), (named-0, (named-last, (always, tt))))),
+          ),
+        ),
+      ),
+    ),
+  ),
+)

@@ -1,4 +1,5 @@
--- What is answered `found` was laid out, and what is answered ABSENT has a head that keeps the rules. Each step takes a good reading apart: what holds of the bytes that were laid out holds of those that were read.
+-- What is found was laid out, and what is answered ABSENT has a head that keeps the rules. Each step takes a reading that is no refusal apart: what holds of
+-- the bytes that were laid out holds of those that were read.
 use Prim.Native.Nat.{ℕ, zero, suc, _+_, _^_, _<_, _≤_}
 use mathlib.Core.Path.{_≡_, refl, sym, ap, ap₂, _∙_, subst}
 use mathlib.Core.Bool.{Bool, true, false, _||_}
@@ -19,7 +20,7 @@ use Rattle.index_file.specs.declared.Place.the-variants.{Nowhere, At, Re
 use Rattle.index_file.specs.Layout.{magic, fileVersion, frontSize, leastHead, ListedIndex, ListedColumn, nameBytes, entryBytes, entriesBytes, columnBytes, columnsBytes, headBytes, GoodIndex, GoodColumn, Headed, File, Unlisted}
 use Rattle.index_file.specs.Reading.{count, name, position, afterEntry, entries, afterColumn, columns, Part, Sought, found, absent, placed, head, file, find, bytesOf}
 use Rattle.index_file.specs.Promises.{Rest}
-use Rattle.index_file.proofs.Once.{placeIn, placeOf, found-back, absent-back}
+use Rattle.index_file.proofs.ListedOnce.{placeIn, placeOf, found-back, absent-back}
 use Rattle.index_file.proofs.Laid.{entry-split, column-split, headed-file}
 
 -- what stands in the bytes in front and what was read of the head behind them are the head

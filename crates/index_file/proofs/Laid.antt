@@ -14,11 +14,11 @@ use Rattle.refusal.specs.declared.Refusal.{Refusal}
 use Rattle.refusal.specs.Reading.{refuse, ok, check}
 use Rattle.index_file.specs.declared.Place.{Place}
 use Rattle.index_file.specs.declared.Place.the-variants.{Nowhere, At}
-use Rattle.index_file.specs.Layout.{magic, fileVersion, frontSize, leastHead, ListedIndex, ListedColumn, nameBytes, entryBytes, entriesBytes, columnBytes, columnsBytes, headBytes, GoodIndex, GoodColumn, Once, Headed, File, Unlisted}
+use Rattle.index_file.specs.Layout.{magic, fileVersion, frontSize, leastHead, ListedIndex, ListedColumn, nameBytes, entryBytes, entriesBytes, columnBytes, columnsBytes, headBytes, GoodIndex, GoodColumn, ListedOnce, Headed, File, Unlisted}
 use Rattle.index_file.specs.Reading.{count, name, position, afterEntry, entries, afterColumn, columns, Part, found, absent, placed, head, file, find}
 use Rattle.index_file.specs.Promises.{Rest}
 use Rattle.index_file.proofs.Laws.{find-file}
-use Rattle.index_file.proofs.Once.{placeIn, placeOf, in-once, of-once, of-unlisted}
+use Rattle.index_file.proofs.ListedOnce.{placeIn, placeOf, in-once, of-once, of-unlisted}
 
 -- ---- fields
 
@@ -109,7 +109,7 @@ all-at : {A : Type 0} (P : A → Type 0) (before : List A) (x : A) (after : List
 all-at P [] x after h = h .0
 all-at P (y ∷ before) x after h = all-at P before x after (h .1)
 
-once-fit : {A : Type 0} (Q : A → Type 0) {P : A → Type 0} {x : A} {l : List A} → Once P x l → All Q l → Q x
+once-fit : {A : Type 0} (Q : A → Type 0) {P : A → Type 0} {x : A} {l : List A} → ListedOnce P x l → All Q l → Q x
 once-fit Q {x = x} o h = all-at Q (o .before) x (o .after) (rw (o .parts) at h)
 
 pub headed-file : (column kind : List ℕ) {bytes : List ℕ} (h : Headed bytes) → file column kind bytes ≡ placed (h .headLength) (length bytes) (placeOf kind column false Nowhere (h .columns))

@@ -1,6 +1,6 @@
 pub mod Positions
 pub mod Laws
-pub mod Once
+pub mod ListedOnce
 pub mod Laid
 pub mod Accepted
 pub mod Theorems

@@ -11,8 +11,8 @@ use Rattle.refusal.specs.Meaning.{numberOf, limit}
 use Rattle.refusal.specs.declared.Refusal.{Refusal}
 use Rattle.refusal.specs.Reading.{refuse, ok, numbersOf}
 use Rattle.refusal.proofs.Laws.{ok-same}
-use Rattle.index_file.specs.Layout.{magic, frontSize, File}
-use Rattle.index_file.specs.Reading.{Sought, found, absent, Part, bytesOf, find, soughtNumbers}
+use Rattle.index_file.specs.Layout.{magic, frontSize}
+use Rattle.index_file.specs.Reading.{found, absent, Part, bytesOf, find, soughtNumbers}
 use Rattle.index_file.specs.Claims.{LaidOutIsFound, FoundIsLaidOut, OneBody, UnlistedIsAbsent, AbsentIsUnlisted, NumberOfFound, NumberOfAbsent, OtherVersionIsRefused, OtherVersionIsNotFound}
 use Rattle.index_file.proofs.Laws.{file-short, file-magic, file-version, find-long, find-column, find-kind, find-file}
 use Rattle.index_file.proofs.Laid.{partOf, laid-find, unlisted-file}

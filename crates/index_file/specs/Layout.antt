@@ -72,14 +72,24 @@ GoodColumn c = (length (c .name) < 256 ^ 2) × (length (c .entries) < signBit) �
 abbrev pub Named : List ℕ → List ℕ → Type 0
 Named asked stored = stored ≡ asked
 
+abbrev pub IsColumn : List ℕ → ListedColumn → Type 0
+IsColumn column c = Named column (c .name)
+
+abbrev pub IsKind : List ℕ → ListedIndex → Type 0
+IsKind kind e = Named kind (e .name)
+
+-- none of the list has the property
+abbrev pub None : {A : Type 0} → (A → Type 0) → List A → Type 0
+None P l = All (λ y. P y → ⊥) l
+
 -- x has the property, and no other of the list has it
-pub record Once {A : Type 0} (P : A → Type 0) (x : A) (l : List A) : Type 0 where
+pub record ListedOnce {A : Type 0} (P : A → Type 0) (x : A) (l : List A) : Type 0 where
   pub before : List A
   pub after : List A
   pub parts : l ≡ before ++ (x ∷ after)
   pub holds : P x
-  pub none-before : All (λ (y : A). P y → ⊥) before
-  pub none-after : All (λ (y : A). P y → ⊥) after
+  pub none-before : None P before
+  pub none-after : None P after
 
 -- "it keeps the head's rules": bytes that are a head and anything behind it; the head length counts the whole head. That each number
 -- of a name is a byte is not asked here: `bytes` is a buffer's, and so all bytes
@@ -100,14 +110,14 @@ pub record File (column kind body bytes : List ℕ) : Type 0 where
   pub head : Headed bytes
   pub asked : ListedColumn
   pub entry : ListedIndex
-  pub column-once : Once (λ (c : ListedColumn). Named column (c .name)) asked (head .columns)
-  pub kind-once : Once (λ (e : ListedIndex). Named kind (e .name)) entry (asked .entries)
+  pub column-once : ListedOnce (IsColumn column) asked (head .columns)
+  pub kind-once : ListedOnce (IsKind kind) entry (asked .entries)
   pub not-negative : (entry .start < signBit) × (entry .length < signBit)
   pub behind : head .headLength ≤ entry .start
   pub within : entry .start + entry .length ≤ length bytes
   pub part : body ≡ take (entry .length) (drop (entry .start) bytes)
 
--- "ListedColumn or kind not listed": no column has the asked name; or one has it, and none of its entries has the asked kind's
+-- "Column or kind not listed": no column has the asked name; or one has it, and none of its entries has the asked kind's
 pub data Unlisted (column kind : List ℕ) (cs : List ListedColumn) : Type 0 where
-  no-column : All (λ (c : ListedColumn). Named column (c .name) → ⊥) cs → Unlisted column kind cs
-  no-kind : {asked : ListedColumn} → Once (λ (c : ListedColumn). Named column (c .name)) asked cs → All (λ (e : ListedIndex). Named kind (e .name) → ⊥) (asked .entries) → Unlisted column kind cs
+  no-column : None (IsColumn column) cs → Unlisted column kind cs
+  no-kind : {asked : ListedColumn} → ListedOnce (IsColumn column) asked cs → None (IsKind kind) (asked .entries) → Unlisted column kind cs

@@ -20,7 +20,10 @@ pub ask-file : (bytes column kind : List ℕ) (t q : ℕ) (literals before : Lis
     → AskFile bytes column kind t q literals before after number matched
     × FileAsScan bytes column kind t q literals before (λ a. (number ≡ 0) × (matched ≡ a .matched) × (after ≡ a .buffer))
 unfolding numbersOf askFileNumbers
-ask-file bytes column kind t q literals before b {number = number} {matched} n x = (record { numbers = n; buffer = x }, λ cells ls f w l room.
-  let s = file-is-answered t cells column kind bytes f before b room q ls w in
-  let m : _≡_ {A = ℕ × ℕ} (number, matched) (0, scan q ls cells .matched) = n ∙ rw l (ap (numbersOf 0 askFileNumbers) (s .0)) in
-  (ap (λ (x : ℕ × ℕ). x .0) m, ap (λ (x : ℕ × ℕ). x .1) m, x ∙ rw l (s .1)))
+ask-file bytes column kind t q literals before b {number = number} {matched} n x = (
+  record { numbers = n; buffer = x },
+  λ cells ls f w l room.
+      let s = file-is-answered t cells column kind bytes f before b room q ls w in
+      let m : _≡_ {A = ℕ × ℕ} (number, matched) (0, scan q ls cells .matched) = n ∙ rw l (ap (numbersOf 0 askFileNumbers) (s .0)) in
+      (ap (λ (x : ℕ × ℕ). x .0) m, ap (λ (x : ℕ × ℕ). x .1) m, x ∙ rw l (s .1)),
+)

@@ -184,7 +184,7 @@ pub extern "C" fn poddurance_ask_file<'a>(
     );
     match answer {
         FileAnswer::Absent => {
-            *matched = 0;
+            *matched = 0; // what is not listed has no count
             index_file::ABSENT
         }
         FileAnswer::Answered(a) => answered(a, matched),

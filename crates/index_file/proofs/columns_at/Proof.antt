@@ -16,11 +16,19 @@ Inv-loop s n column kind place₀ seen₀ at i₀ place seen next i = (next .0 �
 abbrev μ-loop : tie.MeasureT-loop
 μ-loop s n column kind place₀ seen₀ at i₀ place seen next i = n - i
 
+-- the turn in which a name was read
+abbrev turn : tie.After-known-told Inv-loop μ-loop → tie.At-loop Inv-loop μ-loop
+turn c = c .before .before .before .before .before
+
 -- the name ends within the bytes, and the number behind it too
-ends : (c : tie.After-known-told Inv-loop μ-loop) → nameAt (Name.Ends (c .before .name .given .0 .0)) (c .before .before .before .before .before .loop .next) (c .before .before .before .before .before .before .before .before .before .args .s .now)
+ends : (c : tie.After-known-told Inv-loop μ-loop) → nameAt (Name.Ends (c .before .name .given .0 .0)) (turn c .loop .next) (turn c .before .before .before .before .args .s .now)
 ends c = rw (c .before .name .given .1) at (c .before .before .before .name-at .ensures)
 
-room : (c : tie.After-known-told2 Inv-loop μ-loop) → countAt (Count.Is (c .before .count .given .0 .0)) (c .before .before .before .before .before .name .given .0 .0) (c .before .before .before .before .before .before .before .before .before .before .before .before .before .args .s .now)
+abbrev named : tie.After-known-told2 Inv-loop μ-loop → tie.After-known-told Inv-loop μ-loop
+named c = c .before .before .before .before
+
+room : (c : tie.After-known-told2 Inv-loop μ-loop)
+    → countAt (Count.Is (c .before .count .given .0 .0)) (named c .before .name .given .0 .0) (turn (named c) .before .before .before .before .args .s .now)
 room c = rw (c .before .count .given .1) at (c .before .before .before .count-at .ensures)
 
 loop-holds : tie.Need-loop-holds Inv-loop μ-loop
@@ -69,11 +77,12 @@ returns-3 c =
     columns-entries (l .inv .1) (n .before .loop-test .taken) (n .name-at .ensures) (f .name .given .1) (m .count-at .ensures) (g .count .given .1)
     (w .entries-at .ensures) (c .enum-told3 .given .1)
 
+-- in a turn a column is left
+abbrev counted : tie.After-entries-at Inv-loop μ-loop → tie.After-known-told2 Inv-loop μ-loop
+counted c = c .before .before .before .before
+
 add-i : tie.Need-add-i Inv-loop μ-loop
-add-i c =
-    let g = c .before .before .before .before .before .before .before .before .before in
-    let n = g .before .before .before .before .before .before in
-    omega (arith, n .before .loop-test .taken)
+add-i c = let t = named (counted (c .before .before .before .before)) .before .before .before .before in omega (arith, t .loop-test .taken)
 
 loop-again : tie.Need-loop-again Inv-loop μ-loop
 loop-again c =

@@ -15,8 +15,12 @@ Inv-loop s n kind place₀ at i₀ place next i = (next .0 ≤ length s) × Entr
 abbrev μ-loop : tie.MeasureT-loop
 μ-loop s n kind place₀ at i₀ place next i = n - i
 
+-- the turn in which a name was read
+abbrev turn : tie.After-known-told Inv-loop μ-loop → tie.At-loop Inv-loop μ-loop
+turn c = c .before .before .before .before .before
+
 -- the name ends within the bytes
-ends : (c : tie.After-known-told Inv-loop μ-loop) → nameAt (Name.Ends (c .before .name .given .0 .0)) (c .before .before .before .before .before .loop .next) (c .before .before .before .before .before .before .before .before .args .s .now)
+ends : (c : tie.After-known-told Inv-loop μ-loop) → nameAt (Name.Ends (c .before .name .given .0 .0)) (turn c .loop .next) (turn c .before .before .before .args .s .now)
 ends c = rw (c .before .name .given .1) at (c .before .before .before .name-at .ensures)
 
 loop-holds : tie.Need-loop-holds Inv-loop μ-loop
@@ -49,10 +53,10 @@ part-same-name-end c = omega (arith, ends (c .before .before .before .before) .1
 
 loop-again : tie.Need-loop-again Inv-loop μ-loop
 loop-again c =
-    let f = c .before .before .before .before .before .before .before .before in
+    let b = c .before .before .before .before in
+    let f = b .before .before .before .before in
     let n = f .before .before in
-    let l = n .before .before .loop in
-    let b = c .before .before .before .before in (
+    let l = n .before .before .loop in (
       omega (arith, ends (b .before .before .before) .1),
       entries-next (l .inv .1) (n .before .loop-test .taken) (n .name-at .ensures) (f .name .given .1) (omega (arith, ends (b .before .before .before) .1))
           (b .before .be32 .ensures .0) (b .be322 .ensures .0) (c .before .same-name .ensures) (c .after-entry .ensures),

@@ -7,16 +7,28 @@ use Rattle.index_file.proofs.placed_at.Statement.{statement}
 use Rattle.index_file.proofs.placed_at.Tie as tie
 
 returns : tie.Need-returns
-returns c = let t = c .before in let a = t .before .before .before .args in refused (placed-negative (a .head) (a .total) (t .before .place .given .1) (omega arith))
+returns c =
+    let t = c .before in
+    let a = t .before .before .before .args in
+    refused (placed-negative (a .head) (a .total) (t .before .place .given .1) (omega arith))
 
 returns-2 : tie.Need-returns-2
-returns-2 c = let t = c .before .before in let a = t .before .before .before .args in refused (placed-below (a .head) (a .total) (t .before .place .given .1) (omega arith) (omega arith))
+returns-2 c =
+    let t = c .before .before in
+    let a = t .before .before .before .args in
+    refused (placed-below (a .head) (a .total) (t .before .place .given .1) (omega arith) (omega arith))
 
 returns-3 : tie.Need-returns-3
-returns-3 c = let t = c .before .before .before in let a = t .before .before .before .args in refused (placed-length (a .head) (a .total) (t .before .place .given .1) (omega arith) (omega arith) (omega arith))
+returns-3 c =
+    let t = c .before .before .before in
+    let a = t .before .before .before .args in
+    refused (placed-length (a .head) (a .total) (t .before .place .given .1) (omega arith) (omega arith) (omega arith))
 
 returns-4 : tie.Need-returns-4
-returns-4 c = let t = c .before .before .before .before in let a = t .before .before .before .args in refused (placed-past (a .head) (a .total) (t .before .place .given .1) (omega arith) (omega arith) (omega arith) (omega arith))
+returns-4 c =
+    let t = c .before .before .before .before in
+    let a = t .before .before .before .args in
+    refused (placed-past (a .head) (a .total) (t .before .place .given .1) (omega arith) (omega arith) (omega arith) (omega arith))
 
 returns-5 : tie.Need-returns-5
 unfolding placed locatedBy
@@ -27,7 +39,10 @@ unfolding placed locatedBy
 returns-6 c = simp (c .enum-told2 .given .1)
 
 returns-7 : tie.Need-returns-7
-returns-7 c = let t = c .before .before .before .before in let a = t .before .before .before .args in placed-found (a .head) (a .total) (t .before .place .given .1) (omega arith) (omega arith) (omega arith) (omega arith)
+returns-7 c =
+    let t = c .before .before .before .before in
+    let a = t .before .before .before .args in
+    placed-found (a .head) (a .total) (t .before .place .given .1) (omega arith) (omega arith) (omega arith) (omega arith)
 
 pub placed-at-spec : {M : Type 1} → statement M
 placed-at-spec =

@@ -33,7 +33,8 @@ returns-4 c =
     let v = m .before .before .before in
     let b = v .before in
     let a = b .before .before .before .before .before .args in
-    refused (file-count (a .column .now) (a .kind .now) (a .bytes .now) (omega arith) (b .be64 .ensures) (m .before .before .if2 .left) (v .be32 .ensures .0) (m .before .if3 .left) (m .count-at .ensures) (c .enum-told .given .1))
+    refused (file-count (a .column .now) (a .kind .now) (a .bytes .now) (omega arith)
+    (b .be64 .ensures) (m .before .before .if2 .left) (v .be32 .ensures .0) (m .before .if3 .left) (m .count-at .ensures) (c .enum-told .given .1))
 
 returns-5 : tie.Need-returns-5
 returns-5 c =
@@ -42,7 +43,8 @@ returns-5 c =
     let v = m .before .before .before in
     let b = v .before in
     let a = b .before .before .before .before .before .args in
-    refused (file-low (a .column .now) (a .kind .now) (a .bytes .now) (omega arith) (b .be64 .ensures) (m .before .before .if2 .left) (v .be32 .ensures .0) (m .before .if3 .left) (m .count-at .ensures) (f .count .given .1) (omega arith))
+    refused (file-low (a .column .now) (a .kind .now) (a .bytes .now) (omega arith)
+    (b .be64 .ensures) (m .before .before .if2 .left) (v .be32 .ensures .0) (m .before .if3 .left) (m .count-at .ensures) (f .count .given .1) (omega arith))
 
 returns-6 : tie.Need-returns-6
 returns-6 c =
@@ -51,7 +53,8 @@ returns-6 c =
     let v = m .before .before .before in
     let b = v .before in
     let a = b .before .before .before .before .before .args in
-    refused (file-past (a .column .now) (a .kind .now) (a .bytes .now) (omega arith) (b .be64 .ensures) (m .before .before .if2 .left) (v .be32 .ensures .0) (m .before .if3 .left) (m .count-at .ensures) (f .count .given .1) (omega arith) (omega arith))
+    refused (file-past (a .column .now) (a .kind .now) (a .bytes .now) (omega arith)
+    (b .be64 .ensures) (m .before .before .if2 .left) (v .be32 .ensures .0) (m .before .if3 .left) (m .count-at .ensures) (f .count .given .1) (omega arith) (omega arith))
 
 slice-aggregate-read-head : tie.Need-slice-aggregate-read-head
 slice-aggregate-read-head c =
@@ -76,7 +79,8 @@ returns-7 c =
     let v = m .before .before .before in
     let b = v .before in
     let a = b .before .before .before .before .before .args in
-    c .read-head .ensures ∙ sym (ap locatedBy (file-head (a .column .now) (a .kind .now) (a .bytes .now) (omega arith) (b .be64 .ensures) (m .before .before .if2 .left) (v .be32 .ensures .0) (m .before .if3 .left) (m .count-at .ensures) (f .count .given .1) (omega arith) (omega arith)))
+    c .read-head .ensures ∙ sym (ap locatedBy (file-head (a .column .now) (a .kind .now) (a .bytes .now) (omega arith)
+    (b .be64 .ensures) (m .before .before .if2 .left) (v .be32 .ensures .0) (m .before .if3 .left) (m .count-at .ensures) (f .count .given .1) (omega arith) (omega arith)))
 
 pub read-file-spec : {M : Type 1} → statement M
 read-file-spec =

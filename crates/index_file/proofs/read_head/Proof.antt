@@ -35,7 +35,8 @@ returns-3 c =
     let f = w .before .before in
     let m = f .before .before in
     let a = m .before .before .before .before .args in
-    refused (head-redundant (a .column .now) (a .kind .now) (a .s .now) (a .total) (m .count-at .ensures) (f .number .given .1) (v .walk .given .1) (w .columns-at .ensures) (g .count-at2 .ensures) (c .enum-told3 .given .1))
+    refused (head-redundant (a .column .now) (a .kind .now) (a .s .now) (a .total)
+    (m .count-at .ensures) (f .number .given .1) (v .walk .given .1) (w .columns-at .ensures) (g .count-at2 .ensures) (c .enum-told3 .given .1))
 
 add-if1-2 : tie.Need-add-if1-2
 add-if1-2 c = omega (arith, (rw (c .before .count .given .1) at (c .before .before .before .count-at2 .ensures)) .0)
@@ -52,7 +53,8 @@ returns-4 c =
     let f = w .before .before in
     let m = f .before .before in
     let a = m .before .before .before .before .args in
-    refused (head-end (a .column .now) (a .kind .now) (a .s .now) (a .total) (m .count-at .ensures) (f .number .given .1) (v .walk .given .1) (w .columns-at .ensures) (r .count .given .1) (g .count-at2 .ensures) (omega arith))
+    refused (head-end (a .column .now) (a .kind .now) (a .s .now) (a .total)
+    (m .count-at .ensures) (f .number .given .1) (v .walk .given .1) (w .columns-at .ensures) (r .count .given .1) (g .count-at2 .ensures) (omega arith))
 
 returns-5 : tie.Need-returns-5
 returns-5 c =
@@ -63,7 +65,8 @@ returns-5 c =
     let f = w .before .before in
     let m = f .before .before in
     let a = m .before .before .before .before .args in
-    c .placed-at .ensures ∙ sym (ap locatedBy (head-placed (a .column .now) (a .kind .now) (a .s .now) (a .total) (m .count-at .ensures) (f .number .given .1) (v .walk .given .1) (w .columns-at .ensures) (r .count .given .1) (g .count-at2 .ensures) (omega arith)))
+    c .placed-at .ensures ∙ sym (ap locatedBy (head-placed (a .column .now) (a .kind .now) (a .s .now) (a .total)
+    (m .count-at .ensures) (f .number .given .1) (v .walk .given .1) (w .columns-at .ensures) (r .count .given .1) (g .count-at2 .ensures) (omega arith)))
 
 pub read-head-spec : {M : Type 1} → statement M
 read-head-spec =

@@ -7,10 +7,10 @@ use mathlib.Core.Logic.{_⊎_, inl, inr, ⊎-elim}
 use native.Mathlib.Omega.{arith}
 use Rattle.index_file.specs.declared.Place.{Place}
 use Rattle.index_file.specs.declared.Place.the-variants.{Nowhere, At, Repeated}
-use Rattle.numbers.specs.Meaning.{All, same}
+use Rattle.numbers.specs.Meaning.{same}
 use Rattle.numbers.specs.declared.Position.{Position}
 use Rattle.numbers.proofs.SameBytes.{same-refl, same→eq}
-use Rattle.index_file.specs.Layout.{ListedIndex, ListedColumn, Named, Once, Unlisted, no-column, no-kind}
+use Rattle.index_file.specs.Layout.{ListedIndex, ListedColumn, Named, IsColumn, IsKind, None, ListedOnce, Unlisted, no-column, no-kind}
 use Rattle.index_file.specs.Reading.{position, afterEntry, afterColumn}
 
 never : {X : Type 0} → _≡_ {A = ℕ} 0 1 → X
@@ -18,10 +18,10 @@ never z = absurd (let w : ⊥ = omega arith in w)
 
 -- ---- one of a list
 
-once-first : {A : Type 0} {P : A → Type 0} {x : A} {l : List A} → P x → All (λ (y : A). P y → ⊥) l → Once P x (x ∷ l)
+once-first : {A : Type 0} {P : A → Type 0} {x : A} {l : List A} → P x → None P l → ListedOnce P x (x ∷ l)
 once-first {l = l} h n = record { before = []; after = l; parts = refl; holds = h; none-before = tt; none-after = n }
 
-once-later : {A : Type 0} {P : A → Type 0} {x y : A} {l : List A} → (P y → ⊥) → Once P x l → Once P x (y ∷ l)
+once-later : {A : Type 0} {P : A → Type 0} {x y : A} {l : List A} → (P y → ⊥) → ListedOnce P x l → ListedOnce P x (y ∷ l)
 once-later {A} {y = y} n o = record {
   before = y ∷ o .before;
   after = o .after;
@@ -52,20 +52,17 @@ not-named asked stored e n = let z : true ≡ false = sym (named-same asked stor
 -- ---- the entries of a column
 
 module _ (kind : List ℕ) where
-  abbrev pub Asked-entry : ListedIndex → Type 0
-  Asked-entry e = Named kind (e .name)
-
   -- the place that the reading gathers from entries
   unfoldable pub placeIn : Place → List ListedIndex → Place
   placeIn place [] = place
   placeIn place (e ∷ es) = placeIn (afterEntry (same kind (e .name)) (position (e .start)) (e .length) place) es
 
-  in-none : (place : Place) (es : List ListedIndex) → All (λ (e : ListedIndex). Asked-entry e → ⊥) es → placeIn place es ≡ place
+  in-none : (place : Place) (es : List ListedIndex) → None (IsKind kind) es → placeIn place es ≡ place
   unfolding placeIn afterEntry
   in-none place [] h = refl
   in-none place (e ∷ es) h = simp (other-name kind (e .name) (h .0)) (in-none place es (h .1))
 
-  in-parts : (before : List ListedIndex) (e : ListedIndex) (after : List ListedIndex) → Asked-entry e → All (λ (e : ListedIndex). Asked-entry e → ⊥) before → All (λ (e : ListedIndex). Asked-entry e → ⊥) after
+  in-parts : (before : List ListedIndex) (e : ListedIndex) (after : List ListedIndex) → IsKind kind e → None (IsKind kind) before → None (IsKind kind) after
       → placeIn Nowhere (before ++ (e ∷ after)) ≡ At (position (e .start)) (e .length)
   unfolding placeIn afterEntry
   in-parts [] e after n b a =
@@ -73,7 +70,7 @@ module _ (kind : List ℕ) where
   in-parts (x ∷ before) e after n b a =
       ap (λ (t : Bool). placeIn (afterEntry t (position (x .start)) (x .length) Nowhere) (before ++ (e ∷ after))) (other-name kind (x .name) (b .0)) ∙ in-parts before e after n (b .1) a
 
-  pub in-once : {e : ListedIndex} {es : List ListedIndex} → Once Asked-entry e es → placeIn Nowhere es ≡ At (position (e .start)) (e .length)
+  pub in-once : {e : ListedIndex} {es : List ListedIndex} → ListedOnce (IsKind kind) e es → placeIn Nowhere es ≡ At (position (e .start)) (e .length)
   in-once {e} {es} o = rw (o .parts) (in-parts (o .before) e (o .after) (o .holds) (o .none-before) (o .none-after))
 
   -- and back
@@ -88,27 +85,27 @@ module _ (kind : List ℕ) where
       stays false = refl
 
   in-at : (es : List ListedIndex) (start : Position) (size : ℕ) {place : Place} → (place ≡ Repeated → ⊥) → placeIn (At start size) es ≡ place
-      → All (λ (e : ListedIndex). Asked-entry e → ⊥) es × (At start size ≡ place)
+      → None (IsKind kind) es × (At start size ≡ place)
   unfolding placeIn afterEntry
   in-at [] start size n h = (tt, h)
   in-at (e ∷ es) start size {place} n h = go (same kind (e .name)) refl h (in-at es start size n)
     where
       go : (b : Bool) → same kind (e .name) ≡ b → placeIn (afterEntry b (position (e .start)) (e .length) (At start size)) es ≡ place
-          → (placeIn (At start size) es ≡ place → All (λ (e : ListedIndex). Asked-entry e → ⊥) es × (At start size ≡ place))
-          → All (λ (e : ListedIndex). Asked-entry e → ⊥) (e ∷ es) × (At start size ≡ place)
+          → (placeIn (At start size) es ≡ place → None (IsKind kind) es × (At start size ≡ place))
+          → None (IsKind kind) (e ∷ es) × (At start size ≡ place)
       go true q h ih = absurd (n (sym h ∙ in-repeated es))
       go false q h ih = let r = ih h in ((not-named kind (e .name) q, r .0), r .1)
 
   -- a place that is no repetition is that of no entry, or of the one that is asked for
   pub in-back : (es : List ListedIndex) {place : Place} → (place ≡ Repeated → ⊥) → placeIn Nowhere es ≡ place
-      → (All (λ (e : ListedIndex). Asked-entry e → ⊥) es × (Nowhere ≡ place)) ⊎ ((e : ListedIndex) × Once Asked-entry e es × (At (position (e .start)) (e .length) ≡ place))
+      → (None (IsKind kind) es × (Nowhere ≡ place)) ⊎ ((e : ListedIndex) × ListedOnce (IsKind kind) e es × (At (position (e .start)) (e .length) ≡ place))
   unfolding placeIn afterEntry
   in-back [] n h = inl (tt, h)
   in-back (e ∷ es) {place} n h = go (same kind (e .name)) refl h (in-back es n)
     where
       go : (b : Bool) → same kind (e .name) ≡ b → placeIn (afterEntry b (position (e .start)) (e .length) Nowhere) es ≡ place
-          → (placeIn Nowhere es ≡ place → (All (λ (e : ListedIndex). Asked-entry e → ⊥) es × (Nowhere ≡ place)) ⊎ ((e : ListedIndex) × Once Asked-entry e es × (At (position (e .start)) (e .length) ≡ place)))
-          → (All (λ (e : ListedIndex). Asked-entry e → ⊥) (e ∷ es) × (Nowhere ≡ place)) ⊎ ((x : ListedIndex) × Once Asked-entry x (e ∷ es) × (At (position (x .start)) (x .length) ≡ place))
+          → (placeIn Nowhere es ≡ place → (None (IsKind kind) es × (Nowhere ≡ place)) ⊎ ((e : ListedIndex) × ListedOnce (IsKind kind) e es × (At (position (e .start)) (e .length) ≡ place)))
+          → (None (IsKind kind) (e ∷ es) × (Nowhere ≡ place)) ⊎ ((x : ListedIndex) × ListedOnce (IsKind kind) x (e ∷ es) × (At (position (x .start)) (x .length) ≡ place))
       go true q h ih = let r = in-at es (position (e .start)) (e .length) n h in inr (e, once-first (same-named kind (e .name) q) (r .0), r .1)
       go false q h ih =
           let o = not-named kind (e .name) q in
@@ -117,22 +114,19 @@ module _ (kind : List ℕ) where
   -- ---- the columns
 
   module _ (column : List ℕ) where
-    abbrev pub Asked-column : ListedColumn → Type 0
-    Asked-column c = Named column (c .name)
-
     -- the place that the reading gathers from columns
     unfoldable pub placeOf : Bool → Place → List ListedColumn → Place
     placeOf seen place [] = place
     placeOf seen place (c ∷ cs) =
         placeOf (seen || same column (c .name)) (afterColumn (same column (c .name)) seen (placeIn Nowhere (c .entries)) place) cs
 
-    of-none : (seen : Bool) (place : Place) (cs : List ListedColumn) → All (λ (c : ListedColumn). Asked-column c → ⊥) cs → placeOf seen place cs ≡ place
+    of-none : (seen : Bool) (place : Place) (cs : List ListedColumn) → None (IsColumn column) cs → placeOf seen place cs ≡ place
     unfolding placeOf afterColumn
     of-none seen place [] h = refl
     of-none seen place (c ∷ cs) h = simp (other-name column (c .name) (h .0), or-false) (of-none seen place cs (h .1))
 
-    of-parts : (before : List ListedColumn) (c : ListedColumn) (after : List ListedColumn) → Asked-column c → All (λ (c : ListedColumn). Asked-column c → ⊥) before
-        → All (λ (c : ListedColumn). Asked-column c → ⊥) after → placeOf false Nowhere (before ++ (c ∷ after)) ≡ placeIn Nowhere (c .entries)
+    of-parts : (before : List ListedColumn) (c : ListedColumn) (after : List ListedColumn) → IsColumn column c → None (IsColumn column) before
+        → None (IsColumn column) after → placeOf false Nowhere (before ++ (c ∷ after)) ≡ placeIn Nowhere (c .entries)
     unfolding placeOf afterColumn
     of-parts [] c after n b a =
         ap (λ (t : Bool). placeOf (false || t) (afterColumn t false (placeIn Nowhere (c .entries)) Nowhere) after) (named-same column (c .name) n)
@@ -141,7 +135,7 @@ module _ (kind : List ℕ) where
         ap (λ (t : Bool). placeOf (false || t) (afterColumn t false (placeIn Nowhere (x .entries)) Nowhere) (before ++ (c ∷ after))) (other-name column (x .name) (b .0))
         ∙ of-parts before c after n (b .1) a
 
-    pub of-once : {c : ListedColumn} {cs : List ListedColumn} → Once Asked-column c cs → placeOf false Nowhere cs ≡ placeIn Nowhere (c .entries)
+    pub of-once : {c : ListedColumn} {cs : List ListedColumn} → ListedOnce (IsColumn column) c cs → placeOf false Nowhere cs ≡ placeIn Nowhere (c .entries)
     of-once {c} {cs} o = rw (o .parts) (of-parts (o .before) c (o .after) (o .holds) (o .none-before) (o .none-after))
 
     of-repeated : (cs : List ListedColumn) → placeOf true Repeated cs ≡ Repeated
@@ -154,27 +148,27 @@ module _ (kind : List ℕ) where
         stays false = refl
 
     of-seen : (new : Place) (cs : List ListedColumn) {place : Place} → (place ≡ Repeated → ⊥) → placeOf true new cs ≡ place
-        → All (λ (c : ListedColumn). Asked-column c → ⊥) cs × (new ≡ place)
+        → None (IsColumn column) cs × (new ≡ place)
     unfolding placeOf afterColumn
     of-seen new [] n h = (tt, h)
     of-seen new (c ∷ cs) {place} n h = go (same column (c .name)) refl h (of-seen new cs n)
       where
         go : (b : Bool) → same column (c .name) ≡ b → placeOf true (afterColumn b true (placeIn Nowhere (c .entries)) new) cs ≡ place
-            → (placeOf true new cs ≡ place → All (λ (c : ListedColumn). Asked-column c → ⊥) cs × (new ≡ place))
-            → All (λ (c : ListedColumn). Asked-column c → ⊥) (c ∷ cs) × (new ≡ place)
+            → (placeOf true new cs ≡ place → None (IsColumn column) cs × (new ≡ place))
+            → None (IsColumn column) (c ∷ cs) × (new ≡ place)
         go true q h ih = absurd (n (sym h ∙ of-repeated cs))
         go false q h ih = let r = ih h in ((not-named column (c .name) q, r .0), r .1)
 
     -- a place that is no repetition is that of no column, or of the one that is asked for
     pub of-back : (cs : List ListedColumn) {place : Place} → (place ≡ Repeated → ⊥) → placeOf false Nowhere cs ≡ place
-        → (All (λ (c : ListedColumn). Asked-column c → ⊥) cs × (Nowhere ≡ place)) ⊎ ((c : ListedColumn) × Once Asked-column c cs × (placeIn Nowhere (c .entries) ≡ place))
+        → (None (IsColumn column) cs × (Nowhere ≡ place)) ⊎ ((c : ListedColumn) × ListedOnce (IsColumn column) c cs × (placeIn Nowhere (c .entries) ≡ place))
     unfolding placeOf afterColumn
     of-back [] n h = inl (tt, h)
     of-back (c ∷ cs) {place} n h = go (same column (c .name)) refl h (of-back cs n)
       where
         go : (b : Bool) → same column (c .name) ≡ b → placeOf (false || b) (afterColumn b false (placeIn Nowhere (c .entries)) Nowhere) cs ≡ place
-            → (placeOf false Nowhere cs ≡ place → (All (λ (c : ListedColumn). Asked-column c → ⊥) cs × (Nowhere ≡ place)) ⊎ ((c : ListedColumn) × Once Asked-column c cs × (placeIn Nowhere (c .entries) ≡ place)))
-            → (All (λ (c : ListedColumn). Asked-column c → ⊥) (c ∷ cs) × (Nowhere ≡ place)) ⊎ ((x : ListedColumn) × Once Asked-column x (c ∷ cs) × (placeIn Nowhere (x .entries) ≡ place))
+            → (placeOf false Nowhere cs ≡ place → (None (IsColumn column) cs × (Nowhere ≡ place)) ⊎ ((c : ListedColumn) × ListedOnce (IsColumn column) c cs × (placeIn Nowhere (c .entries) ≡ place)))
+            → (None (IsColumn column) (c ∷ cs) × (Nowhere ≡ place)) ⊎ ((x : ListedColumn) × ListedOnce (IsColumn column) x (c ∷ cs) × (placeIn Nowhere (x .entries) ≡ place))
         go true q h ih = let r = of-seen (placeIn Nowhere (c .entries)) cs n h in inr (c, once-first (same-named column (c .name) q) (r .0), r .1)
         go false q h ih =
             let o = not-named column (c .name) q in
@@ -182,7 +176,7 @@ module _ (kind : List ℕ) where
 
     -- the place is one: so the asked column stands once, and in it the asked kind
     pub found-back : (cs : List ListedColumn) (start : Position) (size : ℕ) → placeOf false Nowhere cs ≡ At start size
-        → (c : ListedColumn) × (e : ListedIndex) × Once Asked-column c cs × Once Asked-entry e (c .entries) × (position (e .start) ≡ start) × (e .length ≡ size)
+        → (c : ListedColumn) × (e : ListedIndex) × ListedOnce (IsColumn column) c cs × ListedOnce (IsKind kind) e (c .entries) × (position (e .start) ≡ start) × (e .length ≡ size)
     found-back cs start size h =
         let n : At start size ≡ Repeated → ⊥ = λ e. never (cc) in
         ⊎-elim (λ r. let q : Nowhere ≡ At start size = r .1 in never (cc))
