@@ -7,7 +7,7 @@
  * A row field for n rows is the first (n + 7) / 8 bytes of a buffer: row r is the bit of weight 1 << (r % 8) in byte r / 8, and the spare bits of its
  * last byte are 0. Bytes of the buffer behind the field never change.
  *
- * Each function answers 0 when it accepts, 255 for ABSENT (Locate alone), and otherwise the number of its refusal:
+ * Each function answers 0 when it accepts, 255 for ABSENT (Locate and Ask of a file), and otherwise the number of its refusal:
  *
  *    1 SHORT     the bytes end inside a field that is due, outside bitmaps
  *    2 MAGIC     the magic of an index file or a bin differs
@@ -31,6 +31,7 @@
  *    Audit           LIMIT, LITERAL (an unknown type), then the dictionary in byte order: SHORT, VERSION, LIMIT, DICT; ROOM | then null's and each entry's
  *                    bitmap: BITMAP, RANGE, TWICE; last MISSING
  *    Ask             LIMIT, LITERAL (an unknown type or question), the literals in turn: LIMIT, LITERAL; then as Audit
+ *    Ask of a file   as Locate, then as Ask on the part that was found: body and literals are tested when Ask's turn comes
  *    Read deletions  LIMIT, ROOM | SHORT, VERSION, SHORT, NOBIN, MAGIC, CHECKSUM, BITMAP, RANGE
  *    Subtract        LIMIT, ROOM (changes nothing when it refuses)
  */
@@ -72,6 +73,14 @@ uint8_t poddurance_audit(const uint8_t *body, size_t body_len, uint32_t type,
 uint8_t poddurance_ask(const uint8_t *body, size_t body_len, uint32_t type, uint32_t question,
                        const uint8_t *literals, size_t literals_len,
                        uint8_t *field, size_t field_len, uint64_t *matched);
+
+/* Ask of a file: Locate, then Ask on the part that it finds, in one call. 0: Ask's answer, its rows set in the field; a *matched of 0 says skip. 255: the column
+ * or the kind is not listed. With 255 and with a refusal of Locate the field's buffer is as it was; with a refusal of Ask it is as Ask leaves it. *matched is 0
+ * with every answer but 0. */
+uint8_t poddurance_ask_file(const uint8_t *embedded, size_t embedded_len, const uint8_t *file, size_t file_len,
+                            const uint8_t *column, size_t column_len, const uint8_t *kind, size_t kind_len,
+                            uint32_t type, uint32_t question, const uint8_t *literals, size_t literals_len,
+                            uint8_t *field, size_t field_len, uint64_t *matched);
 
 #ifdef __cplusplus
 }

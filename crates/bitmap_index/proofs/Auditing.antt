@@ -2,61 +2,53 @@
 use Prim.Native.Nat.{ℕ, zero, suc, _<_, _≤_}
 use mathlib.Core.Path.{_≡_, refl, ap, _∙_}
 use mathlib.Core.Bool.{Bool, true, false}
-use mathlib.Core.List.{List, [], _∷_, _++_}
+use mathlib.Core.List.{List, [], _∷_}
 use lib.Dec.{leb}
-use lib.ListN.{length, drop}
+use lib.ListN.{length}
 use borrow.Author.Tests.{eq-eqb, ne-eqb, le-leb, lt-leb, le-ltb, lt-ltb}
 use Rattle.refusal.specs.Meaning.{limit}
 use Rattle.refusal.specs.declared.Refusal.{Refusal}
 use Rattle.refusal.specs.declared.Refusal.the-variants.{Missing, Room, Literal, Limit}
 use Rattle.row_field.specs.Meaning.{zeroed, cleared, size, count}
-use Rattle.refusal.specs.Reading.{Out, refuse, ok, check, andThen}
+use Rattle.refusal.specs.Reading.{Out, refuse, ok, check, andThen, numbersOf}
 use Rattle.stored_value.specs.Reading.{literals}
 use Rattle.dictionary.specs.declared.Checked.{Checked}
 use Rattle.dictionary.specs.declared.Checked.the-variants.{Found}
-use Rattle.dictionary.specs.declared.Head.{Head}
-use Rattle.dictionary.specs.Layout.{Entry}
-use Rattle.dictionary.specs.Reading.{dictionary}
-use Rattle.dictionary.specs.Promises.{nullsOf, Tells}
-use Rattle.bitmap_index.specs.Reading.{placeAll, roomFor, prepared, audited, audit, zeroedFrom, auditBuffer, auditedBy, auditOut, numbersOf}
+use Rattle.dictionary.specs.declared.Summary.{Summary}
+use Rattle.dictionary.specs.Reading.{Dictionary, dictionary}
+use Rattle.dictionary.specs.Promises.{IsRead, ReadsDictionary}
+use Rattle.bitmap_index.specs.Reading.{placeEntries, roomFor, prepared, audited, audit, zeroedFrom, auditBuffer, auditedBy, auditOut, auditNumbers}
 use Rattle.bitmap_index.specs.declared.Audited.{Audited}
 use Rattle.bitmap_index.specs.declared.Audited.the-variants.{Rows}
 use Rattle.bitmap_index.specs.declared.Outcome.{Outcome}
 use Rattle.bitmap_index.specs.declared.Outcome.the-variants.{Done}
-use Rattle.bitmap_index.specs.Promises.{Placing, picks, picked, filled, ReadAs, Laid, Sound, dictionaryOf, Readied}
+use Rattle.bitmap_index.specs.declared.Entries.the-variants.{Every}
+use Rattle.bitmap_index.specs.Promises.{AuditPromise, ForDictionary, Prepares, ReadAs, Places, those, AuditsZero, AuditsField}
 
--- an audit picks every entry, whatever the question
-all-picked : (q : ℕ) (ls : List (List ℕ)) (es : List Entry) → picked true q ls es ≡ es
-unfolding picked picks
-all-picked q ls [] = refl
-all-picked q ls (e ∷ es) = ap (λ (x : List Entry). e ∷ x) (all-picked q ls es)
-
+-- an audit places the rows of every entry, whatever the literals
 pub no-literals : (t : ℕ) → ReadAs t [] []
 unfolding literals
 no-literals t = refl
 
-module _ (n : ℕ) (region : List ℕ) (es : List Entry) (f : List ℕ) {r : Outcome} {after : List ℕ} (p : Placing n r (placeAll n region (picked true 0 [] es) f) f after) where
-  abbrev Fills : Audited → Type 0
-  Fills a = (a ≡ auditedBy (filled n (placeAll n region es f))) × (cleared n after ≡ cleared n f)
+module _ (d : Dictionary) (f : List ℕ) {r : Outcome} {after : List ℕ} (p : Places (d .rows) (placeEntries (d .rows) (d .region) (those Every [] (d .entries))) f after r) where
+  pub zero-refused : {why : Refusal} → r ≡ Outcome.Refused why → AuditsZero d f after (Audited.Refused why)
+  unfolding audited those auditedBy andThen
+  zero-refused e =
+      let w = rw e at p in
+      record { answer = rw (w .outcome); behind = w .behind }
 
-  pub fill-refused : {why : Refusal} → r ≡ Outcome.Refused why → Fills (Audited.Refused why)
-  unfolding filled auditedBy andThen
-  fill-refused e =
-      let w = rw (e, all-picked 0 [] es) at p in
-      (rw (w .so), w .kept)
+  module _ (e : r ≡ Done) {k : ℕ} (o : k ≡ count after (d .rows)) where
+    pub zero-missing : (k ≡ d .rows → ⊥) → AuditsZero d f after (Audited.Refused Missing)
+    unfolding audited those auditedBy andThen check
+    zero-missing h =
+        let w = rw e at p in
+        record { answer = rw (w .outcome, ← o, ne-eqb k (d .rows) h); behind = w .behind }
 
-  module _ (e : r ≡ Done) {k : ℕ} (o : k ≡ count after n) where
-    pub fill-missing : (k ≡ n → ⊥) → Fills (Audited.Refused Missing)
-    unfolding filled auditedBy andThen check
-    fill-missing h =
-        let w = rw (e, all-picked 0 [] es) at p in
-        (rw (w .so, ← o, ne-eqb k n h), w .kept)
-
-    pub fill-full : k ≡ n → Fills (Rows n)
-    unfolding filled auditedBy andThen check
-    fill-full h =
-        let w = rw (e, all-picked 0 [] es) at p in
-        (rw (w .so, ← o, eq-eqb k n h), w .kept)
+    pub zero-full : k ≡ d .rows → AuditsZero d f after (Rows (d .rows))
+    unfolding audited those auditedBy andThen check
+    zero-full h =
+        let w = rw e at p in
+        record { answer = rw (w .outcome, ← o, eq-eqb k (d .rows) h); behind = w .behind }
 
 -- ---- the field is clear before, and again after
 
@@ -66,12 +58,9 @@ zeroed-again zero f = refl
 zeroed-again (suc k) [] = refl
 zeroed-again (suc k) (x ∷ f) = ap (λ (t : List ℕ). 0 ∷ t) (zeroed-again k f)
 
-module _ (s : List ℕ) (h : Head) (es : List Entry) (f full : List ℕ) {clear after : List ℕ} {a : Audited} where
-  pub then-zero : clear ≡ cleared (h .rows) f
-      → (a ≡ auditedBy (filled (h .rows) (placeAll (h .rows) (drop (h .region .0) s) (nullsOf h ++ es) clear))) × (cleared (h .rows) full ≡ cleared (h .rows) clear)
-      → after ≡ cleared (h .rows) full → (a ≡ auditedBy (audited f (dictionaryOf s h es))) × (after ≡ cleared (h .rows) f)
-  unfolding audited filled
-  then-zero c w z = (rw (← c) (w .0), z ∙ w .1 ∙ rw c (zeroed-again (size (h .rows)) f))
+pub then-zero : (d : Dictionary) (f full : List ℕ) {zero after : List ℕ} {r : Audited} → zero ≡ cleared (d .rows) f → AuditsZero d zero full r
+    → after ≡ cleared (d .rows) full → AuditsField d f after r
+then-zero d f full c w z = record { answer = rw (← c) (w .answer); buffer = z ∙ w .behind ∙ rw c (zeroed-again (size (d .rows)) f) }
 
 -- ---- before a byte is written
 
@@ -90,52 +79,50 @@ module _ (t : ℕ) (s f : List ℕ) where
       unfolding prepared check
       in-dictionary = rw (le-leb (length s) limit l, lt-ltb t 12 k)
 
-      pub no-dictionary : {c : Checked} {r : Refusal} → c ≡ Checked.Refused r → Tells t s c → prepared t s f ≡ refuse r
+      pub no-dictionary : {c : Checked} {r : Refusal} → c ≡ Checked.Refused r → ReadsDictionary t s c → prepared t s f ≡ refuse r
       unfolding andThen
       no-dictionary {c} {r} e w =
-          let d : dictionary t s ≡ refuse r = rw e at w in
+          let d : dictionary t s ≡ refuse r = rw e at (w .so) in
           in-dictionary ∙ rw d
 
-      module _ {c : Checked} {h : Head} (e : c ≡ Found h) (w : Tells t s c) {has : Bool} (o : has ≡ leb (size (h .rows)) (length f)) where
-        pub no-room : has ≡ false → prepared t s f ≡ refuse Room
-        unfolding andThen roomFor check
-        no-room n =
-            let d : Tells t s (Found h) = rw e at w in
-            in-dictionary ∙ rw (d .1, ← o, n)
+      module _ {c : Checked} {h : Summary} (e : c ≡ Found h) (w : ReadsDictionary t s c) where
+        is-read : IsRead t s h
+        is-read = rw e at (w .so)
 
-        pub ready : has ≡ true → Readied t s f (Found h)
-        unfolding andThen roomFor check
-        ready y =
-            let d : Tells t s (Found h) = rw e at w in (
-              d .0,
-              in-dictionary ∙ rw (d .1, ← o, y),
-              record { many = d .2; stand = d .3; region = d .5 },
-            )
+        module _ {has : Bool} (o : has ≡ leb (size (h .rows)) (length f)) where
+          pub no-room : has ≡ false → prepared t s f ≡ refuse Room
+          unfolding andThen roomFor check
+          no-room n = in-dictionary ∙ rw (is-read .so, ← o, n)
+
+          pub ready : has ≡ true → Prepares t s f (Found h)
+          unfolding andThen roomFor check
+          ready y = (is-read, in-dictionary ∙ rw (is-read .so, ← o, y))
 
 -- ---- the whole
 
-pub audit-numbers : (o : Out Refusal ℕ) {a : Audited} → a ≡ auditedBy o → auditOut a ≡ numbersOf o
+-- the number and the count are those of the answer
+audit-numbers : (o : Out Refusal ℕ) → auditOut (auditedBy o) ≡ numbersOf 0 auditNumbers o
 unfolding auditOut numbersOf auditedBy
-audit-numbers (refuse r) e = rw e
-audit-numbers (ok n) e = rw e
+audit-numbers (refuse r) = refl
+audit-numbers (ok n) = refl
 
-module _ (t : ℕ) (s f : List ℕ) {c : Checked} where
-  pub sound : {h : Head} → c ≡ Found h → Readied t s f c → Sound t s h
-  sound {h} e w =
-      let d : Readied t s f (Found h) = rw e at w in
-      record { entries = d .0; laid = d .2 }
+module _ (t : ℕ) (s f : List ℕ) where
+  audit-says : {r : Audited} {after : List ℕ} → r ≡ auditedBy (audit t s f) → after ≡ auditBuffer t s f → AuditPromise t s f after r
+  audit-says e b = record { answer = e; buffer = b; numbers = rw e (audit-numbers (audit t s f)) }
 
-  pub audit-refused : {r : Refusal} → c ≡ Checked.Refused r → Readied t s f c → (Audited.Refused r ≡ auditedBy (audit t s f)) × (f ≡ auditBuffer t s f)
-  unfolding audit auditBuffer zeroedFrom auditedBy andThen
-  audit-refused {r} e w =
-      let d : prepared t s f ≡ refuse r = rw e at w in
-      (rw d, rw d)
+  module _ {c : Checked} where
+    pub is-dictionary : {h : Summary} → c ≡ Found h → Prepares t s f c → IsRead t s h
+    is-dictionary {h} e w = let d : Prepares t s f (Found h) = rw e at w in d .0
 
-  pub audit-found : {h : Head} → c ≡ Found h → Readied t s f c → {a : Audited} {after : List ℕ}
-      → ((es : List Entry) → Laid t s h es → (a ≡ auditedBy (audited f (dictionaryOf s h es))) × (after ≡ cleared (h .rows) f))
-      → (a ≡ auditedBy (audit t s f)) × (after ≡ auditBuffer t s f)
-  unfolding audit auditBuffer zeroedFrom andThen
-  audit-found {h} e w g =
-      let d : Readied t s f (Found h) = rw e at w in
-      let z = g (d .0) (d .2) in
-      (rw (d .1) (z .0), rw (d .1) (z .1))
+    pub audit-refused : {r : Refusal} → c ≡ Checked.Refused r → Prepares t s f c → AuditPromise t s f f (Audited.Refused r)
+    unfolding audit auditBuffer zeroedFrom auditedBy andThen
+    audit-refused {r} e w =
+        let d : prepared t s f ≡ refuse r = rw e at w in
+        audit-says (rw d) (rw d)
+
+    pub audit-found : {h : Summary} → c ≡ Found h → Prepares t s f c → {r : Audited} {after : List ℕ} → ForDictionary t s h (λ d. AuditsField d f after r) → AuditPromise t s f after r
+    unfolding audit auditBuffer zeroedFrom andThen
+    audit-found {h} e w g =
+        let d : Prepares t s f (Found h) = rw e at w in
+        let z = g (d .0 .entries) (d .0 .summary) in
+        audit-says (rw (d .1) (z .answer)) (rw (d .1) (z .buffer))

@@ -1,15 +1,19 @@
 -- Which entries a question chooses, by the code's cases on its number.
 use Prim.Native.Nat.{ℕ}
-use mathlib.Core.Path.{_≡_, ap}
+use mathlib.Core.Path.{_≡_, refl, ap}
 use mathlib.Core.Logic.{inl, inr, ⊎-elim}
-use mathlib.Core.Bool.{Bool, true, false, not}
+use mathlib.Core.Bool.{Bool, true, false, not, cond}
 use mathlib.Core.List.{List, [], _∷_}
 use lib.Dec.{eqb}
 use types.Run.{OneOf}
 use borrow.Author.Tests.{ne-eqb}
 use Rattle.stored_value.specs.Meaning.{Cell, null, value, listed}
+use Rattle.dictionary.specs.Layout.{Entry}
 use Rattle.bitmap_index.specs.Meaning.{chosen}
-use Rattle.bitmap_index.specs.Promises.{picks}
+use Rattle.bitmap_index.specs.Reading.{chosenOf}
+use Rattle.bitmap_index.specs.declared.Entries.{Entries}
+use Rattle.bitmap_index.specs.declared.Entries.the-variants.{Every, Chosen}
+use Rattle.bitmap_index.specs.Promises.{among, those}
 
 module _ (q : ℕ) (v : List ℕ) (ls : List (List ℕ)) {found : Bool} where
   pub is-listed : OneOf (0 ∷ 2 ∷ []) q → found ≡ listed v ls → found ≡ chosen q ls (value v)
@@ -37,11 +41,24 @@ module _ (q : ℕ) (ls : List (List ℕ)) where
   unfolding chosen
   null-not h k = rw (ne-eqb q 1 (λ e. h (inl e)), ne-eqb q 3 (λ e. h (inr e)), ne-eqb q 4 k)
 
-module _ {all : Bool} (q : ℕ) (ls : List (List ℕ)) (c : Cell) where
-  pub picks-all : all ≡ true → true ≡ picks all q ls c
-  unfolding picks
-  picks-all e = rw e
+-- ---- which entries are asked for
 
-  pub picks-chosen : all ≡ false → {b : Bool} → b ≡ chosen q ls c → b ≡ picks all q ls c
-  unfolding picks
-  picks-chosen e h = rw e h
+module _ {which : Entries} (ls : List (List ℕ)) (c : Cell) where
+  pub among-every : which ≡ Every → true ≡ among which ls c
+  unfolding among
+  among-every e = rw e
+
+  pub among-chosen : {q : ℕ} → which ≡ Chosen q → {b : Bool} → b ≡ chosen q ls c → b ≡ among which ls c
+  unfolding among
+  among-chosen e h = rw e h
+
+pub those-none : (which : Entries) (ls : List (List ℕ)) → those which ls [] ≡ []
+unfolding those chosenOf
+those-none Every ls = refl
+those-none (Chosen q) ls = refl
+
+pub those-next : (which : Entries) (ls : List (List ℕ)) (e : Entry) (es : List Entry)
+    → those which ls (e ∷ es) ≡ cond (among which ls (e .cell)) (e ∷ those which ls es) (those which ls es)
+unfolding those among chosenOf
+those-next Every ls e es = refl
+those-next (Chosen q) ls e es = refl

@@ -1,16 +1,16 @@
--- Laws that the proofs of the functions cite.
+-- Laws that the proofs of the functions cite, and the proofs of the claims.
 pub mod Offsets
-pub mod Placing
+pub mod PlacingRows
 pub mod Choosing
-pub mod Entries
+pub mod PlacingEntries
 pub mod Walking
 pub mod Auditing
 pub mod Asking
 pub mod Rows
 pub mod ScanAnswers
-pub mod Theorems
-pub mod Alike
-pub mod Taken
+pub mod BodyAnswers
+pub mod SameColumn
+pub mod AcceptedStages
 pub mod Accepted
 pub mod Versions
-pub mod Demand2
+pub mod Theorems

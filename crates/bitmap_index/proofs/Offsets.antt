@@ -7,6 +7,7 @@ use native.Mathlib.Omega.{arith}
 use lib.Dec.{T, lit<}
 use lib.IntN.{ℤ, pos, negsuc, _-ℤ_, natAbs}
 use lib.Signed.{ltZ, nonNeg}
+use Rattle.numbers.specs.Meaning.{signBit}
 use mir.Syntax.{w32, w64}
 use mir.Val.{SFits, Fits, toZ, ofZ}
 use mir.Facts.{toZ-ofZ}
@@ -17,7 +18,7 @@ pub record Single (z : ℤ) : Type 0 where
   pub row : ℕ
   pub so : z ≡ negsuc row
   pub turned : negsuc 0 -ℤ z ≡ pos row
-  pub below : row < 2147483648
+  pub below : row < signBit
 
 single : (z : ℤ) → SFits w32 z → ltZ z (pos 0) ≡ true → Single z
 single (pos n) f t = let h = ltb-true n 0 t in absurd (let a : ⊥ = omega arith in a)
@@ -41,7 +42,7 @@ module _ (z : ℤ) (f : SFits w32 z) (t : ltZ (toZ w32 (ofZ w32 z)) (pos 0) ≡ 
 pub record Place (z : ℤ) : Type 0 where
   pub place : ℕ
   pub so : z ≡ pos place
-  pub below : place < 2147483648
+  pub below : place < signBit
 
 a-place : (z : ℤ) → SFits w32 z → ltZ z (pos 0) ≡ false → Place z
 a-place (pos n) f t = record { place = n; so = refl; below = f .sfits }

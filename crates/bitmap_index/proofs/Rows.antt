@@ -1,19 +1,20 @@
 -- The rows of a column whose cells pass a test: what marking them makes of a field, and how many they are. The scan marks such rows, and so does
 -- each entry.
-use Prim.Native.Nat.{ℕ, zero, suc, _+_, _*_, _/_, _<_, _≤_}
+use Prim.Native.Nat.{ℕ, zero, suc, _+_, _*_, _<_, _≤_}
 use mathlib.Core.Path.{_≡_, refl, sym, ap, _∙_}
 use mathlib.Core.Bool.{Bool, true, false, _||_, cond}
 use mathlib.Core.List.{List, [], _∷_, _++_}
 use native.Mathlib.Nat.{add-zero, zero-add}
 use native.Mathlib.Omega.{arith}
 use borrow.Author.Tests.{eq-eqb, ne-eqb}
-use lib.ListN.{length, drop, replicate, length-replicate, List·getD-append}
-use lib.Seq.{set-append-left}
-use Rattle.numbers.specs.Meaning.{Bytes}
-use Rattle.row_field.specs.Meaning.{size, bit, mark, markAll, anySet, fieldOf, cleared, rowsFrom, count}
-use Rattle.row_field.proofs.Laws.{length-mark}
-use Rattle.row_field.proofs.Marks.{Below, below-more, member, member-append, member-before, Rising, length-markAll, bytes-markAll, markAll-append, bit-markAll, field-ext}
-use Rattle.row_field.proofs.Counts.{Rises, count-field, zeroed-front, bytes-zeroed, length-zeroed, bit-zeroed}
+use lib.ListN.{length, drop}
+use Rattle.numbers.specs.Meaning.{All, Bytes}
+use Rattle.row_field.specs.Meaning.{size, bit, markAll, anySet, fieldOf, cleared, count, Rising, Below}
+use Rattle.row_field.proofs.RowLists.{rising-cond, rising-below}
+use Rattle.row_field.proofs.Marks.{member, member-append, member-before, length-markAll, bytes-markAll, markAll-append, bit-markAll}
+use Rattle.row_field.proofs.Laws.{field-ext}
+use Rattle.row_field.proofs.Fronts.{marked-field, marked-count}
+use Rattle.row_field.proofs.Counts.{bytes-zeroed, length-zeroed, bit-zeroed}
 use Rattle.stored_value.specs.Meaning.{Cell, sameCell}
 use Rattle.bitmap_index.specs.Layout.{rowsWith}
 
@@ -33,16 +34,11 @@ pub rows-with : (c : Cell) (a : ℕ) (cells : List Cell) → rowsWith c a cells 
 rows-with c a [] = refl
 rows-with c a (d ∷ cells) = rw (rows-with c (a + 1) cells)
 
--- every cell of the column has the property P
-abbrev pub Each : (Cell → Type 0) → List Cell → Type 0
-Each P [] = Unit {0}
-Each P (c ∷ cells) = P c × Each P cells
+pub all-cells : (P : Cell → Type 0) (cells : List Cell) → ((c : Cell) → P c) → All P cells
+all-cells P [] h = tt
+all-cells P (c ∷ cells) h = (h c, all-cells P cells h)
 
-pub each-cell : (P : Cell → Type 0) (cells : List Cell) → ((c : Cell) → P c) → Each P cells
-each-cell P [] h = tt
-each-cell P (c ∷ cells) h = (h c, each-cell P cells h)
-
-pub rows-ext : (p q : Cell → Bool) (a : ℕ) (cells : List Cell) → Each (λ c. p c ≡ q c) cells → rowsWhere p a cells ≡ rowsWhere q a cells
+pub rows-ext : (p q : Cell → Bool) (a : ℕ) (cells : List Cell) → All (λ c. p c ≡ q c) cells → rowsWhere p a cells ≡ rowsWhere q a cells
 rows-ext p q a [] h = refl
 rows-ext p q a (c ∷ cells) h = rw (h .0, rows-ext p q (a + 1) cells (h .1))
 
@@ -50,39 +46,23 @@ pub rows-none : (a : ℕ) (cells : List Cell) → rowsWhere (λ c. false) a cell
 rows-none a [] = refl
 rows-none a (c ∷ cells) = rows-none (a + 1) cells
 
-pub rows-all : (p : Cell → Bool) (a : ℕ) (cells : List Cell) → Each (λ c. p c ≡ true) cells → length (rowsWhere p a cells) ≡ length cells
+pub rows-all : (p : Cell → Bool) (a : ℕ) (cells : List Cell) → All (λ c. p c ≡ true) cells → length (rowsWhere p a cells) ≡ length cells
 rows-all p a [] h = refl
 rows-all p a (c ∷ cells) h = rw (h .0) (ap suc (rows-all p (a + 1) cells (h .1)))
 
 -- ---- they rise, within the column
 
-rises-lower : (lo mid hi : ℕ) (rs : List ℕ) → lo ≤ mid → Rises mid hi rs → Rises lo hi rs
-rises-lower lo mid hi [] h s = tt
-rises-lower lo mid hi (r ∷ rs) h s = (omega arith, s .1, s .2)
-
-rises-cond : (b : Bool) (a hi : ℕ) (rs : List ℕ) → a < hi → Rises (a + 1) hi rs → Rises a hi (cond b (a ∷ rs) rs)
-rises-cond true a hi rs h s = (omega arith, h, s)
-rises-cond false a hi rs h s = rises-lower a (a + 1) hi rs (omega arith) s
-
-pub rows-rise : (p : Cell → Bool) (a : ℕ) (cells : List Cell) → Rises a (a + length cells) (rowsWhere p a cells)
+pub rows-rise : (p : Cell → Bool) (a : ℕ) (cells : List Cell) → Rising a (a + length cells) (rowsWhere p a cells)
 rows-rise p a [] = tt
 rows-rise p a (c ∷ cells) =
     let e : a + 1 + length cells ≡ a + suc (length cells) = omega arith in
-    rises-cond (p c) a (a + suc (length cells)) (rowsWhere p (a + 1) cells) (omega arith) (rw e at (rows-rise p (a + 1) cells))
+    rising-cond (p c) a (a + suc (length cells)) a (rowsWhere p (a + 1) cells) (omega arith) (omega arith) (rw e at (rows-rise p (a + 1) cells))
 
-rises-rising : (lo hi : ℕ) (rs : List ℕ) → Rises lo hi rs → Rising lo rs
-rises-rising lo hi [] s = tt
-rises-rising lo hi (r ∷ rs) s = (s .0, rises-rising (r + 1) hi rs (s .2))
-
-rises-below : (lo hi : ℕ) (rs : List ℕ) → Rises lo hi rs → Below hi rs
-rises-below lo hi [] s = tt
-rises-below lo hi (r ∷ rs) s = (s .1, rises-below (r + 1) hi rs (s .2))
-
-rises-all : (p : Cell → Bool) (cells : List Cell) → Rises 0 (length cells) (rowsWhere p 0 cells)
-rises-all p cells = rw zero-add at (rows-rise p 0 cells)
+pub rows-rising : (p : Cell → Bool) (cells : List Cell) → Rising 0 (length cells) (rowsWhere p 0 cells)
+rows-rising p cells = rw zero-add at (rows-rise p 0 cells)
 
 pub rows-below : (p : Cell → Bool) (cells : List Cell) → Below (length cells) (rowsWhere p 0 cells)
-rows-below p cells = rises-below 0 (length cells) (rowsWhere p 0 cells) (rises-all p cells)
+rows-below p cells = rising-below 0 (length cells) (rowsWhere p 0 cells) (rows-rising p cells)
 
 -- ---- which rows they are
 
@@ -101,7 +81,7 @@ unfolding member
 member-rows-from p a r [] = refl
 member-rows-from p a zero (c ∷ cells) =
     let rs : List ℕ = rowsWhere p (a + 1) cells in
-    rw add-zero (member-here (p c) a rs (member-before a (a + 1) rs (omega arith) (rises-rising (a + 1) (a + 1 + length cells) rs (rows-rise p (a + 1) cells))))
+    rw add-zero (member-here (p c) a rs (member-before a (a + 1) (a + 1 + length cells) rs (omega arith) (rows-rise p (a + 1) cells)))
 member-rows-from p a (suc r) (c ∷ cells) =
     let e : a + suc r ≡ a + 1 + r = omega arith in
     member-there (p c) (a + suc r) a (rowsWhere p (a + 1) cells) (omega arith) ∙ rw e (member-rows-from p (a + 1) r cells)
@@ -171,27 +151,7 @@ rows-free z p q cells f h =
     let room = f .room in
     rw zero-add (bit-markAll z (rowsWhere p 0 cells) r (omega arith) ∙ rw (f .free r l, member-rows p r cells) (passes-apart p q r cells h e)))
 
--- ---- the field at the front of a longer buffer
-
-bit-front : (f t : List ℕ) (r : ℕ) → r / 8 < length f → bit (f ++ t) r ≡ bit f r
-unfolding bit
-bit-front f t r h = rw (List·getD-append f t 0 (r / 8) h)
-
-mark-front : (f t : List ℕ) (r : ℕ) → r / 8 < length f → mark (f ++ t) r ≡ mark f r ++ t
-unfolding mark
-mark-front f t r h = rw (List·getD-append f t 0 (r / 8) h, set-append-left f t (r / 8) _ h)
-
-markAll-front : (f t rs : List ℕ) → Below (8 * length f) rs → markAll (f ++ t) rs ≡ markAll f rs ++ t
-unfolding markAll
-markAll-front f t [] b = refl
-markAll-front f t (r ∷ rs) b =
-    ap (λ (g : List ℕ). markAll g rs) (mark-front f t r (omega arith))
-    ∙ markAll-front (mark f r) t rs (rw (length-mark f r) (b .1))
-
-rows-front : (f t : List ℕ) (a k : ℕ) → a + k ≤ 8 * length f → rowsFrom (f ++ t) a k ≡ rowsFrom f a k
-unfolding rowsFrom
-rows-front f t a zero h = refl
-rows-front f t a (suc k) h = rw (bit-front f t a (omega arith), rows-front f t (a + 1) k (omega arith))
+-- ---- a field that is zero, at the front of a longer buffer
 
 pub cleared-free : (n : ℕ) (field : List ℕ) → Bytes field → size n ≤ length field → Free n (cleared n field)
 cleared-free n field b h =
@@ -205,18 +165,7 @@ cleared-free n field b h =
 module _ (p : Cell → Bool) (cells : List Cell) (field : List ℕ) (h : size (length cells) ≤ length field) where
   -- the rows, marked in a cleared buffer, are a field of just them, and what lies behind it stays
   pub rows-marked : markAll (cleared (length cells) field) (rowsWhere p 0 cells) ≡ fieldOf (length cells) (rowsWhere p 0 cells) ++ drop (size (length cells)) field
-  rows-marked =
-      let rs : List ℕ = rowsWhere p 0 cells in
-      let k : ℕ = size (length cells) in
-      let l = length-replicate {A = ℕ} k 0 in
-      ap (λ (f : List ℕ). markAll f rs) (zeroed-front k field h)
-      ∙ markAll-front (replicate k 0) (drop k field) rs (below-more (length cells) (8 * length (replicate k 0)) rs (omega arith) (rows-below p cells))
+  rows-marked = marked-field (length cells) field (rowsWhere p 0 cells) h (rows-below p cells)
 
   pub rows-counted : count (markAll (cleared (length cells) field) (rowsWhere p 0 cells)) (length cells) ≡ length (rowsWhere p 0 cells)
-  rows-counted =
-      let n : ℕ = length cells in
-      let rs : List ℕ = rowsWhere p 0 cells in
-      let l : length (fieldOf n rs) ≡ size n = length-markAll (replicate (size n) 0) rs ∙ length-replicate (size n) 0 in
-      ap (λ (f : List ℕ). count f n) rows-marked
-      ∙ ap (λ (qs : List ℕ). length qs) (rows-front (fieldOf n rs) (drop (size n) field) 0 n (omega arith))
-      ∙ count-field n rs (rises-all p cells)
+  rows-counted = marked-count (length cells) field (rowsWhere p 0 cells) h (rows-rising p cells)

@@ -7,84 +7,76 @@ use mathlib.Core.Bool.{Bool, true, false, _&&_, _||_, cond, or-assoc, or-false, 
 use mathlib.Core.List.{List, [], _∷_, _++_}
 use native.Mathlib.Nat.{zero-add, add-zero}
 use native.Mathlib.Omega.{arith}
-use borrow.Author.Tests.{eq-eqb, ne-eqb, lt-ltb, le-ltb, lt-leb}
+use borrow.Author.Tests.{eq-eqb, ne-eqb, lt-ltb, le-ltb}
 use lib.IntN.{ℤ, pos, negsuc}
 use lib.ListN.{length, drop, replicate, length-append}
 use lib.Seq.{drop-at}
-use Rattle.numbers.specs.Meaning.{signed32, Bytes, minusOne}
-use Rattle.row_field.specs.Meaning.{size, bit, mark, markAll, anySet, fieldOf, cleared, count}
-use Rattle.row_field.proofs.Marks.{Below}
+use Rattle.numbers.specs.Meaning.{All, signed32, Bytes, minusOne, signBit}
+use Rattle.numbers.proofs.Booleans.{or-neither}
+use Rattle.row_field.specs.Meaning.{size, bit, mark, markAll, anySet, fieldOf, cleared, count, Below}
 use Rattle.roaring.specs.declared.Extent.{Extent}
-use Rattle.roaring.specs.Reading.{Read, got, read, choose, anyFrom, fits, marking, fieldAfter}
-use Rattle.roaring.proofs.Theorems.{laid-out-is-read}
+use Rattle.roaring.specs.Layout.{Bitmap}
+use Rattle.roaring.specs.Reading.{lengthIs}
+use Rattle.roaring.proofs.Measured.{measured-laid}
 use Rattle.stored_value.specs.Meaning.{Cell, sameCell}
+use Rattle.refusal.specs.Meaning.{limit}
 use Rattle.refusal.specs.declared.Refusal.{Refusal}
 use Rattle.refusal.specs.Reading.{Out, ok, check, andThen}
 use Rattle.stored_value.proofs.Laws.{sameCell→eq, sameCell-sym}
 use Rattle.dictionary.specs.Layout.{Entry, someHas}
 use Rattle.dictionary.proofs.Theorems.{Once}
 use Rattle.bitmap_index.specs.Meaning.{chosen, scan, scanFrom}
-use Rattle.bitmap_index.specs.Layout.{rowsWith, Placed, single, bitmap, AllPlaced, Covers}
-use Rattle.bitmap_index.specs.Reading.{extentOf, once, placeBitmap, placeAt, place, placeAll, audited, chosenOf, answered}
-use Rattle.bitmap_index.proofs.Rows.{rowsWhere, rows-with, Each, each-cell, rows-ext, rows-none, rows-all, rows-below, Apart, rows-join, Free, rows-free, cleared-free, rows-marked, rows-counted}
+use Rattle.bitmap_index.specs.Layout.{rowsWith, EntryRows, single, bitmap, ExactRows, Covers}
+use Rattle.bitmap_index.specs.Reading.{extentOf, placeBitmap, placeAt, placeEntry, placeEntries, audited, chosenOf, answered}
+use Rattle.bitmap_index.proofs.Rows.{rowsWhere, rows-with, all-cells, rows-ext, rows-none, rows-all, rows-below, Apart, rows-join, Free, rows-free, cleared-free, rows-marked, rows-counted}
 
 -- ---- one entry: its rows are marked
 
-below-anyFrom : (n : ℕ) (rs : List ℕ) → Below n rs → anyFrom n rs ≡ false
-unfolding anyFrom
-below-anyFrom n [] b = refl
-below-anyFrom n (r ∷ rs) b = rw (lt-leb n r (b .0)) (below-anyFrom n rs (b .1))
-
-or-none : (a b : Bool) → a || b ≡ false → (a ≡ false) × (b ≡ false)
-or-none true b e = absurd (let z : _≡_ {A = ℕ} 0 1 = cc in omega arith)
-or-none false b e = (refl, e)
-
 -- a negative offset is the single row -1 less it
-signed-single : (r : ℕ) → r < 2147483648 → signed32 (minusOne - r) ≡ negsuc r
+signed-single : (r : ℕ) → r < signBit → signed32 (minusOne - r) ≡ negsuc r
 signed-single r h =
-    let e : 4294967295 - (4294967295 - r) ≡ r = omega arith in
-    let l : 2147483648 ≤ 4294967295 - r = omega arith in
-    rw (le-ltb (4294967295 - r) 2147483648 l, e)
+    let e : minusOne - (minusOne - r) ≡ r = omega arith in
+    let l : signBit ≤ minusOne - r = omega arith in
+    rw (le-ltb (minusOne - r) signBit l, e)
 
 place-single : (n : ℕ) (region f : List ℕ) (extent r : ℕ) → r < n → bit f r ≡ false → placeAt (negsuc r) extent n region f ≡ ok (mark f r)
 unfolding placeAt check
 place-single n region f extent r h b = rw (lt-ltb r n h, b)
 
-placed-there : (n : ℕ) (region f : List ℕ) (extent o : ℕ) {found : Read} → read (drop o region) ≡ found
-    → placeAt (pos o) extent n region f ≡ placeBitmap (extentOf extent) n found f
+placed-there : (n : ℕ) (region f : List ℕ) (extent o : ℕ) {bytes : List ℕ} → drop o region ≡ bytes
+    → placeAt (pos o) extent n region f ≡ placeBitmap (extentOf extent) n bytes f
 unfolding placeAt
-placed-there n region f extent o h = ap (λ (r : Read). placeBitmap (extentOf extent) n r f) h
+placed-there n region f extent o h = ap (λ (s : List ℕ). placeBitmap (extentOf extent) n s f) h
 
-extent-fits : (extent long : ℕ) → long ≤ 2147483647 → (extent ≡ minusOne) ⊎ (extent ≡ long) → fits (extentOf extent) long ≡ true
-unfolding extentOf fits
+extent-fits : (extent long : ℕ) → long ≤ limit → (extent ≡ minusOne) ⊎ (extent ≡ long) → lengthIs (extentOf extent) long ≡ true
+unfolding extentOf lengthIs
 extent-fits extent long h (inl e) = rw (eq-eqb extent minusOne e)
 extent-fits extent long h (inr e) = rw (ne-eqb extent minusOne (omega arith)) (eq-eqb long extent (sym e))
 
-place-bitmap : (extent : Extent) (n : ℕ) (rows f t : List ℕ) (long : ℕ) → fits extent long ≡ true → Below n rows → anySet f rows ≡ false
-    → placeBitmap extent n (got rows long t) f ≡ ok (markAll f rows)
-unfolding placeBitmap marking fieldAfter choose once
-place-bitmap extent n rows f t long e b s = rw (e, below-anyFrom n rows b, s)
+place-bitmap : (extent : Extent) (n : ℕ) {rows bytes : List ℕ} (f t : List ℕ) → Bitmap rows bytes → lengthIs extent (length bytes) ≡ true → Below n rows → anySet f rows ≡ false
+    → placeBitmap extent n (bytes ++ t) f ≡ ok (markAll f rows)
+unfolding placeBitmap andThen check
+place-bitmap extent n f t m e b s = rw (measured-laid extent n m t e b, s)
 
 module _ (n : ℕ) (region f : List ℕ) (e : Entry) where
-  place-at : (x : ℤ) → signed32 (e .offset) ≡ x → place n region f e ≡ placeAt x (e .extent) n region f
-  unfolding place
+  place-at : (x : ℤ) → signed32 (e .offset) ≡ x → placeEntry n region f e ≡ placeAt x (e .extent) n region f
+  unfolding placeEntry
   place-at x h = ap (λ (y : ℤ). placeAt y (e .extent) n region f) h
 
-  pub place-one : (rows : List ℕ) → length region ≤ 2147483647 → Placed region rows e → Below n rows → anySet f rows ≡ false → place n region f e ≡ ok (markAll f rows)
+  pub place-one : (rows : List ℕ) → length region ≤ limit → EntryRows region rows e → Below n rows → anySet f rows ≡ false → placeEntry n region f e ≡ ok (markAll f rows)
   unfolding markAll anySet
   place-one rows l (single r q h o x) b s =
       let c = rw q at b in
-      let d = or-none (bit f r) false (rw q at s) in
+      let d = or-neither (bit f r) false (rw q at s) in
       rw q (place-at (negsuc r) (ap signed32 o ∙ signed-single r h) ∙ place-single n region f (e .extent) r (c .0) (d .0))
   place-one rows l (bitmap before bytes behind q m o x) b s =
       let k = simp length-append at (ap length q) in
-      let i : length before < 2147483648 = omega arith in
-      let a : signed32 (length before) ≡ pos (length before) = rw (lt-ltb (length before) 2147483648 i) in
+      let i : length before < signBit = omega arith in
+      let a : signed32 (length before) ≡ pos (length before) = rw (lt-ltb (length before) signBit i) in
       let d : drop (length before) region ≡ bytes ++ behind = rw q (drop-at before (bytes ++ behind) (length before) refl) in
-      let g = laid-out-is-read m behind in
       place-at (pos (length before)) (ap signed32 o ∙ a)
-      ∙ placed-there n region f (e .extent) (length before) (ap read d ∙ g)
-      ∙ place-bitmap (extentOf (e .extent)) n rows f behind (length bytes) (extent-fits (e .extent) (length bytes) (omega arith) x) b s
+      ∙ placed-there n region f (e .extent) (length before) d
+      ∙ place-bitmap (extentOf (e .extent)) n f behind m (extent-fits (e .extent) (length bytes) (omega arith) x) b s
 
 -- ---- the rows of many entries
 
@@ -98,10 +90,10 @@ other-cell c d es n y = go (sameCell d c) refl
         sym y ∙ ap (λ (x : Cell). someHas x es) (sym e) ∙ n
     go false s = refl
 
-module _ (region : List ℕ) (cells : List Cell) (z : List ℕ) (short : length region ≤ 2147483647) (f : Free (length cells) z) where
+module _ (region : List ℕ) (cells : List Cell) (z : List ℕ) (short : length region ≤ limit) (f : Free (length cells) z) where
   -- one entry more: its rows are marked besides
-  placed-one : (p : Cell → Bool) (e : Entry) → Placed region (rowsWith (e .cell) 0 cells) e → Apart p (sameCell (e .cell))
-      → place (length cells) region (markAll z (rowsWhere p 0 cells)) e ≡ ok (markAll z (rowsWhere (λ c. p c || sameCell (e .cell) c) 0 cells))
+  placed-one : (p : Cell → Bool) (e : Entry) → EntryRows region (rowsWith (e .cell) 0 cells) e → Apart p (sameCell (e .cell))
+      → placeEntry (length cells) region (markAll z (rowsWhere p 0 cells)) e ≡ ok (markAll z (rowsWhere (λ c. p c || sameCell (e .cell) c) 0 cells))
   placed-one p e a h =
       let q : Cell → Bool = sameCell (e .cell) in
       place-one (length cells) region (markAll z (rowsWhere p 0 cells)) e (rowsWhere q 0 cells) short (rw (rows-with (e .cell) 0 cells) at a)
@@ -109,19 +101,19 @@ module _ (region : List ℕ) (cells : List Cell) (z : List ℕ) (short : length 
       ∙ ap ok (rows-join z p q cells (f .bytes))
 
   -- with the rows of cells that pass p marked, the rows of entries whose cells do not pass it are marked besides
-  placed-besides : (p : Cell → Bool) (es : List Entry) → AllPlaced region cells es → Once es → Apart p (λ c. someHas c es)
-      → placeAll (length cells) region es (markAll z (rowsWhere p 0 cells)) ≡ ok (markAll z (rowsWhere (λ c. p c || someHas c es) 0 cells))
-  unfolding placeAll andThen
+  placed-besides : (p : Cell → Bool) (es : List Entry) → ExactRows region cells es → Once es → Apart p (λ c. someHas c es)
+      → placeEntries (length cells) region es (markAll z (rowsWhere p 0 cells)) ≡ ok (markAll z (rowsWhere (λ c. p c || someHas c es) 0 cells))
+  unfolding placeEntries andThen
   placed-besides p [] a o h =
-      ap (λ (rs : List ℕ). ok (markAll z rs)) (rows-ext p (λ c. p c || false) 0 cells (each-cell (λ c. p c ≡ p c || false) cells (λ c. sym (or-false (p c)))))
+      ap (λ (rs : List ℕ). ok (markAll z rs)) (rows-ext p (λ c. p c || false) 0 cells (all-cells (λ c. p c ≡ p c || false) cells (λ c. sym (or-false (p c)))))
   placed-besides p (e ∷ es) a o h =
       let q : Cell → Bool = λ c. p c || sameCell (e .cell) c in
-      ap (λ (x : Out Refusal (List ℕ)). andThen x (placeAll (length cells) region es)) (placed-one p e (a .0) (λ c x. h c (rw (sameCell-sym c (e .cell), x))))
+      ap (λ (x : Out Refusal (List ℕ)). andThen x (placeEntries (length cells) region es)) (placed-one p e (a .0) (λ c x. h c (rw (sameCell-sym c (e .cell), x))))
       ∙ placed-besides q es (a .1) (o .1) (λ c x. rw (h c (rw x (or-true (sameCell c (e .cell)))), other-cell c (e .cell) es (o .0) x))
       ∙ ap (λ (rs : List ℕ). ok (markAll z rs)) (rows-ext (λ c. q c || someHas c es) (λ c. p c || someHas c (e ∷ es)) 0 cells
-      (each-cell (λ c. q c || someHas c es ≡ p c || someHas c (e ∷ es)) cells (λ c. or-assoc (p c) (sameCell (e .cell) c) (someHas c es) ∙ rw (sameCell-sym c (e .cell)))))
+      (all-cells (λ c. q c || someHas c es ≡ p c || someHas c (e ∷ es)) cells (λ c. or-assoc (p c) (sameCell (e .cell) c) (someHas c es) ∙ rw (sameCell-sym c (e .cell)))))
 
-  pub placed-all : (es : List Entry) → AllPlaced region cells es → Once es → placeAll (length cells) region es z ≡ ok (markAll z (rowsWhere (λ c. someHas c es) 0 cells))
+  pub placed-all : (es : List Entry) → ExactRows region cells es → Once es → placeEntries (length cells) region es z ≡ ok (markAll z (rowsWhere (λ c. someHas c es) 0 cells))
   unfolding markAll
   placed-all es a o = rw (rows-none 0 cells) at (placed-besides (λ c. false) es a o (λ c x. refl))
 
@@ -129,17 +121,17 @@ module _ (region : List ℕ) (cells : List Cell) (z : List ℕ) (short : length 
 
 -- what a body of the column says behind its dictionary
 pub record Whole (cells : List Cell) (es : List Entry) (region : List ℕ) : Type 0 where
-  pub placed : AllPlaced region cells es
+  pub placed : ExactRows region cells es
   pub once : Once es
   pub covers : Covers es cells
-  pub short : length region ≤ 2147483647
+  pub short : length region ≤ limit
 
-covers-each : (es : List Entry) (cells : List Cell) → Covers es cells → Each (λ c. someHas c es ≡ true) cells
+covers-each : (es : List Entry) (cells : List Cell) → Covers es cells → All (λ c. someHas c es ≡ true) cells
 covers-each es [] h = tt
 covers-each es (c ∷ cells) h = (h .0, covers-each es cells (h .1))
 
 module _ (cells : List Cell) (es : List Entry) (region field : List ℕ) (w : Whole cells es region) (b : Bytes field) (h : size (length cells) ≤ length field) where
-  pub audited-whole : audited field (record { rows = length cells; entries = es; region = region }) ≡ ok (length cells)
+  pub audited-whole : audited (record { rows = length cells; entries = es; region = region }) (cleared (length cells) field) ≡ ok (length cells)
   unfolding audited andThen check
   audited-whole =
       let p : Cell → Bool = λ c. someHas c es in
@@ -166,12 +158,12 @@ module _ (q : ℕ) (ls : List (List ℕ)) where
       go false true x y i = rw x i
       go false false x y i = i
 
-  chosen-placed : (region : List ℕ) (cells : List Cell) (es : List Entry) → AllPlaced region cells es → AllPlaced region cells (chosenOf q ls es)
+  chosen-placed : (region : List ℕ) (cells : List Cell) (es : List Entry) → ExactRows region cells es → ExactRows region cells (chosenOf q ls es)
   unfolding chosenOf
   chosen-placed region cells [] a = tt
   chosen-placed region cells (e ∷ es) a = go (chosen q ls (e .cell)) (chosen-placed region cells es (a .1))
     where
-      go : (b : Bool) → AllPlaced region cells (chosenOf q ls es) → AllPlaced region cells (cond b (e ∷ chosenOf q ls es) (chosenOf q ls es))
+      go : (b : Bool) → ExactRows region cells (chosenOf q ls es) → ExactRows region cells (cond b (e ∷ chosenOf q ls es) (chosenOf q ls es))
       go true i = (a .0, i)
       go false i = i
 
@@ -184,7 +176,7 @@ module _ (q : ℕ) (ls : List (List ℕ)) where
       go true i = (chosen-has (e .cell) es ∙ rw (o .0) (and-false (chosen q ls (e .cell))), i)
       go false i = i
 
-  chosen-covers : (es : List Entry) (cells : List Cell) → Covers es cells → Each (λ c. someHas c (chosenOf q ls es) ≡ chosen q ls c) cells
+  chosen-covers : (es : List Entry) (cells : List Cell) → Covers es cells → All (λ c. someHas c (chosenOf q ls es) ≡ chosen q ls c) cells
   chosen-covers es [] h = tt
   chosen-covers es (c ∷ cells) h = (chosen-has c es ∙ rw (h .0) (and-true (chosen q ls c)), chosen-covers es cells (h .1))
 
@@ -212,7 +204,7 @@ module _ (q : ℕ) (ls : List (List ℕ)) where
   scanned cells = rw zero-add at (scan-from 0 (replicate (size (length cells)) 0) 0 cells)
 
   module _ (cells : List Cell) (es : List Entry) (region field : List ℕ) (w : Whole cells es region) (b : Bytes field) (h : size (length cells) ≤ length field) where
-    pub answered-whole : answered q ls field (record { rows = length cells; entries = es; region = region })
+    pub answered-whole : answered q ls (record { rows = length cells; entries = es; region = region }) (cleared (length cells) field)
         ≡ ok (record { buffer = scan q ls cells .field ++ drop (size (length cells)) field; matched = scan q ls cells .matched })
     unfolding answered andThen
     answered-whole =

@@ -1,129 +1,140 @@
--- A body of a column, audited and asked, answers as the scan (01, demand 3, from body to answers).
-use mathlib.Core.Path.{_≡_, ap}
-use mathlib.Core.Logic.{⊎-elim}
-use Prim.Native.Nat.{ℕ, zero, suc, _*_, _≤_, _<_}
-use mathlib.Core.List.{List, [], _∷_, _++_}
+-- The claims of specs/Claims, proved in their order there.
+use Prim.Native.Nat.{ℕ, _+_, _<_, _≤_}
+use mathlib.Core.Path.{_≡_, sym, ap, _∙_}
+use mathlib.Core.List.{List, _++_}
+use native.Mathlib.Decide.{decLt}
 use native.Mathlib.Omega.{arith}
-use borrow.Author.Tests.{lt-ltb, le-leb}
-use lib.ListN.{length, getD, drop, length-append}
-use Rattle.numbers.specs.Meaning.{be, big, joined, Bytes}
-use Rattle.numbers.proofs.Laws.{length-spelled}
+use borrow.Author.Tests.{le-leb, lt-ltb, lt-leb}
+use lib.ListN.{length, replicate, length-replicate}
+use Rattle.numbers.specs.Meaning.{joined}
 use Rattle.refusal.specs.Meaning.{limit}
-use Rattle.row_field.specs.Meaning.{size, cleared}
-use Rattle.stored_value.specs.Meaning.{Cell, widths, width, Value, number, string, Literals}
-use Rattle.refusal.specs.Reading.{ok, check, andThen}
-use Rattle.stored_value.proofs.Laws.{literals-laid}
-use Rattle.dictionary.specs.Promises.{Patterns}
-use Rattle.dictionary.specs.Layout.{Entry, entries1, null1, body1, blocks, directory, null2, body2}
-use Rattle.dictionary.specs.Reading.{dictionary}
+use Rattle.refusal.specs.declared.Refusal.the-variants.{Room}
+use Rattle.row_field.specs.Meaning.{size}
+use Rattle.row_field.proofs.Laws.{bytes-zeros}
+use Rattle.stored_value.specs.Meaning.{Cell}
+use Rattle.refusal.specs.Reading.{check, andThen}
+use Rattle.stored_value.proofs.Laws.{literals-back}
+use Rattle.dictionary.specs.Reading.{Dictionary}
+use Rattle.bitmap_index.specs.Meaning.{Column, Question}
+use Rattle.bitmap_index.specs.Layout.{ColumnBody, version1, version2}
+use Rattle.bitmap_index.specs.Reading.{roomFor, prepared, audit, ask}
+use Rattle.bitmap_index.specs.Claims.{ColumnIsAnswered, AcceptedIsAColumn, OneColumn, EachRowHasOnePlace, AcceptedIsAnswered, AnsweredAsTheScan, ShortOfRoom, RefusedForRoom, RefusedIsNoColumn, AcceptedAreTheColumns, UnknownVersionIsRefused, UnknownVersionYieldsNothing}
+use Rattle.bitmap_index.proofs.ScanAnswers.{Whole}
+use Rattle.bitmap_index.proofs.BodyAnswers.{answers-as-scan, all-patterns, region1, region2}
+use Rattle.dictionary.specs.Layout.{body1, body2}
 use Rattle.dictionary.proofs.Theorems.{one-is-read, two-is-read, one-has-each-once, two-has-each-once}
-use Rattle.bitmap_index.specs.Meaning.{Question, scan}
-use Rattle.bitmap_index.specs.Layout.{Placed, single, bitmap, AllPlaced, Body, version1, version2}
-use Rattle.bitmap_index.specs.Reading.{roomFor, prepared, audit, zeroedFrom, auditBuffer, asked, ask, bufferOf, askBuffer}
-use Rattle.bitmap_index.proofs.ScanAnswers.{Whole, audited-whole, answered-whole}
+use Rattle.bitmap_index.proofs.SameColumn.{same-column}
+use Rattle.refusal.proofs.Laws.{ok-same, then-ok, check-ok}
+use Rattle.bitmap_index.proofs.AcceptedStages.{audit-passed, asked-back, ask-parts}
+use Rattle.bitmap_index.proofs.Accepted.{holder, columnOf, length-table, passed-body, passed-once}
+use Rattle.bitmap_index.proofs.Versions.{version-audited, version-audited-buffer, version-asked, version-asked-buffer}
 
--- ---- a well-formed question's literals fit an input buffer
+-- ---- demand 3, from a body to its answers
 
-abbrev UpTo : ℕ → List ℕ → Type 0
-UpTo m [] = Unit {0}
-UpTo m (x ∷ xs) = (x ≤ m) × UpTo m xs
-
-getD-upTo : (m : ℕ) (xs : List ℕ) (i : ℕ) → UpTo m xs → getD xs i 0 ≤ m
-getD-upTo m [] i h = omega arith
-getD-upTo m (x ∷ xs) zero h = h .0
-getD-upTo m (x ∷ xs) (suc i) h = getD-upTo m xs i (h .1)
-
-width-le : (t : ℕ) → width t ≤ 8
-unfolding width
-width-le t = getD-upTo 8 widths t (omega arith)
-
-value-at-most : (t : ℕ) (v : List ℕ) → Value t v → length v ≤ 65539
-value-at-most t v (number w s l b o) = omega (arith, width-le t)
-value-at-most t v (string c s l b) = simp length-append (omega (arith, length-spelled big 4 (length c)))
-
-literals-at-most : (t : ℕ) (ls : List (List ℕ)) → Literals t ls → length (joined ls) ≤ 65539 * length ls
-literals-at-most t [] h = omega arith
-literals-at-most t (l ∷ ls) h = simp length-append (omega (arith, value-at-most t l (h .0), literals-at-most t ls (h .1)))
-
--- ---- a body whose dictionary is read as the column's
-
--- what Audit and Ask say of a body, lent a field: all rows are there; and a well-formed question is answered as by the scan, what lies behind the field stays
-pub record AnswersAsScan (t : ℕ) (cells : List Cell) (body field : List ℕ) : Type 0 where
-  pub audited : audit t body field ≡ ok (length cells)
-  pub audited-buffer : auditBuffer t body field ≡ cleared (length cells) field
-  pub asked : (q : ℕ) (ls : List (List ℕ)) → Question t q ls
-      → ask t q (joined ls) body field
-      ≡ ok (record { buffer = scan q ls cells .field ++ drop (size (length cells)) field; matched = scan q ls cells .matched })
-  pub asked-buffer : (q : ℕ) (ls : List (List ℕ)) → Question t q ls
-      → askBuffer t q (joined ls) body field ≡ scan q ls cells .field ++ drop (size (length cells)) field
-
-asked-well : (t q : ℕ) (ls : List (List ℕ)) (body : List ℕ) → length body ≤ 2147483647 → Question t q ls → asked t q (joined ls) body ≡ ok ls
-unfolding asked check andThen
-asked-well t q ls body h w =
-    let l : length (joined ls) ≤ 2147483647 = omega (arith, literals-at-most t ls (w .3), w .2) in
-    rw (le-leb (length body) limit h, le-leb (length (joined ls)) limit l, lt-ltb t 12 (w .0), lt-ltb q 6 (w .1), literals-laid t ls (w .3) (w .0) (w .2), w .4)
-
-module _ (t : ℕ) (cells : List Cell) (es : List Entry) (region body field : List ℕ) (k : t < 12) (s : length body ≤ 2147483647)
-    (d : dictionary t body ≡ ok (record { rows = length cells; entries = es; region = region })) (w : Whole cells es region) (b : Bytes field) (h : size (length cells) ≤ length field) where
-  prepared-well : prepared t body field ≡ ok (record { rows = length cells; entries = es; region = region })
-  unfolding prepared roomFor check andThen
-  prepared-well = rw (le-leb (length body) limit s, lt-ltb t 12 k, d, le-leb (size (length cells)) (length field) h)
-
-  audit-well : audit t body field ≡ ok (length cells)
-  unfolding audit andThen
-  audit-well = rw prepared-well (audited-whole cells es region field w b h)
-
-  audit-buffer : auditBuffer t body field ≡ cleared (length cells) field
-  unfolding auditBuffer zeroedFrom
-  audit-buffer = rw prepared-well
-
-  module _ (q : ℕ) (ls : List (List ℕ)) (g : Question t q ls) where
-    ask-well : ask t q (joined ls) body field
-        ≡ ok (record { buffer = scan q ls cells .field ++ drop (size (length cells)) field; matched = scan q ls cells .matched })
-    unfolding ask andThen
-    ask-well = rw (asked-well t q ls body s g, prepared-well, audited-whole cells es region field w b h) (answered-whole q ls cells es region field w b h)
-
-    ask-buffer : askBuffer t q (joined ls) body field ≡ scan q ls cells .field ++ drop (size (length cells)) field
-    unfolding askBuffer bufferOf
-    ask-buffer = rw ask-well
-
-  pub answers-as-scan : AnswersAsScan t cells body field
-  answers-as-scan = record { audited = audit-well; audited-buffer = audit-buffer; asked = ask-well; asked-buffer = ask-buffer }
-
--- ---- the bodies of a column
-
-placed-patterns : (region rows : List ℕ) (e : Entry) → length region ≤ 2147483647 → Placed region rows e → (e .offset < 4294967296) × (e .extent < 4294967296)
-placed-patterns region rows e l (single r q h o x) = (omega arith, x)
-placed-patterns region rows e l (bitmap before bytes behind q m o x) =
-    let k = simp length-append at (ap length q) in
-    (omega arith, ⊎-elim (λ i. omega arith) (λ i. omega arith) x)
-
-all-patterns : (region : List ℕ) (cells : List Cell) (es : List Entry) → length region ≤ 2147483647 → AllPlaced region cells es → Patterns es
-all-patterns region cells [] l a = tt
-all-patterns region cells (e ∷ es) l a =
-    let p = placed-patterns region _ e l (a .0) in
-    (p .0, p .1, all-patterns region cells es l (a .1))
-
--- the region of bitmaps is no longer than the body
-region1 : (n : ℕ) (nulls es : List Entry) (region : List ℕ) → length region ≤ length (body1 n nulls es region)
-region1 n nulls es region = omega (arith, length-append (null1 nulls) (entries1 es ++ region), length-append (entries1 es) region)
-
-region2 : (n : ℕ) (nulls : List Entry) (bs : List (List Entry)) (region : List ℕ) → length region ≤ length (body2 n nulls bs region)
-region2 n nulls bs region =
-    let rest : List ℕ = be 4 (length (blocks bs)) ++ (blocks bs ++ region) in
-    omega (arith, length-append (null2 nulls) (be 4 (length bs) ++ (directory 0 bs ++ rest)), length-append (directory 0 bs) rest, length-append (blocks bs) region)
-
--- 01, demand 3: whatever body a writer laid out for a column, Audit accepts it and Ask answers every well-formed question as the scan does, in any
--- field with room
-pub column-is-answered : (t : ℕ) (cells : List Cell) (body : List ℕ) → Body t cells body → (field : List ℕ) → Bytes field → size (length cells) ≤ length field
-    → AnswersAsScan t cells body field
+pub column-is-answered : ColumnIsAnswered
 column-is-answered t cells body (version1 nulls es region c k x d n l z) field b h =
-    let s : length region ≤ 2147483647 = omega (arith, region1 (length cells) nulls es region) in
-    let w : Whole cells (nulls ++ es) region = record { placed = k .1; once = one-has-each-once t nulls es d (k .0); covers = k .2; short = s } in
+    let s : length region ≤ limit = omega (arith, region1 (length cells) nulls es region) in
+    let w : Whole cells (nulls ++ es) region = record { placed = k .rows; once = one-has-each-once t nulls es d (k .null-only); covers = k .covers; short = s } in
     answers-as-scan t cells (nulls ++ es) region (body1 (length cells) nulls es region) field (c .0) z
-    (one-is-read t (length cells) nulls es region (c .0) d (k .0) x (all-patterns region cells (nulls ++ es) s (k .1)) n l) w b h
+    (one-is-read t (length cells) nulls es region (c .0) d (k .null-only) x (all-patterns region cells (nulls ++ es) s (k .rows)) n l) w b h
 column-is-answered t cells body (version2 nulls bs region c k x r n l m z) field b h =
-    let s : length region ≤ 2147483647 = omega (arith, region2 (length cells) nulls bs region) in
-    let w : Whole cells (nulls ++ joined bs) region = record { placed = k .1; once = two-has-each-once t nulls (joined bs) r (k .0); covers = k .2; short = s } in
+    let s : length region ≤ limit = omega (arith, region2 (length cells) nulls bs region) in
+    let w : Whole cells (nulls ++ joined bs) region = record { placed = k .rows; once = two-has-each-once t nulls (joined bs) r (k .null-only); covers = k .covers; short = s } in
     answers-as-scan t cells (nulls ++ joined bs) region (body2 (length cells) nulls bs region) field (c .0) z
-    (two-is-read t (length cells) nulls bs region (c .0) (k .0) x r (all-patterns region cells (nulls ++ joined bs) s (k .1)) n l m z) w b h
+    (two-is-read t (length cells) nulls bs region (c .0) (k .null-only) x r (all-patterns region cells (nulls ++ joined bs) s (k .rows)) n l m z) w b h
+
+-- ---- demand 2
+
+pub accepted-is-a-column : AcceptedIsAColumn
+accepted-is-a-column t body field n b e =
+    let p = audit-passed t body field n e in
+    let d : Dictionary = p .read in
+    (columnOf (d .region) (d .entries) (d .rows), passed-body t body field n b p, length-table (holder (d .region) (d .entries)) 0 (d .rows) ∙ p .rows)
+
+pub each-row-has-one-place : EachRowHasOnePlace
+each-row-has-one-place t body field n b e = passed-once t body field n b (audit-passed t body field n e)
+
+body-column : (t : ℕ) (cells : List Cell) (body : List ℕ) → ColumnBody t cells body → Column t cells × (length cells ≤ limit)
+body-column t cells body (version1 nulls es region c k x d n l z) = (c, n)
+body-column t cells body (version2 nulls bs region c k x r n l m z) = (c, n)
+
+pub one-column : OneColumn
+one-column t cells cells′ body b b′ =
+    let m : ℕ = size (length cells) + size (length cells′) in
+    let field : List ℕ = replicate m 0 in
+    let l = length-replicate {A = ℕ} m 0 in
+    let a = column-is-answered t cells body b field (bytes-zeros m) (omega arith) in
+    let a′ = column-is-answered t cells′ body b′ field (bytes-zeros m) (omega arith) in
+    same-column t cells cells′ body field a a′ (body-column t cells body b .0)
+
+pub accepted-is-answered : AcceptedIsAnswered
+accepted-is-answered t body field n b bf e =
+    let (cells, is, rows) = accepted-is-a-column t body field n b e in
+    let p = audit-passed t body field n e in
+    let h : size (length cells) ≤ length field = rw (rows ∙ sym (p .rows)) (p .filled .room) in
+    (cells, record { is-body = is; only = λ others o. one-column t others cells body o is }, rows, column-is-answered t cells body is field bf h)
+
+pub answered-as-the-scan : AnsweredAsTheScan
+answered-as-the-scan t q literal body field a bl b bf e =
+    let (ls, n, first, whole) = ask-parts t q literal body field a e in
+    let (short, known, name, read, fit) = asked-back t q literal body ls first in
+    let (spelled, fits, few) = literals-back t literal ls bl known read in
+    let (cells, column, rows, answers) = accepted-is-answered t body field n b bf whole in
+    let g : Question t q ls = (known, name, few, fits, fit) in
+    record {
+      ls = ls;
+      spelled = spelled;
+      question = g;
+      cells = cells;
+      column = column;
+      answer = ok-same a _ (sym e ∙ ap (λ (x : List ℕ). ask t q x body field) spelled ∙ answers .asked q ls g);
+    }
+
+-- ---- what is refused
+
+pub short-of-room : ShortOfRoom
+unfolding audit prepared roomFor andThen check
+short-of-room t cells body field b h =
+    let m : ℕ = size (length cells) in
+    let l = length-replicate {A = ℕ} m 0 in
+    let a = column-is-answered t cells body b (replicate m 0) (bytes-zeros m) (omega arith) in
+    let p = audit-passed t body (replicate m 0) (length cells) (a .audited) in
+    let s : length field < size (p .read .rows) = rw (p .rows) h in
+    rw (le-leb (length body) limit (p .short), lt-ltb t 12 (p .known), p .is, lt-leb (size (p .read .rows)) (length field) s)
+
+pub refused-for-room : RefusedForRoom
+refused-for-room t cells body field r bf b e = go (decLt (length field) (size (length cells)))
+  where
+    go : Dec (length field < size (length cells)) → (r ≡ Room) × (length field < size (length cells))
+    go (yes h) = let q = short-of-room t cells body field b h in (cc, h)
+    go (no h) =
+        let a = column-is-answered t cells body b field bf (omega arith) .audited in
+        absurd (let z : _≡_ {A = ℕ} 0 1 = cc in omega arith)
+
+pub refused-is-no-column : RefusedIsNoColumn
+refused-is-no-column t body field r bf h e cells b =
+    omega (arith, refused-for-room t cells body field r bf b e .1, body-column t cells body b .1)
+
+pub accepted-are-the-columns : AcceptedAreTheColumns
+accepted-are-the-columns t body field b bf h = (
+  λ x. let (cells, is, rows) = accepted-is-a-column t body field (x .0) b (x .1) in (cells, is),
+  λ x. (length (x .0), column-is-answered t (x .0) body (x .1) field bf (omega (arith, body-column t (x .0) body (x .1) .1)) .audited),
+)
+
+-- ---- versions
+
+pub unknown-version-is-refused : UnknownVersionIsRefused
+unknown-version-is-refused t q v s literal field n n′ =
+    record {
+      audited = version-audited t v s field n n′;
+      audited-buffer = version-audited-buffer t v s field n n′;
+      answered = version-asked t v s field n n′ q literal;
+      answered-buffer = version-asked-buffer t v s field n n′ q literal;
+    }
+
+pub unknown-version-yields-nothing : UnknownVersionYieldsNothing
+unknown-version-yields-nothing t q v s literal field n n′ =
+    let w = unknown-version-is-refused t q v s literal field n n′ in (
+      λ m e. let f = check-ok _ _ _ m (check-ok _ _ _ m (sym (w .audited) ∙ e) .1) .1 in let z : _≡_ {A = ℕ} 0 1 = cc in omega arith,
+      λ a e. let f = then-ok _ _ a (sym (w .answered) ∙ e) .2 in let z : _≡_ {A = ℕ} 0 1 = cc in omega arith,
+    )

@@ -12,8 +12,9 @@ use Rattle.refusal.specs.declared.Refusal.the-variants.{Version, Literal, Limit
 use Rattle.refusal.specs.Reading.{Out, refuse, ok, check, andThen}
 use Rattle.dictionary.specs.Reading.{Dictionary}
 use Rattle.dictionary.proofs.Theorems.{version-known}
-use Rattle.bitmap_index.specs.Reading.{prepared, audited, audit, auditBuffer, zeroedFrom, asked, answered, ask, askBuffer, bufferOf}
-use Rattle.bitmap_index.proofs.Taken.{asked-back}
+use Rattle.row_field.specs.Meaning.{cleared}
+use Rattle.bitmap_index.specs.Reading.{prepared, audited, audit, auditBuffer, zeroedFrom, wellFormed, auditedAnswer, ask, askBuffer, answerBuffer}
+use Rattle.bitmap_index.proofs.AcceptedStages.{asked-back}
 
 -- a refusal is handed on
 handed-on : {A B : Type 0} (b c : Bool) (r r′ r″ : Refusal) (k : A → Out Refusal B) → andThen (check b r (check c r′ (refuse r″))) k ≡ check b r (check c r′ (refuse r″))
@@ -35,7 +36,7 @@ module _ (t v : ℕ) (s field : List ℕ) (n : v ≡ 1 → ⊥) (n′ : v ≡ 2 
 
   pub version-audited : audit t (v ∷ s) field ≡ check (leb (length (v ∷ s)) limit) Limit (check (ltb t 12) Literal (refuse Version))
   unfolding audit
-  version-audited = ap (λ (x : Out Refusal Dictionary). andThen x (audited field)) version-prepared ∙ handed-on _ _ Limit Literal Version (audited field)
+  version-audited = ap (λ (x : Out Refusal Dictionary). andThen x (λ d. audited d (cleared (d .rows) field))) version-prepared ∙ handed-on _ _ Limit Literal Version _
 
   pub version-audited-buffer : auditBuffer t (v ∷ s) field ≡ field
   unfolding auditBuffer
@@ -43,27 +44,27 @@ module _ (t v : ℕ) (s field : List ℕ) (n : v ≡ 1 → ⊥) (n′ : v ≡ 2 
 
   module _ (q : ℕ) (literal : List ℕ) where
     -- literals that were read were asked of a body within the limit, and of a known type
-    version-after : (ls : List (List ℕ)) → asked t q literal (v ∷ s) ≡ ok ls → prepared t (v ∷ s) field ≡ refuse Version
+    version-after : (ls : List (List ℕ)) → wellFormed t q literal (v ∷ s) ≡ ok ls → prepared t (v ∷ s) field ≡ refuse Version
     unfolding check
     version-after ls e =
         let (short, known, name, read, fit) = asked-back t q literal (v ∷ s) ls e in
         version-prepared ∙ rw (le-leb (length (v ∷ s)) limit short, lt-ltb t 12 known)
 
-    pub version-asked : ask t q literal (v ∷ s) field ≡ andThen (asked t q literal (v ∷ s)) (λ ls. refuse Version)
+    pub version-asked : ask t q literal (v ∷ s) field ≡ andThen (wellFormed t q literal (v ∷ s)) (λ ls. refuse Version)
     unfolding ask andThen
-    version-asked = go (asked t q literal (v ∷ s)) refl
+    version-asked = go (wellFormed t q literal (v ∷ s)) refl
       where
-        go : (o : Out Refusal (List (List ℕ))) → asked t q literal (v ∷ s) ≡ o
-            → andThen o (λ ls. andThen (prepared t (v ∷ s) field) (λ d. andThen (audited field d) (λ rows. answered q ls field d))) ≡ andThen o (λ ls. refuse Version)
+        go : (o : Out Refusal (List (List ℕ))) → wellFormed t q literal (v ∷ s) ≡ o
+            → andThen o (λ ls. andThen (prepared t (v ∷ s) field) (λ d. auditedAnswer q ls d (cleared (d .rows) field))) ≡ andThen o (λ ls. refuse Version)
         go (refuse r) e = refl
         go (ok ls) e = rw (version-after ls e)
 
     pub version-asked-buffer : askBuffer t q literal (v ∷ s) field ≡ field
-    unfolding askBuffer ask bufferOf zeroedFrom andThen
-    version-asked-buffer = go (asked t q literal (v ∷ s)) refl
+    unfolding askBuffer ask answerBuffer zeroedFrom andThen
+    version-asked-buffer = go (wellFormed t q literal (v ∷ s)) refl
       where
-        go : (o : Out Refusal (List (List ℕ))) → asked t q literal (v ∷ s) ≡ o
-            → bufferOf (andThen o (λ ls. andThen (prepared t (v ∷ s) field) (λ d. andThen (audited field d) (λ rows. answered q ls field d))))
+        go : (o : Out Refusal (List (List ℕ))) → wellFormed t q literal (v ∷ s) ≡ o
+            → answerBuffer (andThen o (λ ls. andThen (prepared t (v ∷ s) field) (λ d. auditedAnswer q ls d (cleared (d .rows) field))))
             (zeroedFrom (andThen o (λ ls. prepared t (v ∷ s) field)) field) ≡ field
         go (refuse r) e = refl
         go (ok ls) e = rw (version-after ls e)

@@ -6,10 +6,11 @@ use Prim.Native.Nat.{ℕ, _+_, _-_, _≤_, _<_}
 use mathlib.Core.Bool.{true, cond}
 use mathlib.Core.List.{List, [], _∷_, _++_}
 use lib.ListN.{length}
-use Rattle.numbers.specs.Meaning.{All, joined, minusOne}
-use Rattle.roaring.specs.Layout.{Bitmap}
+use Rattle.numbers.specs.Meaning.{All, joined, minusOne, signBit}
+use Rattle.refusal.specs.Meaning.{limit}
+use Rattle.roaring.specs.Layout.{fourBytes, Bitmap}
 use Rattle.stored_value.specs.Meaning.{Cell, null, sameCell}
-use Rattle.dictionary.specs.Layout.{Entry, NullOnly, someHas, Distinct, NoExtents, body1, Rises, NoneEmpty, body2}
+use Rattle.dictionary.specs.Layout.{Entry, NullOnly, someHas, Distinct, NoExtents, body1, Rises, NoneEmpty, body2, mostValues1, mostValues2, mostBlocks}
 use Rattle.bitmap_index.specs.Meaning.{Column}
 
 -- the rows, from r on, whose cell is c
@@ -20,14 +21,14 @@ rowsWith c r (d ∷ cells) = cond (sameCell c d) (r ∷ rowsWith c (r + 1) cells
 -- ---- where an entry's rows are: -1 less the single row, whatever its extent; or where a bitmap begins in the region of bitmaps, anything before and
 -- behind it, its extent -1 or exactly its length
 
-pub data Placed (region rows : List ℕ) (e : Entry) : Type 0 where
-  single : (r : ℕ) → rows ≡ r ∷ [] → r < 2147483648 → e .offset ≡ minusOne - r → e .extent < 4294967296 → Placed region rows e
+pub data EntryRows (region rows : List ℕ) (e : Entry) : Type 0 where
+  single : (r : ℕ) → rows ≡ r ∷ [] → r < signBit → e .offset ≡ minusOne - r → e .extent < fourBytes → EntryRows region rows e
   bitmap : (before bytes behind : List ℕ) → region ≡ before ++ (bytes ++ behind) → Bitmap rows bytes → e .offset ≡ length before
-      → (e .extent ≡ minusOne) ⊎ (e .extent ≡ length bytes) → Placed region rows e
+      → (e .extent ≡ minusOne) ⊎ (e .extent ≡ length bytes) → EntryRows region rows e
 
 -- each entry has exactly the rows of its cell
-abbrev pub AllPlaced : List ℕ → List Cell → List Entry → Type 0
-AllPlaced region cells es = All (λ (e : Entry). Placed region (rowsWith (e .cell) 0 cells) e) es
+abbrev pub ExactRows : List ℕ → List Cell → List Entry → Type 0
+ExactRows region cells es = All (λ (e : Entry). EntryRows region (rowsWith (e .cell) 0 cells) e) es
 
 -- an entry for each of the column's cells (has-null 0: no null rows)
 abbrev pub Covers : List Entry → List Cell → Type 0
@@ -35,14 +36,16 @@ Covers es cells = All (λ (c : Cell). someHas c es ≡ true) cells
 
 -- ---- the bodies of a column of type t, within 01's limits. That the region's numbers are bytes is not asked: a body is a buffer's, and so all bytes
 
--- at most one entry for null; each entry has exactly the rows of its cell; an entry for each of the column's cells
-abbrev pub Kept : List Cell → List ℕ → List Entry → List Entry → Type 0
-Kept cells region nulls es = NullOnly nulls × AllPlaced region cells (nulls ++ es) × Covers (nulls ++ es) cells
+-- "an entry for each of its values, for each entry exactly the rows of that value, and for null the null rows (has-null 0: none)"; null has at most one entry
+pub record ColumnEntries (cells : List Cell) (region : List ℕ) (nulls es : List Entry) : Type 0 where
+  pub null-only : NullOnly nulls
+  pub rows : ExactRows region cells (nulls ++ es)
+  pub covers : Covers (nulls ++ es) cells
 
-pub data Body (t : ℕ) (cells : List Cell) : List ℕ → Type 0 where
-  version1 : (nulls es : List Entry) (region : List ℕ) → Column t cells → Kept cells region nulls es → NoExtents (nulls ++ es) → Distinct t es
-      → length cells ≤ 2147483647 → length es ≤ 4096 → length (body1 (length cells) nulls es region) ≤ 2147483647
-      → Body t cells (body1 (length cells) nulls es region)
-  version2 : (nulls : List Entry) (bs : List (List Entry)) (region : List ℕ) → Column t cells → Kept cells region nulls (joined bs) → NoneEmpty bs → Rises t null (joined bs)
-      → length cells ≤ 2147483647 → length (joined bs) ≤ 65536 → length bs ≤ 65536 → length (body2 (length cells) nulls bs region) ≤ 2147483647
-      → Body t cells (body2 (length cells) nulls bs region)
+pub data ColumnBody (t : ℕ) (cells : List Cell) : List ℕ → Type 0 where
+  version1 : (nulls es : List Entry) (region : List ℕ) → Column t cells → ColumnEntries cells region nulls es → NoExtents (nulls ++ es) → Distinct t es
+      → length cells ≤ limit → length es ≤ mostValues1 → length (body1 (length cells) nulls es region) ≤ limit
+      → ColumnBody t cells (body1 (length cells) nulls es region)
+  version2 : (nulls : List Entry) (bs : List (List Entry)) (region : List ℕ) → Column t cells → ColumnEntries cells region nulls (joined bs) → NoneEmpty bs → Rises t null (joined bs)
+      → length cells ≤ limit → length (joined bs) ≤ mostValues2 → length bs ≤ mostBlocks → length (body2 (length cells) nulls bs region) ≤ limit
+      → ColumnBody t cells (body2 (length cells) nulls bs region)

@@ -20,6 +20,10 @@ Cells t (value v ∷ cells) = Value t v × Cells t cells
 abbrev pub Column : ℕ → List Cell → Type 0
 Column t cells = (t < 12) × Cells t cells
 
+-- how many questions there are
+abbrev pub questions : ℕ
+questions = 6
+
 -- which cells a question chooses. Questions by number: EQUAL 0, NOT EQUAL 1, IN 2, NOT IN 3, IS NULL 4, IS NOT NULL 5
 unfoldable pub chosen : ℕ → List (List ℕ) → Cell → Bool
 chosen q ls null = eqb q 1 || (eqb q 3 || eqb q 4)
@@ -31,7 +35,7 @@ takes q n = cond (ltb q 2) (eqb n 1) (cond (ltb q 4) true (eqb n 0))
 
 -- a well-formed question of a known type: a known name, and literals that fit, in form and number
 abbrev pub Question : ℕ → ℕ → List (List ℕ) → Type 0
-Question t q ls = (t < 12) × (q < 6) × (length ls ≤ 1024) × Literals t ls × (takes q (length ls) ≡ true)
+Question t q ls = (t < 12) × (q < questions) × (length ls ≤ 1024) × Literals t ls × (takes q (length ls) ≡ true)
 
 -- ---- the scan: a zero field and count 0, the rows in order, a chosen row sets its bit and adds 1
 

@@ -1,6 +1,6 @@
 -- What Audit and Ask answer for any bytes (01, "Bitmap body" and "Questions"): their stages in 01's order, each begun only where the one before passed.
 use Prim.Native.Nat.{ℕ}
-use mathlib.Core.Bool.{true, false, not, _&&_, cond}
+use mathlib.Core.Bool.{not, _&&_, cond}
 use mathlib.Core.List.{List, [], _∷_}
 use lib.Dec.{eqb, ltb, leb}
 use lib.IntN.{ℤ, pos, negsuc}
@@ -9,12 +9,10 @@ use Rattle.numbers.specs.Meaning.{signed32, minusOne}
 use Rattle.refusal.specs.declared.Refusal.{Refusal}
 use Rattle.refusal.specs.Meaning.{limit, numberOf}
 use Rattle.refusal.specs.declared.Refusal.the-variants.{Range, Twice, Missing, Room, Literal, Limit}
-use Rattle.row_field.specs.Meaning.{size, bit, mark, count, cleared}
+use Rattle.row_field.specs.Meaning.{size, bit, mark, markAll, anySet, count, cleared}
 use Rattle.roaring.specs.declared.Extent.{Extent}
 use Rattle.roaring.specs.declared.Extent.the-variants.{AsLong, Exactly}
-use Rattle.roaring.specs.declared.Marked.{Marked}
-use Rattle.roaring.specs.declared.Marked.the-variants.{Refused, Done}
-use Rattle.roaring.specs.Reading.{Read, read, marking, fieldAfter}
+use Rattle.roaring.specs.Reading.{measured}
 use Rattle.refusal.specs.Reading.{Out, refuse, ok, check, andThen}
 use Rattle.stored_value.specs.Reading.{literals}
 use Rattle.dictionary.specs.Layout.{Entry}
@@ -23,35 +21,30 @@ use Rattle.bitmap_index.specs.declared.Audited.{Audited}
 use Rattle.bitmap_index.specs.declared.Audited.the-variants.{Rows}
 use Rattle.bitmap_index.specs.declared.Answered.{Answered}
 use Rattle.bitmap_index.specs.declared.Answered.the-variants.{Skip, Keep}
-use Rattle.bitmap_index.specs.Meaning.{chosen, takes, keeps}
+use Rattle.bitmap_index.specs.Meaning.{questions, chosen, takes, keeps}
 
 -- ---- the bitmaps
 
 unfoldable pub extentOf : ℕ → Extent
 extentOf extent = cond (eqb extent minusOne) AsLong (Exactly extent)
 
--- what marking answers, as the audit takes it: a row that was set already is TWICE
-unfoldable pub once : Marked → List ℕ → Out Refusal (List ℕ)
-once (Refused r) field = refuse r
-once (Done long true) field = refuse Twice
-once (Done long false) field = ok field
-
--- a bitmap's rows placed in a field of n rows
-unfoldable pub placeBitmap : Extent → ℕ → Read → List ℕ → Out Refusal (List ℕ)
-placeBitmap extent n bitmap field = once (marking extent n field bitmap) (fieldAfter extent n field bitmap)
+-- a bitmap's rows placed in a field of n rows: BITMAP and RANGE as roaring has them, then TWICE
+unfoldable pub placeBitmap : Extent → ℕ → List ℕ → List ℕ → Out Refusal (List ℕ)
+placeBitmap extent n bytes field =
+    andThen (measured extent n bytes) (λ bitmap. check (not (anySet field (bitmap .rows))) Twice (ok (markAll field (bitmap .rows))))
 
 -- an entry's rows: the single row of a negative offset, or the bitmap at that place of the region
 unfoldable pub placeAt : ℤ → ℕ → ℕ → List ℕ → List ℕ → Out Refusal (List ℕ)
 placeAt (negsuc r) extent n region field = check (ltb r n) Range (check (not (bit field r)) Twice (ok (mark field r)))
-placeAt (pos o) extent n region field = placeBitmap (extentOf extent) n (read (drop o region)) field
+placeAt (pos o) extent n region field = placeBitmap (extentOf extent) n (drop o region) field
 
-unfoldable pub place : ℕ → List ℕ → List ℕ → Entry → Out Refusal (List ℕ)
-place n region field e = placeAt (signed32 (e .offset)) (e .extent) n region field
+unfoldable pub placeEntry : ℕ → List ℕ → List ℕ → Entry → Out Refusal (List ℕ)
+placeEntry n region field e = placeAt (signed32 (e .offset)) (e .extent) n region field
 
--- the rows of all entries, in their order
-unfoldable pub placeAll : ℕ → List ℕ → List Entry → List ℕ → Out Refusal (List ℕ)
-placeAll n region [] field = ok field
-placeAll n region (e ∷ es) field = andThen (place n region field e) (placeAll n region es)
+-- the rows of entries, in their order
+unfoldable pub placeEntries : ℕ → List ℕ → List Entry → List ℕ → Out Refusal (List ℕ)
+placeEntries n region [] field = ok field
+placeEntries n region (e ∷ es) field = andThen (placeEntry n region field e) (placeEntries n region es)
 
 -- ---- Audit: the limit, the type, the dictionary, ROOM; then every bitmap in a zero field, then MISSING
 
@@ -63,13 +56,13 @@ unfoldable pub prepared : ℕ → List ℕ → List ℕ → Out Refusal Dictiona
 prepared t body field =
     check (leb (length body) limit) Limit (check (ltb t 12) Literal (andThen (dictionary t body) (roomFor field)))
 
-unfoldable pub audited : List ℕ → Dictionary → Out Refusal ℕ
-audited field d =
-    andThen (placeAll (d .rows) (d .region) (d .entries) (cleared (d .rows) field)) (λ full.
-    check (eqb (count full (d .rows)) (d .rows)) Missing (ok (d .rows)))
+-- in a field that is zero
+unfoldable pub audited : Dictionary → List ℕ → Out Refusal ℕ
+audited d zero =
+    andThen (placeEntries (d .rows) (d .region) (d .entries) zero) (λ full. check (eqb (count full (d .rows)) (d .rows)) Missing (ok (d .rows)))
 
 unfoldable pub audit : ℕ → List ℕ → List ℕ → Out Refusal ℕ
-audit t body field = andThen (prepared t body field) (audited field)
+audit t body field = andThen (prepared t body field) (λ d. audited d (cleared (d .rows) field))
 
 -- the buffer then: as it was up to and at ROOM, and with the field's bytes zero from there on
 unfoldable pub zeroedFrom : Out Refusal Dictionary → List ℕ → List ℕ
@@ -90,29 +83,35 @@ pub record Answer : Type 0 where
   pub buffer : List ℕ
   pub matched : ℕ
 
-unfoldable pub answered : ℕ → List (List ℕ) → List ℕ → Dictionary → Out Refusal Answer
-answered q ls field d =
-    andThen (placeAll (d .rows) (d .region) (chosenOf q ls (d .entries)) (cleared (d .rows) field)) (λ marked.
-    ok (record { buffer = marked; matched = count marked (d .rows) }))
+-- in a field that is zero
+unfoldable pub answered : ℕ → List (List ℕ) → Dictionary → List ℕ → Out Refusal Answer
+answered q ls d zero =
+    andThen (placeEntries (d .rows) (d .region) (chosenOf q ls (d .entries)) zero) (λ field. ok (record { buffer = field; matched = count field (d .rows) }))
 
--- the limits, the type and the question, then the literals and their number
-unfoldable pub asked : ℕ → ℕ → List ℕ → List ℕ → Out Refusal (List (List ℕ))
-asked t q literal body =
-    check (leb (length body) limit && leb (length literal) limit) Limit (check (ltb t 12 && ltb q 6) Literal
+unfoldable pub auditedAnswer : ℕ → List (List ℕ) → Dictionary → List ℕ → Out Refusal Answer
+auditedAnswer q ls d zero = andThen (audited d zero) (λ rows. answered q ls d zero)
+
+-- the limits, the type and the question, then the literals and their number: whether the question is well-formed
+unfoldable pub wellFormed : ℕ → ℕ → List ℕ → List ℕ → Out Refusal (List (List ℕ))
+wellFormed t q literal body =
+    check (leb (length body) limit && leb (length literal) limit) Limit (check (ltb t 12 && ltb q questions) Literal
     (andThen (literals t 1024 [] literal) (λ ls. check (takes q (length ls)) Literal (ok ls))))
 
 unfoldable pub ask : ℕ → ℕ → List ℕ → List ℕ → List ℕ → Out Refusal Answer
 ask t q literal body field =
-    andThen (asked t q literal body) (λ ls. andThen (prepared t body field) (λ d. andThen (audited field d) (λ rows. answered q ls field d)))
+    andThen (wellFormed t q literal body) (λ ls. andThen (prepared t body field) (λ d. auditedAnswer q ls d (cleared (d .rows) field)))
 
-unfoldable pub bufferOf : Out Refusal Answer → List ℕ → List ℕ
-bufferOf (refuse r) otherwise = otherwise
-bufferOf (ok a) otherwise = a .buffer
+-- the buffer then: the answer's, and with a refusal as Audit's, untouched where the question is refused
+unfoldable pub answerBuffer : Out Refusal Answer → List ℕ → List ℕ
+answerBuffer (refuse r) otherwise = otherwise
+answerBuffer (ok a) otherwise = a .buffer
 
 unfoldable pub askBuffer : ℕ → ℕ → List ℕ → List ℕ → List ℕ → List ℕ
-askBuffer t q literal body field = bufferOf (ask t q literal body field) (zeroedFrom (andThen (asked t q literal body) (λ ls. prepared t body field)) field)
+askBuffer t q literal body field =
+    answerBuffer (ask t q literal body field) (zeroedFrom (andThen (wellFormed t q literal body) (λ ls. prepared t body field)) field)
 
--- ---- the calls' answers, and their numbers: the answer's, 0 for accepted and else the refusal's in 01's table; then the count, 0 with a refusal
+-- ---- the calls' answers, and their numbers: the answer's, 0 for accepted and else the refusal's in 01's table; then the count, 0 with a refusal. What the
+-- numbers are is said by refusal's `numbersOf` of the reading, `auditNumbers` and `askNumbers` being those of what was accepted
 
 -- Audit: a refusal, or the row count
 unfoldable pub auditedBy : Out Refusal ℕ → Audited
@@ -123,18 +122,18 @@ unfoldable pub auditOut : Audited → ℕ × ℕ
 auditOut (Audited.Refused r) = (numberOf r, 0)
 auditOut (Rows n) = (0, n)
 
--- Ask: a refusal, or skip where no row is chosen, else keep and how many are
+abbrev pub auditNumbers : ℕ → ℕ × ℕ
+auditNumbers n = (0, n)
+
+-- Ask: a refusal, or skip where no row is chosen, else keep and how many are; skip and keep have the number 0, and a count of 0 is skip
 unfoldable pub answeredBy : Out Refusal Answer → Answered
 answeredBy (refuse r) = Answered.Refused r
 answeredBy (ok a) = cond (keeps (a .matched)) (Keep (a .matched)) Skip
 
--- skip and keep have the number 0; a count of 0 is skip
 unfoldable pub askOut : Answered → ℕ × ℕ
 askOut (Answered.Refused r) = (numberOf r, 0)
 askOut Skip = (0, 0)
 askOut (Keep n) = (0, n)
 
--- the number and the count that a reading stands for: what the two calls' numbers are said to be
-unfoldable pub numbersOf : Out Refusal ℕ → ℕ × ℕ
-numbersOf (refuse r) = (numberOf r, 0)
-numbersOf (ok n) = (0, n)
+abbrev pub askNumbers : Answer → ℕ × ℕ
+askNumbers a = (0, a .matched)

@@ -1,22 +1,18 @@
 // The bitmap body of one column (document 01, "Bitmap body" and "Questions"): Audit and Ask.
 ghost use mathlib.Core.Path.{_≡_};
-ghost use mathlib.Core.List.{List, [], _∷_, _++_};
+ghost use mathlib.Core.List.{List, []};
 ghost use Prim.Native.Nat.{ℕ, _<_, _≤_};
 ghost use lib.IntN.{pos, negsuc};
 ghost use lib.ListN.{length};
-ghost use Rattle.refusal.specs.Reading.{ok, andThen};
-ghost use Rattle.row_field.specs.Meaning.{cleared};
 ghost use Rattle.stored_value.specs.Meaning.{null, value};
-ghost use Rattle.dictionary.specs.Promises.{nullsOf, firstLeft, entryAt};
-ghost use Rattle.dictionary.specs.Layout.{Entry};
+ghost use Rattle.dictionary.specs.Promises.{IsRead};
 ghost use Rattle.bitmap_index.specs.Meaning as meaning;
-ghost use Rattle.bitmap_index.specs.Reading.{extentOf, placeAt, audited, auditBuffer, chosenOf, asked, askBuffer, auditedBy, auditOut, answeredBy, askOut, numbersOf};
-ghost use Rattle.bitmap_index.specs.Reading as reading;
-ghost use Rattle.bitmap_index.specs.Promises as code;
-ghost use Rattle.bitmap_index.specs.Promises.{Placing, placeOf, picked, ReadAs, Laid, Sound, dictionaryOf, filled, answerOf, Readied, Asks, Answers, answeredAfter};
+ghost use Rattle.bitmap_index.specs.Reading.{extentOf, placeAt};
+ghost use Rattle.bitmap_index.specs.Promises as promises;
+ghost use Rattle.bitmap_index.specs.Promises.{AuditPromise, AskPromise, ForDictionary, Prepares, ForLiterals, TestsQuestion, Places, EntryInside, PlacesEntry, PlacesNull, PlacesValues, PlacesEntries, AuditsZero, AuditsField, AnswersZero, AnswersField};
 use dictionary::Checked;
 use dictionary::EntryAt;
-use dictionary::Head;
+use dictionary::Summary;
 use numbers::Position;
 use numbers::Row;
 use refusal::Refusal;
@@ -24,15 +20,10 @@ use roaring::Extent;
 use roaring::Marked;
 use stored_value::Counted;
 
-// The longest input buffer, and how many types and questions there are (document 01, "Limits", "The table of widths", "Questions").
-const MOST_BYTES: usize = 2_147_483_647;
-
+// How many types and questions there are (document 01, "The table of widths", "Questions").
 const TYPES: u32 = 12;
 
 const QUESTIONS: u32 = 6;
-
-// An extent of -1.
-const AS_LONG: u64 = 4_294_967_295;
 
 // What Audit answers: a refusal, or the row count.
 pub enum Audited {
@@ -53,9 +44,16 @@ enum Outcome {
     Done,
 }
 
+// Which entries' rows are placed: those of every entry for an audit, and for an answer those of the entries that a question chooses. The question's literals
+// stand beside it, since an enum can't hold a slice.
+enum Entries {
+    Every,
+    Chosen(u32),
+}
+
 // Places a single row in a field for `rows` rows: RANGE, TWICE.
 fn place_row(field: &mut [u8], row: Row, rows: u64) -> Outcome
-    ensures { λ r. ⌜ Placing rows r (placeAt (negsuc (row .0)) 0 rows [] (now (field .entry))) (now (field .entry)) (now (field .exit)) ⌝ }
+    ensures { λ r. ⌜ Places rows (placeAt (negsuc (row .0)) 0 rows []) (now (field .entry)) (now (field .exit)) r ⌝ }
 {
     let number = row.0;
     if rows <= number {
@@ -71,7 +69,7 @@ fn place_row(field: &mut [u8], row: Row, rows: u64) -> Outcome
 fn extent_of(extent: u64) -> Extent
     ensures { λ r. ⌜ r ≡ extentOf extent ⌝ }
 {
-    if extent == AS_LONG {
+    if extent == numbers::MINUS_ONE {
         return Extent::AsLong;
     }
     Extent::Exactly(extent as usize)
@@ -79,7 +77,7 @@ fn extent_of(extent: u64) -> Extent
 
 // Places the rows of the bitmap at a position of the region of bitmaps: BITMAP, RANGE, TWICE.
 fn place_bitmap(field: &mut [u8], region: &[u8], at: Position, extent: u64, rows: u64) -> Outcome
-    ensures { λ r. ⌜ Placing rows r (placeAt (pos (at .0)) extent rows (now (region .entry)) (now (field .entry))) (now (field .entry)) (now (field .exit)) ⌝ }
+    ensures { λ r. ⌜ Places rows (placeAt (pos (at .0)) extent rows (now (region .entry))) (now (field .entry)) (now (field .exit)) r ⌝ }
 {
     let offset = at.0;
     if region.len() < offset {
@@ -98,8 +96,8 @@ fn place_bitmap(field: &mut [u8], region: &[u8], at: Position, extent: u64, rows
 }
 
 // Places an entry's rows. A negative offset stands for the single row -1 - offset, and its extent isn't looked at.
-fn place(field: &mut [u8], region: &[u8], offset: i32, extent: u64, rows: u64) -> Outcome
-    ensures { λ r. ⌜ Placing rows r (placeAt offset extent rows (now (region .entry)) (now (field .entry))) (now (field .entry)) (now (field .exit)) ⌝ }
+fn place_at(field: &mut [u8], region: &[u8], offset: i32, extent: u64, rows: u64) -> Outcome
+    ensures { λ r. ⌜ Places rows (placeAt offset extent rows (now (region .entry))) (now (field .entry)) (now (field .exit)) r ⌝ }
 {
     if offset < 0 {
         return place_row(field, Row((-1 - offset) as u64), rows);
@@ -109,7 +107,7 @@ fn place(field: &mut [u8], region: &[u8], offset: i32, extent: u64, rows: u64) -
 
 // Whether the question chooses the value v: EQUAL 0, NOT EQUAL 1, IN 2, NOT IN 3, IS NULL 4, IS NOT NULL 5.
 fn chosen(question: u32, v: &[u8], literals: &[u8], t: u32) -> bool
-    ensures { λ r. ⌜ ((ls : List (List ℕ)) → ReadAs t (now (literals .entry)) ls → r ≡ meaning.chosen question ls (value (now (v .entry)))) ⌝ }
+    ensures { λ r. ⌜ ForLiterals t (now (literals .entry)) (λ ls. r ≡ meaning.chosen question ls (value (now (v .entry)))) ⌝ }
 {
     match question {
         0 | 2 => stored_value::listed(v, literals, t),
@@ -129,167 +127,152 @@ fn chosen_null(question: u32) -> bool
     }
 }
 
-// Whether an entry of the value v is placed.
-fn picks(all: bool, question: u32, v: &[u8], literals: &[u8], t: u32) -> bool
-    ensures { λ r. ⌜ ((ls : List (List ℕ)) → ReadAs t (now (literals .entry)) ls → r ≡ code.picks all question ls (value (now (v .entry)))) ⌝ }
+// Whether the entry of the value v is among those whose rows are placed.
+fn among(which: Entries, v: &[u8], literals: &[u8], t: u32) -> bool
+    ensures { λ r. ⌜ ForLiterals t (now (literals .entry)) (λ ls. r ≡ promises.among which ls (value (now (v .entry)))) ⌝ }
 {
-    if all {
-        return true;
+    match which {
+        Entries::Every => true,
+        Entries::Chosen(question) => chosen(question, v, literals, t),
     }
-    chosen(question, v, literals, t)
 }
 
-// Whether null's entry is placed.
-fn picks_null(all: bool, question: u32) -> bool
-    ensures { λ r. ⌜ ((ls : List (List ℕ)) → r ≡ code.picks all question ls null) ⌝ }
+// Whether null's entry is.
+fn null_among(which: Entries) -> bool
+    ensures { λ r. ⌜ ((ls : List (List ℕ)) → r ≡ promises.among which ls null) ⌝ }
 {
-    if all {
-        return true;
+    match which {
+        Entries::Every => true,
+        Entries::Chosen(question) => chosen_null(question),
     }
-    chosen_null(question)
-}
-
-// The entries left in the open block before the first entry: in version 2 a block's number is due.
-fn first_left(head: Head) -> u64
-    ensures { λ r. ⌜ r ≡ firstLeft head ⌝ }
-{
-    if head.two {
-        return 0;
-    }
-    head.count
 }
 
 // Places the rows of one entry, if they are to be placed.
 fn place_entry(
     field: &mut [u8],
     body: &[u8],
-    head: Head,
+    summary: Summary,
     entry: EntryAt,
     t: u32,
-    all: bool,
-    question: u32,
+    which: Entries,
     literals: &[u8],
 ) -> Outcome
-    requires { ⌜ (head .region .0 ≤ length (now body)) × (entry .start .0 ≤ entry .end .0) × (entry .end .0 ≤ length (now body)) ⌝ }
-    ensures { λ r. ⌜ ((ls : List (List ℕ)) → ReadAs t (now (literals .entry)) ls → Placing (head .rows) r (placeOf head (now (body .entry)) (picked all question ls (entryAt (now (body .entry)) entry ∷ [])) (now (field .entry))) (now (field .entry)) (now (field .exit))) ⌝ }
+    requires { ⌜ EntryInside (now body) summary entry ⌝ }
+    ensures { λ r. ⌜ PlacesEntry t (now (body .entry)) summary entry which (now (literals .entry)) (now (field .entry)) (now (field .exit)) r ⌝ }
 {
     let start = entry.start.0;
     let end = entry.end.0;
-    if !picks(all, question, &body[start..end], literals, t) {
+    if !among(which, &body[start..end], literals, t) {
         return Outcome::Done;
     }
-    let region = head.region.0;
-    place(
+    let region = summary.region.0;
+    place_at(
         field,
         &body[region..],
         entry.offset,
         entry.extent,
-        head.rows,
+        summary.rows,
     )
 }
 
 // Places null's rows, if it has an entry and they are to be placed.
-fn place_null(field: &mut [u8], body: &[u8], head: Head, all: bool, question: u32) -> Outcome
-    requires { ⌜ head .region .0 ≤ length (now body) ⌝ }
-    ensures { λ r. ⌜ ((ls : List (List ℕ)) → Placing (head .rows) r (placeOf head (now (body .entry)) (picked all question ls (nullsOf head)) (now (field .entry))) (now (field .entry)) (now (field .exit))) ⌝ }
+fn place_null(field: &mut [u8], body: &[u8], summary: Summary, which: Entries) -> Outcome
+    requires { ⌜ summary .region .0 ≤ length (now body) ⌝ }
+    ensures { λ r. ⌜ PlacesNull (now (body .entry)) summary which (now (field .entry)) (now (field .exit)) r ⌝ }
 {
-    if !head.has_null {
+    if !summary.has_null {
         return Outcome::Done;
     }
-    if !picks_null(all, question) {
+    if !null_among(which) {
         return Outcome::Done;
     }
-    let region = head.region.0;
-    place(
+    let region = summary.region.0;
+    place_at(
         field,
         &body[region..],
-        head.null_offset,
-        head.null_extent,
-        head.rows,
+        summary.null_offset,
+        summary.null_extent,
+        summary.rows,
     )
 }
 
 // Places the rows of the values' entries, in their order.
-fn place_entries(
+fn place_values(
     field: &mut [u8],
     body: &[u8],
-    head: Head,
+    summary: Summary,
     t: u32,
-    all: bool,
-    question: u32,
+    which: Entries,
     literals: &[u8],
 ) -> Outcome
-    requires { ⌜ Sound t (now body) head ⌝ }
-    ensures { λ r. ⌜ ((es : List Entry) (ls : List (List ℕ)) → Laid t (now (body .entry)) head es → ReadAs t (now (literals .entry)) ls → Placing (head .rows) r (placeOf head (now (body .entry)) (picked all question ls es) (now (field .entry))) (now (field .entry)) (now (field .exit))) ⌝ }
+    requires { ⌜ IsRead t (now body) summary ⌝ }
+    ensures { λ r. ⌜ PlacesValues t (now (body .entry)) summary which (now (literals .entry)) (now (field .entry)) (now (field .exit)) r ⌝ }
 {
-    let mut at = head.entries;
-    let mut left = first_left(head);
+    let mut cursor = summary.first;
     let mut i: u64 = 0;
-    while i < head.count {
-        let entry = dictionary::next(body, t, head.two, at, left);
-        let placed = place_entry(field, body, head, entry, t, all, question, literals);
+    while i < summary.values {
+        let entry = dictionary::next(body, t, summary.version2, cursor);
+        let placed = place_entry(field, body, summary, entry, t, which, literals);
         if let Outcome::Refused(r) = placed {
             return Outcome::Refused(r);
         }
-        at = entry.next_at;
-        left = entry.left;
+        cursor = entry.next;
         i += 1;
     }
     Outcome::Done
 }
 
 // Places the rows of all entries, or of those that the question chooses: null's first, then the values' in their order.
-fn place_all(
+fn place_entries(
     field: &mut [u8],
     body: &[u8],
-    head: Head,
+    summary: Summary,
     t: u32,
-    all: bool,
-    question: u32,
+    which: Entries,
     literals: &[u8],
 ) -> Outcome
-    requires { ⌜ Sound t (now body) head ⌝ }
-    ensures { λ r. ⌜ ((es : List Entry) (ls : List (List ℕ)) → Laid t (now (body .entry)) head es → ReadAs t (now (literals .entry)) ls → Placing (head .rows) r (placeOf head (now (body .entry)) (picked all question ls (nullsOf head ++ es)) (now (field .entry))) (now (field .entry)) (now (field .exit))) ⌝ }
+    requires { ⌜ IsRead t (now body) summary ⌝ }
+    ensures { λ r. ⌜ PlacesEntries t (now (body .entry)) summary which (now (literals .entry)) (now (field .entry)) (now (field .exit)) r ⌝ }
 {
-    let placed = place_null(field, body, head, all, question);
+    let placed = place_null(field, body, summary, which);
     match placed {
         Outcome::Refused(r) => Outcome::Refused(r),
-        Outcome::Done => place_entries(field, body, head, t, all, question, literals),
+        Outcome::Done => place_values(field, body, summary, t, which, literals),
     }
 }
 
 // Places the rows of every entry in a field that is clear, and tests that no row is missing.
-fn fill(field: &mut [u8], body: &[u8], head: Head, t: u32) -> Audited
-    requires { ⌜ Sound t (now body) head ⌝ }
-    ensures { λ r. ⌜ ((es : List Entry) → Laid t (now (body .entry)) head es → (r ≡ auditedBy (filled (head .rows) (placeOf head (now (body .entry)) (nullsOf head ++ es) (now (field .entry))))) × (cleared (head .rows) (now (field .exit)) ≡ cleared (head .rows) (now (field .entry)))) ⌝ }
+fn audit_zero(field: &mut [u8], body: &[u8], summary: Summary, t: u32) -> Audited
+    requires { ⌜ IsRead t (now body) summary ⌝ }
+    ensures { λ r. ⌜ ForDictionary t (now (body .entry)) summary (λ d. AuditsZero d (now (field .entry)) (now (field .exit)) r) ⌝ }
 {
-    let placed = place_all(field, body, head, t, true, 0, &body[0..0]);
+    let placed = place_entries(field, body, summary, t, Entries::Every, &body[0..0]);
     if let Outcome::Refused(r) = placed {
         return Audited::Refused(r);
     }
-    if row_field::count(field, head.rows) != head.rows {
+    if row_field::count(field, summary.rows) != summary.rows {
         return Audited::Refused(Refusal::Missing);
     }
-    Audited::Rows(head.rows)
+    Audited::Rows(summary.rows)
 }
 
 // Audits the bitmaps of a dictionary in a field that has room, and leaves the field zero.
-fn audit_field(field: &mut [u8], body: &[u8], head: Head, t: u32) -> Audited
-    requires { ⌜ Sound t (now body) head ⌝ }
-    ensures { λ r. ⌜ ((es : List Entry) → Laid t (now (body .entry)) head es → (r ≡ auditedBy (audited (now (field .entry)) (dictionaryOf (now (body .entry)) head es))) × (now (field .exit) ≡ cleared (head .rows) (now (field .entry)))) ⌝ }
+fn audit_field(field: &mut [u8], body: &[u8], summary: Summary, t: u32) -> Audited
+    requires { ⌜ IsRead t (now body) summary ⌝ }
+    ensures { λ r. ⌜ ForDictionary t (now (body .entry)) summary (λ d. AuditsField d (now (field .entry)) (now (field .exit)) r) ⌝ }
 {
-    let rows = head.rows;
+    let rows = summary.rows;
     row_field::clear(field, rows);
-    let answer = fill(field, body, head, t);
+    let answer = audit_zero(field, body, summary, t);
     row_field::clear(field, rows);
     answer
 }
 
 // The limit, the type, the dictionary, ROOM: all that comes before a byte of the field is written.
 fn prepare(body: &[u8], t: u32, field: &[u8]) -> Checked
-    ensures { λ r. ⌜ Readied t (now (body .entry)) (now (field .entry)) r ⌝ }
+    ensures { λ r. ⌜ Prepares t (now (body .entry)) (now (field .entry)) r ⌝ }
 {
-    if MOST_BYTES < body.len() {
+    if refusal::LIMIT < body.len() as u64 {
         return Checked::Refused(Refusal::Limit);
     }
     if TYPES <= t {
@@ -298,11 +281,11 @@ fn prepare(body: &[u8], t: u32, field: &[u8]) -> Checked
     let checked = dictionary::read(body, t);
     match checked {
         Checked::Refused(r) => Checked::Refused(r),
-        Checked::Found(head) => {
-            if !row_field::has_room(field, head.rows) {
+        Checked::Found(summary) => {
+            if !row_field::has_room(field, summary.rows) {
                 return Checked::Refused(Refusal::Room);
             }
-            Checked::Found(head)
+            Checked::Found(summary)
         }
     }
 }
@@ -310,12 +293,12 @@ fn prepare(body: &[u8], t: u32, field: &[u8]) -> Checked
 // Audit (document 01): every rule of the body as a column of type t, in a field with room for its rows. A refusal up to and at ROOM leaves the buffer as it
 // was, and any other answer the field zero.
 pub fn audit(body: &[u8], t: u32, field: &mut [u8]) -> Audited
-    ensures { λ r. ⌜ (r ≡ auditedBy (reading.audit t (now (body .entry)) (now (field .entry)))) × (now (field .exit) ≡ auditBuffer t (now (body .entry)) (now (field .entry))) × (auditOut r ≡ numbersOf (reading.audit t (now (body .entry)) (now (field .entry)))) ⌝ }
+    ensures { λ r. ⌜ AuditPromise t (now (body .entry)) (now (field .entry)) (now (field .exit)) r ⌝ }
 {
     let prepared = prepare(body, t, field);
     match prepared {
         Checked::Refused(r) => Audited::Refused(r),
-        Checked::Found(head) => audit_field(field, body, head, t),
+        Checked::Found(summary) => audit_field(field, body, summary, t),
     }
 }
 
@@ -334,12 +317,12 @@ fn takes(question: u32, count: u64) -> bool
 
 // The limits, the type and the question, then the literals and their number.
 fn test_question(body: &[u8], t: u32, question: u32, literals: &[u8]) -> Outcome
-    ensures { λ r. ⌜ Asks r t (now (literals .entry)) (asked t question (now (literals .entry)) (now (body .entry))) ⌝ }
+    ensures { λ r. ⌜ TestsQuestion t question (now (literals .entry)) (now (body .entry)) r ⌝ }
 {
-    if MOST_BYTES < body.len() {
+    if refusal::LIMIT < body.len() as u64 {
         return Outcome::Refused(Refusal::Limit);
     }
-    if MOST_BYTES < literals.len() {
+    if refusal::LIMIT < literals.len() as u64 {
         return Outcome::Refused(Refusal::Limit);
     }
     if TYPES <= t {
@@ -361,23 +344,23 @@ fn test_question(body: &[u8], t: u32, question: u32, literals: &[u8]) -> Outcome
 }
 
 // Places the rows of each chosen entry in a field that is clear, and counts them. After an audit none is refused.
-fn answer(
+fn answer_zero(
     field: &mut [u8],
     body: &[u8],
-    head: Head,
+    summary: Summary,
     t: u32,
     question: u32,
     literals: &[u8],
 ) -> Answered
-    requires { ⌜ Sound t (now body) head ⌝ }
-    ensures { λ r. ⌜ ((es : List Entry) (ls : List (List ℕ)) → Laid t (now (body .entry)) head es → ReadAs t (now (literals .entry)) ls → Answers r (answerOf (head .rows) (placeOf head (now (body .entry)) (chosenOf question ls (nullsOf head ++ es)) (now (field .entry)))) (cleared (head .rows) (now (field .entry))) (now (field .exit))) ⌝ }
+    requires { ⌜ IsRead t (now body) summary ⌝ }
+    ensures { λ r. ⌜ ForDictionary t (now (body .entry)) summary (λ d. AnswersZero t question (now (literals .entry)) d (now (field .entry)) (now (field .exit)) r) ⌝ }
 {
-    let placed = place_all(field, body, head, t, false, question, literals);
+    let placed = place_entries(field, body, summary, t, Entries::Chosen(question), literals);
     if let Outcome::Refused(r) = placed {
-        row_field::clear(field, head.rows);
+        row_field::clear(field, summary.rows);
         return Answered::Refused(r);
     }
-    let matched = row_field::count(field, head.rows);
+    let matched = row_field::count(field, summary.rows);
     if matched == 0 {
         return Answered::Skip;
     }
@@ -388,25 +371,25 @@ fn answer(
 fn ask_field(
     field: &mut [u8],
     body: &[u8],
-    head: Head,
+    summary: Summary,
     t: u32,
     question: u32,
     literals: &[u8],
 ) -> Answered
-    requires { ⌜ Sound t (now body) head ⌝ }
-    ensures { λ r. ⌜ ((es : List Entry) (ls : List (List ℕ)) → Laid t (now (body .entry)) head es → ReadAs t (now (literals .entry)) ls → Answers r (answeredAfter question ls (now (field .entry)) (dictionaryOf (now (body .entry)) head es)) (cleared (head .rows) (now (field .entry))) (now (field .exit))) ⌝ }
+    requires { ⌜ IsRead t (now body) summary ⌝ }
+    ensures { λ r. ⌜ ForDictionary t (now (body .entry)) summary (λ d. AnswersField t question (now (literals .entry)) d (now (field .entry)) (now (field .exit)) r) ⌝ }
 {
-    let audit = audit_field(field, body, head, t);
+    let audit = audit_field(field, body, summary, t);
     match audit {
         Audited::Refused(r) => Answered::Refused(r),
-        Audited::Rows(_) => answer(field, body, head, t, question, literals),
+        Audited::Rows(_) => answer_zero(field, body, summary, t, question, literals),
     }
 }
 
 // Ask (document 01): tests the literals, audits the whole body, then says skip where no row is chosen, and else keep and how many are. The rows are then
 // set in the field, and no others; a refusal leaves the buffer as Audit's does.
 pub fn ask(body: &[u8], t: u32, question: u32, literals: &[u8], field: &mut [u8]) -> Answered
-    ensures { λ r. ⌜ (r ≡ answeredBy (reading.ask t question (now (literals .entry)) (now (body .entry)) (now (field .entry)))) × (now (field .exit) ≡ askBuffer t question (now (literals .entry)) (now (body .entry)) (now (field .entry))) × (askOut r ≡ numbersOf (andThen (reading.ask t question (now (literals .entry)) (now (body .entry)) (now (field .entry))) (λ a. ok (a .matched)))) ⌝ }
+    ensures { λ r. ⌜ AskPromise t question (now (literals .entry)) (now (body .entry)) (now (field .entry)) (now (field .exit)) r ⌝ }
 {
     let tested = test_question(body, t, question, literals);
     if let Outcome::Refused(r) = tested {
@@ -415,6 +398,6 @@ pub fn ask(body: &[u8], t: u32, question: u32, literals: &[u8], field: &mut [u8]
     let prepared = prepare(body, t, field);
     match prepared {
         Checked::Refused(r) => Answered::Refused(r),
-        Checked::Found(head) => ask_field(field, body, head, t, question, literals),
+        Checked::Found(summary) => ask_field(field, body, summary, t, question, literals),
     }
 }

@@ -1,6 +1,5 @@
 -- Eight steps of a register are a table's entry for its low byte, xor-ed to its upper bytes: a step respects xor, and eight steps of
 -- a number whose low byte is 0 only shift it.
---
 use mathlib.Core.Path.{_≡_, refl, sym, ap, ap₂, _∙_}
 use mathlib.Core.List.{List}
 use Prim.Native.Nat.{ℕ, zero, suc, _+_, _*_, _/_, _%_, _^_, _<_, _≤_}

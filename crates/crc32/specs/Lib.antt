@@ -1,1 +1,3 @@
+-- What CRC-32 is, and check values of it.
 pub mod Meaning
+pub mod Claims

@@ -1,5 +1,4 @@
 -- CRC-32 as java.util.zip.CRC32 computes it, a bit at a time (01, Deletion file: "The checksum is Java's CRC-32 of the bin").
---
 use Prim.Native.Nat.{ℕ, zero, suc, _/_, _%_}
 use mathlib.Core.List.{List, [], _∷_}
 use lib.Bits.{bitXor}

@@ -1,61 +1,48 @@
 -- What is accepted was laid out: the steps to it, from the answer back to the bytes.
-use Prim.Native.Nat.{ℕ, zero, suc, _+_, _≤_}
+use Prim.Native.Nat.{ℕ, zero, suc, _≤_}
 use mathlib.Core.Path.{_≡_, refl, sym, ap, _∙_}
-use mathlib.Core.Bool.{Bool, true, false}
 use mathlib.Core.List.{List, [], _∷_, _++_, append-nil}
 use native.Mathlib.Omega.{arith}
 use lib.Dec.{eqb, leb}
 use lib.ListN.{length, drop, getD, length-append}
+use lib.Seq.{take-append-seam, drop-append-seam}
 use borrow.Author.Tests.{leb-true, eqb-true}
-use Rattle.numbers.specs.Meaning.{be, beAt, big, All, Bytes}
-use Rattle.numbers.proofs.ByteLists.{bytes-drop}
+use Rattle.numbers.specs.Meaning.{be, big, All, Bytes}
+use Rattle.numbers.proofs.ByteLists.{bytes-take, bytes-drop}
 use Rattle.numbers.proofs.Laws.{numberAt-back}
+use Rattle.refusal.specs.Meaning.{limit}
 use Rattle.refusal.specs.declared.Refusal.{Refusal}
-use Rattle.refusal.specs.declared.Refusal.the-variants.{Short, Magic, Version, Bitmap, Range, Checksum}
+use Rattle.refusal.specs.declared.Refusal.the-variants.{Short, Version, Room, Limit}
 use Rattle.crc32.specs.Meaning.{checksum}
-use Rattle.row_field.specs.Meaning.{markAll, anySet, count}
-use Rattle.row_field.proofs.Marks.{Below}
+use Rattle.row_field.specs.Meaning.{size, markAll, cleared, Below}
 use Rattle.roaring.specs.declared.Extent.the-variants.{Exactly}
-use Rattle.roaring.specs.declared.Marked.the-variants.{Refused, Done}
-use Rattle.roaring.specs.Layout as roaring
-use Rattle.roaring.specs.Reading.{Read, refused, got, read, choose, anyFrom, fits, marking, fieldAfter}
+use Rattle.roaring.specs.Layout.{Bitmap}
+use Rattle.roaring.specs.Reading.{lengthIs, measured}
+use Rattle.roaring.proofs.Measured.{measured-back}
 use Rattle.roaring.proofs.Theorems.{read-was-laid-out}
 use Rattle.deletion_file.specs.declared.Deletions.the-variants.{Deleted}
-use Rattle.deletion_file.specs.Layout.{Bin, magic, binOf, frames, Framed}
+use Rattle.deletion_file.specs.Layout.{Bin, binBytes, binOf, frames, Framed}
 use Rattle.refusal.specs.Reading.{Out, refuse, ok, andThen}
-use Rattle.deletion_file.specs.Reading.{bins, asked, opened, bitmapOf, Outcome, untouched, zeroed, marked, before, markedBy, bitmapIn, answerOf}
-use Rattle.refusal.proofs.Laws.{not-ok, check-ok, then-ok}
-use Rattle.deletion_file.proofs.Frames.{nothing, walk-passed}
-use Rattle.deletion_file.proofs.Fields.{any-below}
+use Rattle.deletion_file.specs.Reading.{bins, binNumbered, binIn, afterMagic, bitmapIn, markBitmap, deletionsReady, deletionsBy}
+use Rattle.refusal.proofs.Laws.{not-ok, ok-same, check-ok, then-ok}
+use Rattle.deletion_file.proofs.BinSteps.{magic-back}
+use Rattle.deletion_file.proofs.Frames.{Between, between-first, between-next, nothing, walk-passed}
 
 -- ---- bytes of a part
 
 bytes-left : (x y : List ℕ) → Bytes (x ++ y) → Bytes x
-bytes-left [] y b i = omega arith
-bytes-left (a ∷ x) y b zero = b 0
-bytes-left (a ∷ x) y b (suc i) = bytes-left x y (λ j. b (suc j)) i
+bytes-left x y b = rw (take-append-seam x y) at (bytes-take (length x) (x ++ y) b)
 
 bytes-right : (x y : List ℕ) → Bytes (x ++ y) → Bytes y
-bytes-right [] y b = b
-bytes-right (a ∷ x) y b = bytes-right x y (λ j. b (suc j))
+bytes-right x y b = rw (drop-append-seam x y) at (bytes-drop (length x) (x ++ y) b)
 
--- ---- the asked bin among the bins
+-- ---- a bin among the bins
 
-pub record Placed (xs : List Bin) (b : ℕ) (x : Bin) : Type 0 where
-  pub earlier : List Bin
-  pub later : List Bin
-  pub place : length earlier ≡ b
-  pub cut : xs ≡ earlier ++ (x ∷ later)
-
-asked-placed : (b : ℕ) (xs : List Bin) {x : Bin} → asked b xs ≡ ok x → Placed xs b x
-unfolding asked
-asked-placed b [] e = absurd (not-ok e)
-asked-placed zero (y ∷ ys) {x} e =
-    let f : y ≡ x = cc in
-    record { earlier = []; later = ys; place = refl; cut = rw f }
-asked-placed (suc b) (y ∷ ys) e =
-    let i = asked-placed b ys e in
-    record { earlier = y ∷ i .earlier; later = i .later; place = ap suc (i .place); cut = ap (λ (zs : List Bin). y ∷ zs) (i .cut) }
+bin-between : (b : ℕ) (xs : List Bin) {x : Bin} → binNumbered b xs ≡ ok x → Between xs b x
+unfolding binNumbered
+bin-between b [] e = absurd (not-ok e)
+bin-between zero (y ∷ ys) e = rw (← ok-same _ _ e) (between-first y ys)
+bin-between (suc b) (y ∷ ys) e = between-next y (bin-between b ys e)
 
 framed-at : (ys : List Bin) (x : Bin) (zs : List Bin) → All Framed (ys ++ (x ∷ zs)) → 4 ≤ length (x .bytes)
 framed-at [] x zs f = f .0 .0
@@ -70,119 +57,105 @@ bytes-at : (ys : List Bin) (x : Bin) (zs : List Bin) → Bytes (frames (ys ++ (x
 bytes-at [] x zs b = bytes-first x (frames zs) b .0
 bytes-at (y ∷ ys) x zs b = bytes-at ys x zs (bytes-first y (frames (ys ++ (x ∷ zs))) b .1)
 
--- ---- a bin that was opened
+-- ---- a bin with its magic and checksum
 
 bin-same : (x : Bin) (bytes : List ℕ) (sum : ℕ) → x .bytes ≡ bytes → x .sum ≡ sum → x ≡ record { bytes = bytes; sum = sum }
 bin-same x bytes sum e f = rw (← e, ← f)
 
-opened-back : (x : Bin) (bitmap : List ℕ) → Bytes (x .bytes) → 4 ≤ length (x .bytes) → opened x ≡ ok bitmap → (x ≡ binOf bitmap) × (bitmap ≡ drop 4 (x .bytes))
-unfolding opened
-opened-back x bitmap b h e =
-    let m = check-ok (eqb (beAt 4 (x .bytes) 0) magic) Magic _ _ e in
-    let c = check-ok (eqb (checksum (x .bytes)) (x .sum)) Checksum _ _ (m .1) in
-    let d : drop 4 (x .bytes) ≡ bitmap = cc in
-    let v : beAt 4 (x .bytes) 0 ≡ magic = eqb-true _ _ (m .0) in
-    let s : checksum (x .bytes) ≡ x .sum = eqb-true _ _ (c .0) in
-    let w : x .bytes ≡ be 4 magic ++ bitmap = numberAt-back big 4 (x .bytes) b h ∙ rw (v, d) in
-    (bin-same x (be 4 magic ++ bitmap) (checksum (be 4 magic ++ bitmap)) w (sym s ∙ ap checksum w), sym d)
+bin-back : (x : Bin) (bitmap : List ℕ) → Bytes (x .bytes) → 4 ≤ length (x .bytes) → afterMagic x ≡ ok bitmap → (x ≡ binOf bitmap) × (bitmap ≡ drop 4 (x .bytes))
+bin-back x bitmap b h e =
+    let m = magic-back x bitmap e in
+    let w : x .bytes ≡ binBytes bitmap = numberAt-back big 4 (x .bytes) b h ∙ rw (m .0, m .2) in
+    (bin-same x (binBytes bitmap) (checksum (binBytes bitmap)) w (sym (m .1) ∙ ap checksum w), sym (m .2))
 
 -- ---- the file
 
-pub record Found (file : List ℕ) (b : ℕ) (bitmap : List ℕ) : Type 0 where
-  pub earlier : List Bin
-  pub later : List Bin
-  pub place : length earlier ≡ b
-  pub framed : All Framed (earlier ++ (binOf bitmap ∷ later))
-  pub cut : file ≡ 1 ∷ frames (earlier ++ (binOf bitmap ∷ later))
+pub record FileCut (file : List ℕ) (b : ℕ) (bitmap : List ℕ) : Type 0 where
+  pub cut-bins : List Bin
+  pub between : Between cut-bins b (binOf bitmap)
+  pub framed : All Framed cut-bins
+  pub cut : file ≡ 1 ∷ frames cut-bins
   pub are-bytes : Bytes bitmap
 
 first-byte : (file : List ℕ) → 1 ≤ length file → getD file 0 0 ≡ 1 → file ≡ 1 ∷ drop 1 file
 first-byte [] h e = absurd (omega arith)
 first-byte (v ∷ s) h e = rw e
 
-found-at : (file : List ℕ) (b : ℕ) (bitmap : List ℕ) (xs : List Bin) (x : Bin) → Placed xs b x → Bytes file → file ≡ 1 ∷ drop 1 file
-    → All Framed xs → drop 1 file ≡ frames xs → opened x ≡ ok bitmap → Found file b bitmap
-found-at file b bitmap xs x p t w g h e =
-    let f : All Framed (p .earlier ++ (x ∷ p .later)) = rw (p .cut) at g in
-    let s : drop 1 file ≡ frames (p .earlier ++ (x ∷ p .later)) = rw (p .cut) at h in
-    let y = bytes-at (p .earlier) x (p .later) (rw s at (bytes-drop 1 file t)) in
-    let o = opened-back x bitmap y (framed-at (p .earlier) x (p .later) f) e in
+file-cut : (file : List ℕ) (b : ℕ) (bitmap : List ℕ) (xs : List Bin) (x : Bin) → Between xs b x → Bytes file → file ≡ 1 ∷ drop 1 file
+    → All Framed xs → drop 1 file ≡ frames xs → afterMagic x ≡ ok bitmap → FileCut file b bitmap
+file-cut file b bitmap xs x p t w f s e =
+    let y = bytes-at (p .earlier) x (p .later) (rw (s, p .cut) at (bytes-drop 1 file t)) in
+    let o = bin-back x bitmap y (framed-at (p .earlier) x (p .later) (rw (p .cut) at f)) e in
     record {
-      earlier = p .earlier;
-      later = p .later;
-      place = p .place;
-      framed = rw (o .0) at f;
-      cut = w ∙ ap (λ (r : List ℕ). 1 ∷ r) (rw (o .0) at s);
+      cut-bins = xs;
+      between = rw (o .0) at p;
+      framed = f;
+      cut = w ∙ ap (λ (r : List ℕ). 1 ∷ r) s;
       are-bytes = rw (o .1) (bytes-drop 4 (x .bytes) y);
     }
 
-pub bitmap-found : (file : List ℕ) (b : ℕ) (bitmap : List ℕ) → Bytes file → bitmapOf b file ≡ ok bitmap → Found file b bitmap
-unfolding bitmapOf
-bitmap-found file b bitmap t e =
+pub bitmap-cut : (file : List ℕ) (b : ℕ) (bitmap : List ℕ) → Bytes file → bitmapIn b file ≡ ok bitmap → FileCut file b bitmap
+unfolding bitmapIn binIn
+bitmap-cut file b bitmap t e =
     let c = check-ok (leb 1 (length file)) Short _ _ e in
     let d = check-ok (eqb (getD file 0 0) 1) Version _ _ (c .1) in
-    let w = then-ok (andThen (bins (length file) (drop 1 file)) (asked b)) opened _ (d .1) in
-    let v = then-ok (bins (length file) (drop 1 file)) (asked b) _ (w .1) in
+    let w = then-ok (andThen (bins (length file) (drop 1 file)) (binNumbered b)) afterMagic _ (d .1) in
+    let v = then-ok (bins (length file) (drop 1 file)) (binNumbered b) _ (w .1) in
     let p = walk-passed (length file) (drop 1 file) (v .0) (bytes-drop 1 file t) (v .1) in
-    found-at file b bitmap (v .0) (w .0) (asked-placed b (v .0) (v .2)) t (first-byte file (leb-true _ _ (c .0)) (eqb-true _ _ (d .0))) (p .0) (p .1) (w .2)
+    file-cut file b bitmap (v .0) (w .0) (bin-between b (v .0) (v .2)) t (first-byte file (leb-true _ _ (c .0)) (eqb-true _ _ (d .0))) (p .0) (p .1) (w .2)
 
 -- ---- the bitmap
 
-pub record Rows (n : ℕ) (field bytes after : List ℕ) : Type 0 where
+pub record RowsMarked (n : ℕ) (field bytes after : List ℕ) : Type 0 where
   pub rows : List ℕ
-  pub is-bitmap : roaring.Bitmap rows bytes
+  pub is-bitmap : Bitmap rows bytes
   pub below : Below n rows
   pub field-is : after ≡ markAll field rows
 
-not-marked : {r : Refusal} {after : List ℕ} → zeroed r ≡ marked after → ⊥
-not-marked e = let z : _≡_ {A = ℕ} 0 1 = cc in omega arith
-
--- what is as long as the whole is the whole
-all-of : (s x t : List ℕ) → s ≡ x ++ t → length s ≡ length x → s ≡ x
-all-of s x t e l =
+-- a bitmap that is as long as the bytes is all of them
+whole-bitmap : (rows s x t : List ℕ) → s ≡ x ++ t → length s ≡ length x → Bitmap rows x → Bitmap rows s
+whole-bitmap rows s x t e l m =
     let z : t ≡ [] = nothing t (omega (arith, simp length-append at (ap length e))) in
-    e ∙ rw (z, append-nil)
+    rw (e, z, append-nil) m
 
-filled : (n : ℕ) (field bytes after rows t : List ℕ) (long : ℕ) → Bytes bytes → read bytes ≡ got rows long t → long ≡ length bytes → anyFrom n rows ≡ false
-    → after ≡ markAll field rows → Rows n field bytes after
-filled n field bytes after rows t long b e l a f =
-    let r = read-was-laid-out bytes rows t long b e in
-    record { rows = rows; is-bitmap = rw (all-of bytes (r .0) t (r .3) (sym l ∙ r .2)) (r .1); below = any-below n rows a; field-is = f }
-
-bitmap-rows-go : (n : ℕ) (field bytes after : List ℕ) → Bytes bytes → (x : Read) → read bytes ≡ x
-    → markedBy (marking (Exactly (length bytes)) n field x) (fieldAfter (Exactly (length bytes)) n field x) ≡ marked after → Rows n field bytes after
-unfolding markedBy marking fieldAfter choose fits
-bitmap-rows-go n field bytes after b refused e m = absurd (not-marked m)
-bitmap-rows-go n field bytes after b (got rows long t) e m = go (fits (Exactly (length bytes)) long) refl (anyFrom n rows) refl m
-  where
-    go : (fit : Bool) → fits (Exactly (length bytes)) long ≡ fit → (any : Bool) → anyFrom n rows ≡ any
-        → markedBy (choose fit (choose any (Refused Range) (Done long (anySet field rows))) (Refused Bitmap)) (choose fit (choose any field (markAll field rows)) field) ≡ marked after
-        → Rows n field bytes after
-    go true f true a g = absurd (not-marked g)
-    go true f false a g =
-        let h : markAll field rows ≡ after = cc in
-        filled n field bytes after rows t long b e (eqb-true long (length bytes) f) a (sym h)
-    go false f any a g = absurd (not-marked g)
-
-pub bitmap-rows : (n : ℕ) (field bytes after : List ℕ) → Bytes bytes → bitmapIn n field (ok bytes) ≡ marked after → Rows n field bytes after
-unfolding bitmapIn
-bitmap-rows n field bytes after b m = bitmap-rows-go n field bytes after b (read bytes) refl m
+pub bitmap-rows : (n : ℕ) (field bytes after : List ℕ) → Bytes bytes → markBitmap bytes n field ≡ ok after → RowsMarked n field bytes after
+unfolding markBitmap lengthIs
+bitmap-rows n field bytes after b m =
+    let w = then-ok (measured (Exactly (length bytes)) n bytes) _ _ m in
+    let p = w .0 in
+    let q = measured-back (Exactly (length bytes)) n bytes p (w .1) in
+    let r = read-was-laid-out bytes p b (q .0) in
+    let whole : p .end ≡ length bytes = eqb-true _ _ (q .1) in
+    record {
+      rows = p .rows;
+      is-bitmap = whole-bitmap (p .rows) bytes (r .0) (p .behind) (r .3) (sym whole ∙ r .2) (r .1);
+      below = q .2;
+      field-is = sym (ok-same _ _ (w .2));
+    }
 
 -- ---- the call
 
-pub bitmap-there : (n : ℕ) (field : List ℕ) (o : Out Refusal (List ℕ)) {after : List ℕ} → bitmapIn n field o ≡ marked after
-    → (bytes : List ℕ) × (o ≡ ok bytes) × (bitmapIn n field (ok bytes) ≡ marked after)
-unfolding bitmapIn
-bitmap-there n field (refuse r) e = absurd (not-marked e)
-bitmap-there n field (ok bytes) e = (bytes, refl, e)
+-- what the limits and ROOM let through
+pub record Ready (file : List ℕ) (n : ℕ) (buffer clear : List ℕ) : Type 0 where
+  pub file-in-limit : length file ≤ limit
+  pub count-in-limit : n ≤ limit
+  pub room : size n ≤ length buffer
+  pub is-cleared : clear ≡ cleared n buffer
 
-pub before-passed : (t : Bool) (r : Refusal) (o : Outcome) {after : List ℕ} → before t r o ≡ marked after → (t ≡ true) × (o ≡ marked after)
-unfolding before
-before-passed true r o e = (refl, e)
-before-passed false r o e = let z : _≡_ {A = ℕ} 0 1 = cc in absurd (omega arith)
+pub ready-back : (file : List ℕ) (n : ℕ) (buffer clear : List ℕ) → deletionsReady file n buffer ≡ ok clear → Ready file n buffer clear
+unfolding deletionsReady
+ready-back file n buffer clear e =
+    let l = check-ok (leb (length file) limit) Limit _ _ e in
+    let m = check-ok (leb n limit) Limit _ _ (l .1) in
+    let o = check-ok (leb (size n) (length buffer)) Room _ _ (m .1) in
+    record {
+      file-in-limit = leb-true _ _ (l .0);
+      count-in-limit = leb-true _ _ (m .0);
+      room = leb-true _ _ (o .0);
+      is-cleared = sym (ok-same _ _ (o .1));
+    }
 
-pub answer-marked : (n : ℕ) (o : Outcome) {k : ℕ} → answerOf n o ≡ Deleted k → (after : List ℕ) × (o ≡ marked after) × (k ≡ count after n)
-unfolding answerOf
-answer-marked n (untouched r) e = let z : _≡_ {A = ℕ} 0 1 = cc in absurd (omega arith)
-answer-marked n (zeroed r) e = let z : _≡_ {A = ℕ} 0 1 = cc in absurd (omega arith)
-answer-marked n (marked after) e = (after, refl, cc)
+pub deleted-back : (n : ℕ) (o : Out Refusal (List ℕ)) {k : ℕ} → deletionsBy n o ≡ Deleted k → (after : List ℕ) × (o ≡ ok after)
+unfolding deletionsBy
+deleted-back n (refuse r) e = let z : _≡_ {A = ℕ} 0 1 = cc in absurd (omega arith)
+deleted-back n (ok after) e = (after, refl)

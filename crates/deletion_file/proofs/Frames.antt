@@ -19,10 +19,24 @@ use Rattle.refusal.specs.Reading.{Out, refuse, ok, check, andThen}
 use Rattle.deletion_file.specs.Reading.{front, bins}
 use Rattle.roaring.specs.Layout.{Bitmap}
 
--- said of any file that is so cut
-pub holds : (earlier later : List Bin) {b : ℕ} {rows bitmap file : List ℕ} → Bitmap rows bitmap → length earlier ≡ b
-    → All Framed (earlier ++ (binOf bitmap ∷ later)) → file ≡ 1 ∷ frames (earlier ++ (binOf bitmap ∷ later)) → HasBin b rows file
-holds earlier later m p f c = rw (← p, c) (has-bin earlier later m f)
+-- ---- a bin among the bins: bin b is x, with those before and behind it
+
+pub record Between (xs : List Bin) (b : ℕ) (x : Bin) : Type 0 where
+  pub earlier : List Bin
+  pub later : List Bin
+  pub number : length earlier ≡ b
+  pub cut : xs ≡ earlier ++ (x ∷ later)
+
+pub between-first : (x : Bin) (xs : List Bin) → Between (x ∷ xs) 0 x
+between-first x xs = record { earlier = []; later = xs; number = refl; cut = refl }
+
+pub between-next : (y : Bin) {xs : List Bin} {b : ℕ} {x : Bin} → Between xs b x → Between (y ∷ xs) (suc b) x
+between-next y i =
+    record { earlier = y ∷ i .earlier; later = i .later; number = ap suc (i .number); cut = ap (λ (zs : List Bin). y ∷ zs) (i .cut) }
+
+pub file-has-bin : {xs : List Bin} {b : ℕ} {rows bitmap file : List ℕ} → Between xs b (binOf bitmap) → Bitmap rows bitmap → All Framed xs
+    → file ≡ 1 ∷ frames xs → HasBin b rows file
+file-has-bin i m f e = rw (← i .number, e, i .cut) (has-bin (i .earlier) (i .later) m (rw (i .cut) at f))
 
 -- ---- framed bins are passed
 

@@ -1,88 +1,77 @@
 -- What is laid out is read: the steps to it.
-use Prim.Native.Nat.{ℕ, zero, suc, _+_, _<_}
-use mathlib.Core.Path.{_≡_, refl, ap}
+use Prim.Native.Nat.{ℕ, zero, suc, _<_}
+use mathlib.Core.Path.{_≡_, refl}
 use mathlib.Core.List.{List, [], _∷_, _++_, append-nil}
 use native.Mathlib.Omega.{arith}
 use lib.ListN.{length, getD}
 use borrow.Author.Tests.{le-leb, eq-eqb}
 use Rattle.numbers.specs.Meaning.{be, All}
+use Rattle.numbers.proofs.ByteLists.{bytes-append, bytes-be}
 use Rattle.crc32.specs.Meaning.{checksum}
 use Rattle.crc32.proofs.Laws.{checksum-lt}
-use Rattle.row_field.specs.Meaning.{markAll}
-use Rattle.row_field.proofs.Marks.{Below}
+use Rattle.row_field.specs.Meaning.{markAll, Below}
 use Rattle.roaring.specs.Layout.{Bitmap}
-use Rattle.roaring.specs.Reading.{got, read, choose, fits, marking, fieldAfter}
-use Rattle.roaring.proofs.Theorems.{laid-out-is-read}
-use Rattle.deletion_file.specs.Layout.{Bin, magic, binOf, frames, Bins, none, more, DeletionFile, version-1, Framed, HasBin, has-bin}
+use Rattle.roaring.specs.declared.Extent.the-variants.{Exactly}
+use Rattle.roaring.specs.Reading.{lengthIs}
+use Rattle.roaring.proofs.Measured.{measured-laid}
+use Rattle.roaring.proofs.BitmapBytes.{bytes-bitmap}
+use Rattle.deletion_file.specs.Layout.{Bin, magic, binBytes, binOf, frames, Bins, none, more, DeletionFile, version-1, Framed, HasBin, has-bin}
 use Rattle.refusal.specs.Reading.{ok, check, andThen}
-use Rattle.deletion_file.specs.Reading.{asked, opened, bitmapOf, marked, markedBy, bitmapIn}
-use Rattle.deletion_file.proofs.Frames.{holds, walk-passes}
-use Rattle.deletion_file.proofs.Fields.{below-any}
-use Rattle.deletion_file.proofs.Bytes.{bytes-bitmap, bytes-bin}
+use Rattle.deletion_file.specs.Reading.{binNumbered, binIn, afterMagic, bitmapIn, markBitmap}
+use Rattle.deletion_file.proofs.Frames.{Between, between-first, between-next, file-has-bin, walk-passes}
 
 bins-framed : {sets : List (List ℕ)} {xs : List Bin} → Bins sets xs → All Framed xs
 bins-framed none = tt
 bins-framed (more {bitmap = bitmap} m l bs) =
-    ((omega arith, l, checksum-lt (be 4 magic ++ bitmap) (bytes-bin magic bitmap (bytes-bitmap m))), bins-framed bs)
+    ((omega arith, l, checksum-lt (binBytes bitmap) (bytes-append (be 4 magic) bitmap (bytes-be 4 magic) (bytes-bitmap m))), bins-framed bs)
 
 -- the bin of set b, among the others
-record At (sets : List (List ℕ)) (xs : List Bin) (b : ℕ) : Type 0 where
+record SetBin (sets : List (List ℕ)) (xs : List Bin) (b : ℕ) : Type 0 where
   bitmap : List ℕ
-  earlier : List Bin
-  later : List Bin
   is-bitmap : Bitmap (getD sets b []) bitmap
-  place : length earlier ≡ b
-  cut : xs ≡ earlier ++ (binOf bitmap ∷ later)
+  between : Between xs b (binOf bitmap)
 
-bin-at : {sets : List (List ℕ)} {xs : List Bin} → Bins sets xs → (b : ℕ) → b < length sets → At sets xs b
-bin-at none b h = absurd (omega arith)
-bin-at (more {bitmap = bitmap} {xs = xs} m l bs) zero h =
-    record { bitmap = bitmap; earlier = []; later = xs; is-bitmap = m; place = refl; cut = refl }
-bin-at (more {bitmap = bitmap} m l bs) (suc b) h =
-    let i = bin-at bs b (omega arith) in
-    record {
-      bitmap = i .bitmap;
-      earlier = binOf bitmap ∷ i .earlier;
-      later = i .later;
-      is-bitmap = i .is-bitmap;
-      place = ap suc (i .place);
-      cut = ap (λ (ys : List Bin). binOf bitmap ∷ ys) (i .cut);
-    }
+set-bin : {sets : List (List ℕ)} {xs : List Bin} → Bins sets xs → (b : ℕ) → b < length sets → SetBin sets xs b
+set-bin none b h = absurd (omega arith)
+set-bin (more {bitmap = bitmap} {xs = xs} m l bs) zero h = record { bitmap = bitmap; is-bitmap = m; between = between-first (binOf bitmap) xs }
+set-bin (more {bitmap = bitmap} m l bs) (suc b) h =
+    let i = set-bin bs b (omega arith) in
+    record { bitmap = i .bitmap; is-bitmap = i .is-bitmap; between = between-next (binOf bitmap) (i .between) }
 
-pub file-has-bin : {sets : List (List ℕ)} {file : List ℕ} → DeletionFile sets file → (b : ℕ) → b < length sets → HasBin b (getD sets b []) file
-file-has-bin (version-1 bs) b h =
-    let i = bin-at bs b h in
-    holds (i .earlier) (i .later) (i .is-bitmap) (i .place) (rw (i .cut) at (bins-framed bs)) (ap (λ (ys : List Bin). 1 ∷ frames ys) (i .cut))
+pub set-has-bin : {sets : List (List ℕ)} {file : List ℕ} → DeletionFile sets file → (b : ℕ) → b < length sets → HasBin b (getD sets b []) file
+set-has-bin (version-1 bs) b h =
+    let i = set-bin bs b h in
+    file-has-bin (i .between) (i .is-bitmap) (bins-framed bs) refl
 
--- ---- the bin is found, and opened
+-- ---- the bin is found, with its magic and checksum
 
-asked-there : (earlier : List Bin) (x : Bin) (later : List Bin) → asked (length earlier) (earlier ++ (x ∷ later)) ≡ ok x
-unfolding asked
-asked-there [] x later = refl
-asked-there (y ∷ earlier) x later = asked-there earlier x later
+bin-there : (earlier : List Bin) (x : Bin) (later : List Bin) → binNumbered (length earlier) (earlier ++ (x ∷ later)) ≡ ok x
+unfolding binNumbered
+bin-there [] x later = refl
+bin-there (y ∷ earlier) x later = bin-there earlier x later
 
-opened-laid : (bitmap : List ℕ) → opened (binOf bitmap) ≡ ok bitmap
-unfolding opened check
-opened-laid bitmap = rw (eq-eqb (checksum (be 4 magic ++ bitmap)) (checksum (be 4 magic ++ bitmap)) refl)
+magic-laid : (bitmap : List ℕ) → afterMagic (binOf bitmap) ≡ ok bitmap
+unfolding afterMagic check
+magic-laid bitmap = rw (eq-eqb (checksum (binBytes bitmap)) (checksum (binBytes bitmap)) refl)
 
-pub record Laid (b : ℕ) (rows file : List ℕ) : Type 0 where
+pub record LaidBitmap (b : ℕ) (rows file : List ℕ) : Type 0 where
   pub bitmap : List ℕ
   pub is-bitmap : Bitmap rows bitmap
-  pub is-read : bitmapOf b file ≡ ok bitmap
+  pub is-read : bitmapIn b file ≡ ok bitmap
 
-pub bitmap-laid : {b : ℕ} {rows file : List ℕ} → HasBin b rows file → Laid b rows file
-unfolding bitmapOf check andThen
+pub bitmap-laid : {b : ℕ} {rows file : List ℕ} → HasBin b rows file → LaidBitmap b rows file
+unfolding bitmapIn binIn check andThen
 bitmap-laid (has-bin earlier later {bitmap = bitmap} m f) =
     let xs : List Bin = earlier ++ (binOf bitmap ∷ later) in
     let w = walk-passes xs (length (1 ∷ frames xs)) f (omega arith) in
     record {
       bitmap = bitmap;
       is-bitmap = m;
-      is-read = rw (le-leb 1 (length (1 ∷ frames xs)) (omega arith), w, asked-there earlier (binOf bitmap) later) (opened-laid bitmap);
+      is-read = rw (le-leb 1 (length (1 ∷ frames xs)) (omega arith), w, bin-there earlier (binOf bitmap) later) (magic-laid bitmap);
     }
 
-pub marked-laid : (n : ℕ) (field : List ℕ) {rows bitmap : List ℕ} → Bitmap rows bitmap → Below n rows → bitmapIn n field (ok bitmap) ≡ marked (markAll field rows)
-unfolding bitmapIn markedBy marking fieldAfter fits choose
+pub marked-laid : (n : ℕ) (field : List ℕ) {rows bitmap : List ℕ} → Bitmap rows bitmap → Below n rows → markBitmap bitmap n field ≡ ok (markAll field rows)
+unfolding markBitmap andThen lengthIs
 marked-laid n field {rows} {bitmap} m b =
-    let r : read bitmap ≡ got rows (length bitmap) [] = rw (append-nil bitmap) at (laid-out-is-read m []) in
-    rw (r, eq-eqb (length bitmap) (length bitmap) refl, below-any n rows b)
+    let e = measured-laid (Exactly (length bitmap)) n m [] (eq-eqb (length bitmap) (length bitmap) refl) b in
+    rw (rw (append-nil bitmap) at e)

@@ -1,9 +1,7 @@
-pub mod Mark
-pub mod Open
-pub mod Walk
+pub mod WalkSteps
+pub mod BinSteps
+pub mod CallSteps
 pub mod Frames
-pub mod Fields
-pub mod Bytes
 pub mod LaidOut
 pub mod Accepted
 pub mod Theorems

@@ -1,111 +1,110 @@
--- The layout and the reading agree.
-use Prim.Native.Nat.{ℕ, _<_, _≤_}
+-- The layout and the reading agree: a proof of each claim.
+use Prim.Native.Nat.{ℕ, _≤_}
 use mathlib.Core.Path.{_≡_, refl, ap, _∙_}
-use mathlib.Core.Bool.{Bool, true, false, cond}
-use mathlib.Core.List.{List, [], _++_}
+use mathlib.Core.Bool.{Bool, true, false}
+use mathlib.Core.List.{List, []}
 use lib.Dec.{eqb, leb}
-use lib.ListN.{length, drop, getD}
-use borrow.Author.Tests.{le-leb, leb-true, eqb-true, ne-eqb}
-use Rattle.numbers.specs.Meaning.{Bytes}
+use lib.ListN.{length, getD}
+use borrow.Author.Tests.{le-leb, eqb-true, ne-eqb}
 use Rattle.refusal.specs.Meaning.{limit}
-use Rattle.refusal.specs.declared.Refusal.the-variants.{Short, Version, Room, Limit}
-use Rattle.row_field.specs.Meaning.{size, markAll, fieldOf, cleared, count}
-use Rattle.row_field.proofs.Marks.{Below}
-use Rattle.roaring.proofs.Theorems.{rows-rising}
+use Rattle.refusal.specs.Reading.{Out, refuse, ok, check, andThen}
+use Rattle.refusal.specs.declared.Refusal.{Refusal}
+use Rattle.refusal.specs.declared.Refusal.the-variants.{Short, Version}
+use Rattle.refusal.proofs.Laws.{check-ok, then-ok}
+use Rattle.row_field.specs.Meaning.{size, markAll, cleared, count, Below}
+use Rattle.row_field.proofs.RowLists.{rising-within}
+use Rattle.row_field.proofs.Fronts.{marked-field, marked-count}
+use Rattle.roaring.specs.Layout.{Bitmap}
+use Rattle.roaring.proofs.Theorems.{bitmap-rising}
 use Rattle.deletion_file.specs.declared.Deletions.the-variants.{Deleted}
-use Rattle.deletion_file.specs.Layout.{DeletionFile, HasBin}
-use Rattle.refusal.specs.Reading.{refuse, check}
-use Rattle.deletion_file.specs.Reading.{bitmapOf, zeroed, marked, before, bitmapIn, outcome, answerOf, fieldThen}
-use Rattle.refusal.proofs.Laws.{check-ok}
-use Rattle.deletion_file.proofs.Frames.{holds}
-use Rattle.deletion_file.proofs.Fields.{marked-field, marked-count}
-use Rattle.deletion_file.proofs.LaidOut.{file-has-bin, bitmap-laid, marked-laid}
-use Rattle.deletion_file.proofs.Accepted.{Found, bitmap-found, Rows, bitmap-rows, bitmap-there, before-passed, answer-marked}
+use Rattle.deletion_file.specs.Reading.{bitmapIn, markBitmap, markBin, deletionsReady, deletions, leftBy, deletionsBuffer, deletionsBy}
+use Rattle.deletion_file.specs.Claims.{Allowed, AnswersRows, BinIsRead, LaidOutIsRead, AcceptedWasLaidOut, OtherVersion, RowsHaveVersion1}
+use Rattle.deletion_file.proofs.WalkSteps.{then-same}
+use Rattle.deletion_file.proofs.Frames.{file-has-bin}
+use Rattle.deletion_file.proofs.LaidOut.{set-has-bin, bitmap-laid, marked-laid}
+use Rattle.deletion_file.proofs.Accepted.{bitmap-cut, bitmap-rows, ready-back, deleted-back}
 
--- 1. A bin that is laid out is read, within the limits, with room and with its rows below the row count, whatever the other bins hold: the answer is
--- the number of its rows, and the field is these rows marked in the cleared field.
-pub bin-is-read : {b : ℕ} {rows file : List ℕ} → HasBin b rows file → (n : ℕ) (field : List ℕ)
-    → length file ≤ limit → n ≤ limit → size n ≤ length field → Below n rows
-    → (answerOf n (outcome file b n field) ≡ Deleted (length rows)) × (fieldThen n field (outcome file b n field) ≡ markAll (cleared n field) rows)
-unfolding outcome before answerOf fieldThen
-bin-is-read {b} {rows} {file} d n field hf hn hr r =
+-- ---- 1
+
+-- a bitmap's rows, marked in the cleared field, are as many as there are
+rows-counted : (n : ℕ) (buffer : List ℕ) {rows bitmap : List ℕ} → size n ≤ length buffer → Bitmap rows bitmap → Below n rows → count (markAll (cleared n buffer) rows) n ≡ length rows
+rows-counted n buffer {rows} h m b = marked-count n buffer rows h (rising-within 0 _ n rows (bitmap-rising m) b)
+
+-- where the rows were marked in the cleared field, they are the answer
+answers : (file : List ℕ) (b n : ℕ) (buffer rows : List ℕ) {after : List ℕ} → Allowed file n buffer rows → count after n ≡ length rows
+    → after ≡ markAll (cleared n buffer) rows → deletions file b n buffer ≡ ok after → AnswersRows file b n buffer rows
+unfolding deletionsBuffer deletionsBy leftBy
+answers file b n buffer rows l c f e = record { answer = rw e (ap Deleted c); field = rw e (f ∙ marked-field n buffer rows (l .room) (l .below)) }
+
+pub bin-is-read : BinIsRead
+unfolding deletionsReady deletions markBin check andThen
+bin-is-read file b n buffer rows d l =
     let i = bitmap-laid d in
-    let e : outcome file b n field ≡ marked (markAll (cleared n field) rows) =
-    rw (le-leb (length file) limit hf, le-leb n limit hn, le-leb (size n) (length field) hr, i .is-read) (marked-laid n (cleared n field) (i .is-bitmap) r) in
-    (rw e (ap Deleted (marked-count n field rows hr (rows-rising (i .is-bitmap)) r)), rw e)
+    let e : deletions file b n buffer ≡ ok (markAll (cleared n buffer) rows) =
+    rw (le-leb (length file) limit (l .file-in-limit), le-leb n limit (l .count-in-limit), le-leb (size n) (length buffer) (l .room), i .is-read)
+    (marked-laid n (cleared n buffer) (i .is-bitmap) (l .below)) in
+    answers file b n buffer rows l (rows-counted n buffer (l .room) (i .is-bitmap) (l .below)) refl e
 
--- So is each bin of a file that is laid out for a list of row sets.
-pub laid-out-is-read : {sets : List (List ℕ)} {file : List ℕ} → DeletionFile sets file → (b n : ℕ) (field : List ℕ)
-    → length file ≤ limit → n ≤ limit → size n ≤ length field → b < length sets → Below n (getD sets b [])
-    → (answerOf n (outcome file b n field) ≡ Deleted (length (getD sets b [])))
-    × (fieldThen n field (outcome file b n field) ≡ markAll (cleared n field) (getD sets b []))
-laid-out-is-read d b n field hf hn hr hb r = bin-is-read (file-has-bin d b hb) n field hf hn hr r
+pub laid-out-is-read : LaidOutIsRead
+laid-out-is-read file b n buffer sets d h l = bin-is-read file b n buffer (getD sets b []) (set-has-bin d b h) l
 
--- That is, as 01 says what a row field is: exactly these rows are set in the field for n rows, spare bits are 0, and the bytes behind it stay.
-pub exactly-the-rows : (n : ℕ) (field rows : List ℕ) → size n ≤ length field → Below n rows
-    → markAll (cleared n field) rows ≡ fieldOf n rows ++ drop (size n) field
-exactly-the-rows n field rows h b = marked-field n field rows h b
+-- ---- 2
 
--- 2. What is accepted is what 1 asks for: the bin was laid out, in a file and for a row count within the limits, with room and with its rows below the
--- row count. The answer and the field are its rows. Nothing is said of what the other bins hold: they are not looked at.
-pub record Accepted (file : List ℕ) (b n : ℕ) (field : List ℕ) (k : ℕ) : Type 0 where
-  pub rows : List ℕ
-  pub laid-out : HasBin b rows file
-  pub file-in-limit : length file ≤ limit
-  pub count-in-limit : n ≤ limit
-  pub room : size n ≤ length field
-  pub below : Below n rows
-  pub counted : k ≡ length rows
-  pub field-is : fieldThen n field (outcome file b n field) ≡ markAll (cleared n field) rows
+-- what was accepted, stage by stage
+record Stages (file : List ℕ) (b n : ℕ) (buffer after : List ℕ) : Type 0 where
+  clear : List ℕ
+  bytes : List ℕ
+  is-ready : deletionsReady file n buffer ≡ ok clear
+  is-bitmap : bitmapIn b file ≡ ok bytes
+  is-marked : markBitmap bytes n clear ≡ ok after
 
-assembled : (file : List ℕ) (b n : ℕ) (field : List ℕ) (k : ℕ) (bitmap after : List ℕ) → length file ≤ limit → n ≤ limit → size n ≤ length field
-    → outcome file b n field ≡ marked after → k ≡ count after n → Found file b bitmap → Rows n (cleared n field) bitmap after → Accepted file b n field k
-unfolding fieldThen
-assembled file b n field k bitmap after hf hn hr e c f r = record {
-  rows = r .rows;
-  laid-out = holds (f .earlier) (f .later) (r .is-bitmap) (f .place) (f .framed) (f .cut);
-  file-in-limit = hf;
-  count-in-limit = hn;
-  room = hr;
-  below = r .below;
-  counted = c ∙ ap (λ (g : List ℕ). count g n) (r .field-is) ∙ marked-count n field (r .rows) hr (rows-rising (r .is-bitmap)) (r .below);
-  field-is = ap (fieldThen n field) e ∙ r .field-is;
-}
+stages : (file : List ℕ) (b n : ℕ) (buffer after : List ℕ) → deletions file b n buffer ≡ ok after → Stages file b n buffer after
+unfolding deletions markBin
+stages file b n buffer after e =
+    let r = then-ok (deletionsReady file n buffer) (markBin file b n) _ e in
+    let m = then-ok (bitmapIn b file) (λ bytes. markBitmap bytes n (r .0)) _ (r .2) in
+    record { clear = r .0; bytes = m .0; is-ready = r .1; is-bitmap = m .1; is-marked = m .2 }
 
-pub accepted-was-laid-out : (file : List ℕ) (b n : ℕ) (field : List ℕ) (k : ℕ) → Bytes file → answerOf n (outcome file b n field) ≡ Deleted k
-    → Accepted file b n field k
-unfolding outcome
-accepted-was-laid-out file b n field k t e =
-    let a = answer-marked n (outcome file b n field) e in
-    let l = before-passed (leb (length file) limit) Limit _ (a .1) in
-    let m = before-passed (leb n limit) Limit _ (l .1) in
-    let o = before-passed (leb (size n) (length field)) Room _ (m .1) in
-    let w = bitmap-there n (cleared n field) (bitmapOf b file) (o .1) in
-    let f = bitmap-found file b (w .0) t (w .1) in
-    let r = bitmap-rows n (cleared n field) (w .0) (a .0) (f .are-bytes) (w .2) in
-    assembled file b n field k (w .0) (a .0) (leb-true _ _ (l .0)) (leb-true _ _ (m .0)) (leb-true _ _ (o .0)) (a .1) (a .2) f r
+pub accepted-was-laid-out : AcceptedWasLaidOut
+accepted-was-laid-out file b n buffer k t e =
+    let a = deleted-back n (deletions file b n buffer) e in
+    let s = stages file b n buffer (a .0) (a .1) in
+    let l = ready-back file n buffer (s .clear) (s .is-ready) in
+    let f = bitmap-cut file b (s .bytes) t (s .is-bitmap) in
+    let r = bitmap-rows n (s .clear) (s .bytes) (a .0) (f .are-bytes) (s .is-marked) in
+    let w : Allowed file n buffer (r .rows) =
+    record { file-in-limit = l .file-in-limit; count-in-limit = l .count-in-limit; room = l .room; below = r .below } in
+    let m : a .0 ≡ markAll (cleared n buffer) (r .rows) = r .field-is ∙ ap (λ (g : List ℕ). markAll g (r .rows)) (l .is-cleared) in
+    let c : count (a .0) n ≡ length (r .rows) =
+    ap (λ (g : List ℕ). count g n) m ∙ rows-counted n buffer (l .room) (r .is-bitmap) (r .below) in
+    record {
+      rows = r .rows;
+      laid-out = file-has-bin (f .between) (r .is-bitmap) (f .framed) (f .cut);
+      allowed = w;
+      answers = answers file b n buffer (r .rows) w c m (a .1);
+    }
 
--- 3. A file whose first byte is not 1 is VERSION, unless LIMIT, ROOM or SHORT comes first: it yields no rows.
-no-version : (n : ℕ) (field : List ℕ) (t : Bool) → bitmapIn n field (check t Short (refuse Version)) ≡ cond t (zeroed Version) (zeroed Short)
-unfolding bitmapIn check
-no-version n field true = refl
-no-version n field false = refl
+-- ---- 3
 
-pub other-version : (file : List ℕ) (b n : ℕ) (field : List ℕ) → (getD file 0 0 ≡ 1 → ⊥)
-    → outcome file b n field
-    ≡ before (leb (length file) limit) Limit (before (leb n limit) Limit (before (leb (size n) (length field)) Room
-    (cond (leb 1 (length file)) (zeroed Version) (zeroed Short))))
-unfolding outcome bitmapOf check
-other-version file b n field h = rw (ne-eqb (getD file 0 0) 1 h, no-version n (cleared n field) (leb 1 (length file)))
+-- no stage follows a refusal
+ends : {A B : Type 0} (t : Bool) (r q : Refusal) (k : A → Out Refusal B) → andThen (check t r (refuse q)) k ≡ check t r (refuse q)
+unfolding check andThen
+ends true r q k = refl
+ends false r q k = refl
 
-pub rows-have-version-1 : (file : List ℕ) (b n : ℕ) (field : List ℕ) (k : ℕ) → answerOf n (outcome file b n field) ≡ Deleted k → getD file 0 0 ≡ 1
-unfolding outcome bitmapOf
-rows-have-version-1 file b n field k e =
-    let a = answer-marked n (outcome file b n field) e in
-    let l = before-passed (leb (length file) limit) Limit _ (a .1) in
-    let m = before-passed (leb n limit) Limit _ (l .1) in
-    let o = before-passed (leb (size n) (length field)) Room _ (m .1) in
-    let w = bitmap-there n (cleared n field) (bitmapOf b file) (o .1) in
-    let c = check-ok (leb 1 (length file)) Short _ _ (w .1) in
+no-version : (file : List ℕ) (b n : ℕ) (clear : List ℕ) → (getD file 0 0 ≡ 1 → ⊥) → markBin file b n clear ≡ check (leb 1 (length file)) Short (refuse Version)
+unfolding markBin bitmapIn check
+no-version file b n clear h = rw (ne-eqb (getD file 0 0) 1 h) (ends (leb 1 (length file)) Short Version (λ bytes. markBitmap bytes n clear))
+
+pub other-version : OtherVersion
+unfolding deletions
+other-version file b n buffer h = then-same (deletionsReady file n buffer) _ _ (λ clear. no-version file b n clear h)
+
+pub rows-have-version-1 : RowsHaveVersion1
+unfolding bitmapIn
+rows-have-version-1 file b n buffer k e =
+    let a = deleted-back n (deletions file b n buffer) e in
+    let s = stages file b n buffer (a .0) (a .1) in
+    let c = check-ok (leb 1 (length file)) Short _ _ (s .is-bitmap) in
     let d = check-ok (eqb (getD file 0 0) 1) Version _ _ (c .1) in
     eqb-true (getD file 0 0) 1 (d .0)

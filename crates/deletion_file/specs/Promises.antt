@@ -1,14 +1,21 @@
--- What the code's own answers say, in the reading's terms. Only private functions' contracts cite this.
+-- What the contracts say, in the reading's terms.
 use Prim.Native.Nat.{ℕ, _+_, _-_, _≤_}
+use mathlib.Core.Path.{_≡_}
+use mathlib.Core.Bool.{Bool, cond}
 use mathlib.Core.List.{List}
-use lib.ListN.{take, drop}
+use lib.Dec.{leb}
+use lib.ListN.{length, take, drop}
 use Rattle.numbers.specs.Meaning.{beAt}
+use Rattle.refusal.specs.declared.Refusal.{Refusal}
+use Rattle.refusal.specs.Reading.{Out, refuse, ok, numbersOf}
+use Rattle.row_field.specs.Meaning.{size, cleared}
 use Rattle.deletion_file.specs.declared.Place.{Place}
 use Rattle.deletion_file.specs.declared.Place.the-variants.{Refused, At}
-use Rattle.deletion_file.specs.Layout.{Bin}
-use Rattle.refusal.specs.declared.Refusal.{Refusal}
-use Rattle.refusal.specs.Reading.{Out, refuse, ok}
-use Rattle.deletion_file.specs.Reading.{Outcome, untouched, zeroed, marked}
+use Rattle.deletion_file.specs.declared.Deletions.{Deletions}
+use Rattle.deletion_file.specs.Layout.{Bin, numberSize}
+use Rattle.deletion_file.specs.Reading.{binIn, afterMagic, bitmapIn, deletions, leftBy, deletionsBuffer, deletionsBy, deletionsOut, deletionsNumbers}
+
+-- ---- a part of the file
 
 -- the bytes from start to end
 abbrev pub part : ℕ → ℕ → List ℕ → List ℕ
@@ -16,29 +23,49 @@ part start end s = take (end - start) (drop start s)
 
 -- the bin from start to end, its checksum right behind
 abbrev pub binFrom : ℕ → ℕ → List ℕ → Bin
-binFrom start end s = record { bytes = part start end s; sum = beAt 4 s end }
+binFrom start end s = record { bytes = part start end s; sum = beAt numberSize s end }
 
--- a place as a bin
-unfoldable pub binAt : Place → List ℕ → Out Refusal Bin
-binAt (Refused r) s = refuse r
-binAt (At start end) s = ok (binFrom start end s)
+-- so many bytes have room for a bin from start to end: a magic at least, and a checksum behind it
+pub record BinFits (start end bytes : ℕ) : Type 0 where
+  pub magic-fits : start + numberSize ≤ end
+  pub sum-fits : end + numberSize ≤ bytes
 
--- a place as a bitmap
-unfoldable pub bytesAt : Place → List ℕ → Out Refusal (List ℕ)
-bytesAt (Refused r) s = refuse r
-bytesAt (At start end) s = ok (part start end s)
+pub record PartFits (start end bytes : ℕ) : Type 0 where
+  pub rising : start ≤ end
+  pub inside : end ≤ bytes
 
--- the place has a magic at least, and a checksum behind it, in so many bytes
-abbrev pub HoldsBin : Place → ℕ → Type 0
-HoldsBin (Refused r) n = Unit {0}
-HoldsBin (At start end) n = (start + 4 ≤ end) × (end + 4 ≤ n)
+-- `find_bin`: the refusal, or where the bin stands
+abbrev pub FindsBin : ℕ → List ℕ → Place → Type 0
+FindsBin b s (Refused r) = binIn b s ≡ refuse r
+FindsBin b s (At start end) = (binIn b s ≡ ok (binFrom (start .0) (end .0) s)) × BinFits (start .0) (end .0) (length s)
 
-abbrev pub Lies : Place → ℕ → Type 0
-Lies (Refused r) n = Unit {0}
-Lies (At start end) n = (start ≤ end) × (end ≤ n)
+-- the refusal of a reading, or where the bytes stand that it reads
+abbrev pub FindsPart : Out Refusal (List ℕ) → List ℕ → Place → Type 0
+FindsPart o s (Refused r) = o ≡ refuse r
+FindsPart o s (At start end) = (o ≡ ok (part (start .0) (end .0) s)) × PartFits (start .0) (end .0) (length s)
 
--- what a field that was clear already holds in the end
-unfoldable pub fieldFrom : List ℕ → Outcome → List ℕ
-fieldFrom field (untouched r) = field
-fieldFrom field (zeroed r) = field
-fieldFrom field (marked after) = after
+-- `open_bin`
+abbrev pub OpensBin : ℕ → ℕ → List ℕ → Place → Type 0
+OpensBin start end s r = FindsPart (afterMagic (binFrom start end s)) s r
+
+-- `find_bitmap`
+abbrev pub FindsBitmap : ℕ → List ℕ → Place → Type 0
+FindsBitmap b s r = FindsPart (bitmapIn b s) s r
+
+-- ---- the field
+
+-- `mark_bitmap`, `mark_bin`: the answer of a reading that marks rows in a field of n rows, which is left as it was where that refuses
+pub record MarksRows (n : ℕ) (reading : List ℕ → Out Refusal (List ℕ)) (before after : List ℕ) (r : Deletions) : Type 0 where
+  pub answer : r ≡ deletionsBy n (reading before)
+  pub field : after ≡ leftBy (reading before) before
+
+-- `clear_if_room`
+pub record ClearsIfRoom (n : ℕ) (before after : List ℕ) (r : Bool) : Type 0 where
+  pub room : r ≡ leb (size n) (length before)
+  pub field : after ≡ cond r (cleared n before) before
+
+-- `read_deletions`: the answer, its numbers and what the buffer holds then
+pub record DeletionsPromise (file : List ℕ) (b n : ℕ) (before after : List ℕ) (r : Deletions) : Type 0 where
+  pub answer : r ≡ deletionsBy n (deletions file b n before)
+  pub numbers : deletionsOut r ≡ numbersOf 0 (deletionsNumbers n) (deletions file b n before)
+  pub buffer : after ≡ deletionsBuffer file b n before

@@ -1,17 +1,22 @@
 // Deletion files (document 01, "Deletion file"): the walk over the bins, and Read deletions.
-ghost use mathlib.Core.Path.{_≡_};
-ghost use Prim.Native.Nat.{_+_, _≤_};
-ghost use mathlib.Core.Bool.{cond};
-ghost use lib.Dec.{leb};
-ghost use lib.ListN.{length, drop};
-ghost use Rattle.row_field.specs.Meaning.{size, cleared};
-ghost use Rattle.refusal.specs.Reading.{andThen, ok};
-ghost use Rattle.deletion_file.specs.Reading.{bins, asked, opened, bitmapOf, bitmapIn, outcome, answerOf, fieldThen, deletionsOut};
-ghost use Rattle.deletion_file.specs.Promises.{part, binFrom, binAt, bytesAt, HoldsBin, Lies, fieldFrom};
+ghost use Prim.Native.Nat.{_≤_};
+ghost use lib.ListN.{length};
+ghost use Rattle.deletion_file.specs.Reading.{markBitmap, markBin};
+ghost use Rattle.deletion_file.specs.Promises.{part, BinFits, PartFits, FindsBin, OpensBin, FindsBitmap, MarksRows, ClearsIfRoom, DeletionsPromise};
 use numbers::Position;
+use refusal::LIMIT;
 use refusal::Refusal;
 use roaring::Extent;
 use roaring::Marked;
+
+// The number that a bin begins with.
+const MAGIC: u64 = 1_581_511_376;
+
+// The bytes of each of the file's numbers: a size, a magic, a checksum.
+const NUMBER_SIZE: usize = 4;
+
+// What a bin takes besides its own bytes: its size in front and its checksum behind.
+const FRAME_SIZE: usize = 2 * NUMBER_SIZE;
 
 // What Read deletions answers: a refusal, or how many rows are deleted.
 pub enum Deletions {
@@ -22,13 +27,13 @@ pub enum Deletions {
 // A part of the file: from `start` to `end`.
 enum Place {
     Refused(Refusal),
-    At { start: usize, end: usize },
+    At { start: Position, end: Position },
 }
 
 // Where the asked bin stands, behind its size and with its checksum right behind it. Every size to the end of the file is walked first.
 fn find_bin(file: &[u8], bin: u64) -> Place
     requires { ⌜ 1 ≤ length (now file) ⌝ }
-    ensures { λ r. ⌜ (binAt r (now (file .entry)) ≡ andThen (bins (length (now (file .entry))) (drop 1 (now (file .entry)))) (asked bin)) × HoldsBin r (length (now (file .entry))) ⌝ }
+    ensures { λ r. ⌜ FindsBin bin (now (file .entry)) r ⌝ }
 {
     let mut next: usize = 1;
     let mut passed: u64 = 0;
@@ -36,47 +41,55 @@ fn find_bin(file: &[u8], bin: u64) -> Place
     let mut end: usize = 0;
     while next < file.len() {
         let left = file.len() - next;
-        if left < 4 {
+        if left < NUMBER_SIZE {
             return Place::Refused(Refusal::Short);
         }
         let size = numbers::be32(file, Position(next)) as usize;
-        if size < 4 {
+        if size < NUMBER_SIZE {
             return Place::Refused(Refusal::Short);
         }
-        if left < size + 8 {
+        if left < size + FRAME_SIZE {
             return Place::Refused(Refusal::Short);
         }
         if passed == bin {
-            start = next + 4;
-            end = next + 4 + size;
+            start = next + NUMBER_SIZE;
+            end = start + size;
         }
-        next = next + 8 + size;
+        next = next + FRAME_SIZE + size;
         passed = passed + 1;
     }
     if bin < passed {
-        return Place::At { start, end };
+        return Place::At {
+            start: Position(start),
+            end: Position(end),
+        };
     }
     Place::Refused(Refusal::NoBin)
 }
 
 // Where the bytes behind a bin's magic stand, if magic and checksum are right. The checksum covers the whole bin.
-fn open_bin(file: &[u8], start: usize, end: usize) -> Place
-    requires { ⌜ (start + 4 ≤ end) × (end + 4 ≤ length (now file)) ⌝ }
-    ensures { λ r. ⌜ (bytesAt r (now (file .entry)) ≡ opened (binFrom start end (now (file .entry)))) × Lies r (length (now (file .entry))) ⌝ }
+fn open_bin(file: &[u8], start: Position, end: Position) -> Place
+    requires { ⌜ BinFits (start .0) (end .0) (length (now file)) ⌝ }
+    ensures { λ r. ⌜ OpensBin (start .0) (end .0) (now (file .entry)) r ⌝ }
 {
-    if numbers::be32(file, Position(start)) != 1581511376 {
+    let from = start.0;
+    let to = end.0;
+    if numbers::be32(file, Position(from)) != MAGIC {
         return Place::Refused(Refusal::Magic);
     }
-    let bitmap = start + 4;
-    if crc32::checksum(&file[start..end]) as u64 != numbers::be32(file, Position(end)) {
+    let bitmap = from + NUMBER_SIZE;
+    if crc32::checksum(&file[from..to]) as u64 != numbers::be32(file, Position(to)) {
         return Place::Refused(Refusal::Checksum);
     }
-    Place::At { start: bitmap, end }
+    Place::At {
+        start: Position(bitmap),
+        end: Position(to),
+    }
 }
 
 // Where the bytes stand that are to be the bitmap of the asked bin.
 fn find_bitmap(file: &[u8], bin: u64) -> Place
-    ensures { λ r. ⌜ (bytesAt r (now (file .entry)) ≡ bitmapOf bin (now (file .entry))) × Lies r (length (now (file .entry))) ⌝ }
+    ensures { λ r. ⌜ FindsBitmap bin (now (file .entry)) r ⌝ }
 {
     if file.len() == 0 {
         return Place::Refused(Refusal::Short);
@@ -92,12 +105,19 @@ fn find_bitmap(file: &[u8], bin: u64) -> Place
 }
 
 // Marks the rows of the bitmap that stands from `start` to `end` in a field for `rows` rows that is clear, and counts them.
-fn mark_bitmap(file: &[u8], start: usize, end: usize, rows: u64, field: &mut [u8]) -> Deletions
-    requires { ⌜ (start ≤ end) × (end ≤ length (now file)) ⌝ }
-    ensures { λ r. ⌜ (r ≡ answerOf rows (bitmapIn rows (now (field .entry)) (ok (part start end (now (file .entry)))))) × (now (field .exit) ≡ fieldFrom (now (field .entry)) (bitmapIn rows (now (field .entry)) (ok (part start end (now (file .entry)))))) ⌝ }
+fn mark_bitmap(
+    file: &[u8],
+    start: Position,
+    end: Position,
+    rows: u64,
+    field: &mut [u8],
+) -> Deletions
+    requires { ⌜ PartFits (start .0) (end .0) (length (now file)) ⌝ }
+    ensures { λ r. ⌜ MarksRows rows (markBitmap (part (start .0) (end .0) (now (file .entry))) rows) (now (field .entry)) (now (field .exit)) r ⌝ }
 {
-    let length = end - start;
-    let done = roaring::mark(field, &file[start..end], Extent::Exactly(length), rows);
+    let from = start.0;
+    let to = end.0;
+    let done = roaring::mark(field, &file[from..to], Extent::Exactly(to - from), rows);
     match done {
         Marked::Refused(r) => Deletions::Refused(r),
         Marked::Done {
@@ -109,7 +129,7 @@ fn mark_bitmap(file: &[u8], start: usize, end: usize, rows: u64, field: &mut [u8
 
 // Marks the rows of the asked bin in a field for `rows` rows that is clear, and counts them.
 fn mark_bin(file: &[u8], bin: u64, rows: u64, field: &mut [u8]) -> Deletions
-    ensures { λ r. ⌜ (r ≡ answerOf rows (bitmapIn rows (now (field .entry)) (bitmapOf bin (now (file .entry))))) × (now (field .exit) ≡ fieldFrom (now (field .entry)) (bitmapIn rows (now (field .entry)) (bitmapOf bin (now (file .entry))))) ⌝ }
+    ensures { λ r. ⌜ MarksRows rows (markBin (now (file .entry)) bin rows) (now (field .entry)) (now (field .exit)) r ⌝ }
 {
     let place = find_bitmap(file, bin);
     match place {
@@ -120,7 +140,7 @@ fn mark_bin(file: &[u8], bin: u64, rows: u64, field: &mut [u8]) -> Deletions
 
 // Zeroes the field for `rows` rows if the buffer has room for it, and answers whether it has. Without room the buffer stays as it was.
 fn clear_if_room(field: &mut [u8], rows: u64) -> bool
-    ensures { λ r. ⌜ (r ≡ leb (size rows) (length (now (field .entry)))) × (now (field .exit) ≡ cond r (cleared rows (now (field .entry))) (now (field .entry))) ⌝ }
+    ensures { λ r. ⌜ ClearsIfRoom rows (now (field .entry)) (now (field .exit)) r ⌝ }
 {
     let room = row_field::has_room(field, rows);
     if room {
@@ -132,14 +152,12 @@ fn clear_if_room(field: &mut [u8], rows: u64) -> bool
 
 // Read deletions: the rows of bin number `bin` of a deletion file are set in the field for `rows` rows, and no others. Bytes behind the field stay.
 pub fn read_deletions(file: &[u8], bin: u64, rows: u64, field: &mut [u8]) -> Deletions
-    ensures { λ r. ⌜ (r ≡ answerOf rows (outcome (now (file .entry)) bin rows (now (field .entry))))
-        × (now (field .exit) ≡ fieldThen rows (now (field .entry)) (outcome (now (file .entry)) bin rows (now (field .entry))))
-        × (deletionsOut r ≡ deletionsOut (answerOf rows (outcome (now (file .entry)) bin rows (now (field .entry))))) ⌝ }
+    ensures { λ r. ⌜ DeletionsPromise (now (file .entry)) bin rows (now (field .entry)) (now (field .exit)) r ⌝ }
 {
-    if 2147483647 < file.len() {
+    if LIMIT < file.len() as u64 {
         return Deletions::Refused(Refusal::Limit);
     }
-    if 2147483647 < rows {
+    if LIMIT < rows {
         return Deletions::Refused(Refusal::Limit);
     }
     if !clear_if_room(field, rows) {

@@ -18,7 +18,7 @@ use Rattle.refusal.specs.Reading.{Out, refuse, ok, check, andThen}
 use Rattle.stored_value.specs.Reading.{valueSize, valueOf}
 use Rattle.dictionary.specs.Promises.{Patterns}
 use Rattle.dictionary.specs.Layout.{Entry, NullOnly, someHas, Distinct, NoExtents, valueBytes, entries1, hasNull, null1, body1, first, Past, Rises, NoneEmpty, entries2, block, blocks, directory, null2, body2}
-use Rattle.dictionary.specs.Reading.{counted, Dictionary, entriesOne, Listing, listings, past, heads, entriesTwo, behind, blocksOf, blocked, nullOf, dictionary}
+use Rattle.dictionary.specs.Reading.{counted, Dictionary, entriesOne, Listing, listings, past, isDue, entriesTwo, behind, blocksOf, blocked, nullOf, dictionary}
 use Rattle.numbers.proofs.SameBytes.{same→eq}
 use Rattle.stored_value.proofs.Laws.{sameCell-sym, value-back}
 use Rattle.dictionary.proofs.LaidOut.{Apart, or-false, listingsOf, lastOf, Begins, behind-is}
@@ -127,18 +127,18 @@ both : (a b : Bool) → (a && b) ≡ true → (a ≡ true) × (b ≡ true)
 both true b e = (refl, e)
 both false b e = let z : _≡_ {A = ℕ} 0 1 = cc in absurd (omega arith)
 
-on-entriesTwo : {A : Type 0} (P : List ℕ → Type 0) (t n : ℕ) (before head : Cell) (sofar : List Entry) (s : List ℕ) (k : Cell → List Entry → List ℕ → Out Refusal A)
-    → t < 12 → Bytes s → Good (entriesTwo t n before head sofar s k)
-    → ((es : List Entry) (s : List ℕ) → length es ≡ n → Rises t before es → Begins head es → Patterns es → Bytes s
+on-entriesTwo : {A : Type 0} (P : List ℕ → Type 0) (t n : ℕ) (before due : Cell) (sofar : List Entry) (s : List ℕ) (k : Cell → List Entry → List ℕ → Out Refusal A)
+    → t < 12 → Bytes s → Good (entriesTwo t n before due sofar s k)
+    → ((es : List Entry) (s : List ℕ) → length es ≡ n → Rises t before es → Begins due es → Patterns es → Bytes s
     → Good (k (lastOf before es) (sofar ++ es) s) → P (entries2 es ++ s)) → P s
 unfolding entriesTwo
-on-entriesTwo P t zero before head sofar s k l h g f = f [] s refl tt tt tt h (rw (append-nil sofar) g)
-on-entriesTwo P t (suc n) before head sofar s k l h g f =
+on-entriesTwo P t zero before due sofar s k l h g f = f [] s refl tt tt tt h (rw (append-nil sofar) g)
+on-entriesTwo P t (suc n) before due sofar s k l h g f =
     on-value P t s _ l h g (λ v s hv h g. on-check _ _ _ g (λ new g.
     on-word 4 (λ (x : List ℕ). P (v ++ x)) s _ h g (λ offset s ho h g.
     on-word 4 (λ (x : List ℕ). P (v ++ (be 4 offset ++ x))) s _ h g (λ extent s hx h g.
     let e : Entry = record { cell = value v; offset = offset; extent = extent } in
-    let b = both (past t before v) (heads head v) new in
+    let b = both (past t before v) (isDue due v) new in
     on-entriesTwo (λ (x : List ℕ). P (v ++ (be 4 offset ++ (be 4 extent ++ x)))) t n (value v) null (sofar ++ (e ∷ [])) s k l h g (λ es s c r _ p h g.
     rw (append-assoc v (be 4 offset ++ (be 4 extent ++ entries2 es)) s)
     at (f (e ∷ es) s (ap suc c) (hv, past-back t before v (b .0), r) (b .1) (ho, hx, p) h (rw (append-assoc sofar (e ∷ []) es) at g)))))))
@@ -157,7 +157,7 @@ extents-join (x ∷ xs) ys p q = (p .0, extents-join xs ys (p .1) q)
 
 -- a block's first value is the directory's
 begins-back : (v : List ℕ) (es : List Entry) → 1 ≤ length es → Begins (value v) es → v ≡ valueBytes (first es)
-unfolding heads
+unfolding isDue
 begins-back v [] l b = absurd (omega arith)
 begins-back v (e ∷ es) l b = same→eq v (valueBytes (e .cell)) b
 

@@ -8,21 +8,29 @@ use native.Mathlib.Nat.{zero-add, add-zero}
 use native.Mathlib.Omega.{arith}
 use lib.Dec.{eqb, ltb, leb}
 use lib.IntN.{ℤ}
-use lib.ListN.{length, getD, drop}
+use lib.ListN.{length, getD, drop, length-append}
 use mir.Syntax.{w32}
-use mir.Val.{toZ, ofZ}
+use mir.Val.{SFits, toZ, ofZ}
+use mir.Facts.{toZ-ofZ}
 use borrow.Author.Tests.{le-leb, lt-leb, lt-ltb, le-ltb, ne-eqb}
-use Rattle.numbers.specs.Meaning.{big, beAt, number, signed32, minusOne}
+use Rattle.numbers.specs.Meaning.{big, beAt, number, signed32, signBit, minusOne}
+use Rattle.refusal.specs.Meaning.{limit}
 use Rattle.refusal.specs.declared.Refusal.{Refusal}
 use Rattle.refusal.specs.declared.Refusal.the-variants.{Short, Dict, Limit, Version}
-use Rattle.refusal.specs.Reading.{Out, refuse, check}
+use Rattle.refusal.specs.Reading.{Out, refuse, check, numbersOf}
+use Rattle.numbers.specs.declared.Position.{Position}
+use Rattle.dictionary.specs.declared.Cursor.{Cursor}
+use Rattle.dictionary.specs.declared.Summary.{Summary}
+use Rattle.dictionary.specs.declared.Checked.{Checked}
+use Rattle.dictionary.specs.declared.Null.{Null}
+use Rattle.dictionary.specs.declared.Fixed.{Fixed}
+use Rattle.dictionary.specs.declared.AllEntries.{AllEntries}
 use Rattle.dictionary.specs.declared.Count.{Count}
 use Rattle.dictionary.specs.declared.Count.the-variants.{Is}
 use Rattle.dictionary.specs.declared.Fixed.the-variants.{Fields}
-use Rattle.dictionary.specs.Layout.{Entry}
+use Rattle.dictionary.specs.Layout.{Entry, mostValues1, mostValues2}
 use Rattle.dictionary.specs.Reading.{Dictionary, counted, nullOf, entriesOne, blocked, dictionary}
-use Rattle.dictionary.specs.Answers.{CountAt, entriesOf, FixedOf}
-use Rattle.dictionary.specs.Promises.{pattern, nulls}
+use Rattle.dictionary.specs.Promises.{pattern, nulls, nullsOf, IsRead, ReadsDictionary, CountAt, NullAt, entriesOf, FixedOf, AllEntriesAt}
 use Rattle.dictionary.proofs.Offsets.{pattern-passed}
 use Rattle.dictionary.proofs.Steps.{word-at, word-short}
 
@@ -34,19 +42,19 @@ module _ (most : ℕ) (s : List ℕ) (p : ℕ) where
   count-short h f = word-short 4 s p _ h
 
   module _ (h : p + 4 ≤ length s) {n : ℕ} (e : n ≡ beAt 4 s p) where
-    tested : (f : ℕ → List ℕ → Out Refusal Dictionary) → counted most (drop p s) f ≡ check (ltb n 2147483648) Dict (check (leb n most) Limit (f n (drop (p + 4) s)))
+    tested : (f : ℕ → List ℕ → Out Refusal Dictionary) → counted most (drop p s) f ≡ check (ltb n signBit) Dict (check (leb n most) Limit (f n (drop (p + 4) s)))
     unfolding counted
     tested f = rw e (word-at 4 s p _ h)
 
-    pub count-negative : 2147483648 ≤ n → (f : ℕ → List ℕ → Out Refusal Dictionary) → counted most (drop p s) f ≡ refuse Dict
+    pub count-negative : signBit ≤ n → (f : ℕ → List ℕ → Out Refusal Dictionary) → counted most (drop p s) f ≡ refuse Dict
     unfolding check
     count-negative l f = tested f ∙ rw le-ltb
 
-    pub count-over : n < 2147483648 → most < n → (f : ℕ → List ℕ → Out Refusal Dictionary) → counted most (drop p s) f ≡ refuse Limit
+    pub count-over : n < signBit → most < n → (f : ℕ → List ℕ → Out Refusal Dictionary) → counted most (drop p s) f ≡ refuse Limit
     unfolding check
     count-over l m f = tested f ∙ rw (lt-ltb, lt-leb)
 
-    pub count-is : n < 2147483648 → n ≤ most → (f : ℕ → List ℕ → Out Refusal Dictionary) → counted most (drop p s) f ≡ f n (drop (p + 4) s)
+    pub count-is : n < signBit → n ≤ most → (f : ℕ → List ℕ → Out Refusal Dictionary) → counted most (drop p s) f ≡ f n (drop (p + 4) s)
     unfolding check
     count-is l m f = tested f ∙ rw (lt-ltb, le-leb)
 
@@ -56,17 +64,17 @@ module _ (most : ℕ) (s : List ℕ) (p : ℕ) where
 pub has-one : {has : Bool} {P : Type 0} → has ≡ true → has ≡ false → P
 has-one y n = absurd (let z : _≡_ {A = ℕ} 0 1 = cc in omega arith)
 
-module _ (s : List ℕ) (p : ℕ) (two : Bool) {has : Bool} where
-  pub null-none : has ≡ false → (o : ℤ) (x : ℕ) (f : List Entry → List ℕ → Out Refusal Dictionary) → nullOf two has (drop p s) f ≡ f (nulls has o x) (drop p s)
+module _ (s : List ℕ) (p : ℕ) (version2 : Bool) {has : Bool} where
+  pub null-none : has ≡ false → (o : ℤ) (x : ℕ) (f : List Entry → List ℕ → Out Refusal Dictionary) → nullOf version2 has (drop p s) f ≡ f (nulls has o x) (drop p s)
   unfolding nullOf
   null-none n o x f = rw n
 
   module _ (y : has ≡ true) where
-    pub null-short : length s - p < 4 → (f : List Entry → List ℕ → Out Refusal Dictionary) → nullOf two has (drop p s) f ≡ refuse Short
+    pub null-short : length s - p < 4 → (f : List Entry → List ℕ → Out Refusal Dictionary) → nullOf version2 has (drop p s) f ≡ refuse Short
     unfolding nullOf
-    null-short h f = rw y (go two)
+    null-short h f = rw y (go version2)
       where
-        go : (two : Bool) → nullOf two true (drop p s) f ≡ refuse Short
+        go : (version2 : Bool) → nullOf version2 true (drop p s) f ≡ refuse Short
         go false = word-short 4 s p _ h
         go true = word-short 4 s p _ h
 
@@ -74,17 +82,17 @@ module _ (s : List ℕ) (p : ℕ) (two : Bool) {has : Bool} where
       e : pattern (toZ w32 (ofZ w32 z)) ≡ beAt 4 s p
       e = pattern-passed (beAt 4 s p) o i
 
-      pub null-one : two ≡ false → (f : List Entry → List ℕ → Out Refusal Dictionary) → nullOf two has (drop p s) f ≡ f (nulls has (toZ w32 (ofZ w32 z)) minusOne) (drop (p + 4) s)
+      pub null-one : version2 ≡ false → (f : List Entry → List ℕ → Out Refusal Dictionary) → nullOf version2 has (drop p s) f ≡ f (nulls has (toZ w32 (ofZ w32 z)) minusOne) (drop (p + 4) s)
       unfolding nullOf
       null-one w f = rw (y, w, e) (word-at 4 s p _ h)
 
-      module _ (w : two ≡ true) where
-        pub null-cut : length s - (p + 4) < 4 → (f : List Entry → List ℕ → Out Refusal Dictionary) → nullOf two has (drop p s) f ≡ refuse Short
+      module _ (w : version2 ≡ true) where
+        pub null-cut : length s - (p + 4) < 4 → (f : List Entry → List ℕ → Out Refusal Dictionary) → nullOf version2 has (drop p s) f ≡ refuse Short
         unfolding nullOf
         null-cut l f = rw (y, w) (word-at 4 s p _ h ∙ word-short 4 s (p + 4) _ l)
 
         pub null-two : p + 4 + 4 ≤ length s → {m : ℕ} → m ≡ beAt 4 s (p + 4) → (f : List Entry → List ℕ → Out Refusal Dictionary)
-            → nullOf two has (drop p s) f ≡ f (nulls has (toZ w32 (ofZ w32 z)) m) (drop (p + 4 + 4) s)
+            → nullOf version2 has (drop p s) f ≡ f (nulls has (toZ w32 (ofZ w32 z)) m) (drop (p + 4 + 4) s)
         unfolding nullOf
         null-two l d f = rw (y, w, e, d) (word-at 4 s p _ h ∙ word-at 4 s (p + 4) _ l)
 
@@ -96,11 +104,11 @@ byte-at s p = simp (zero-add, add-zero)
 -- what follows a version v
 abbrev opened : ℕ → ℕ → List ℕ → Out Refusal Dictionary
 opened t v s =
-    counted 2147483647 s (λ rows s. counted (cond (eqb v 2) 65536 4096) s (λ n s.
+    counted limit s (λ rows s. counted (cond (eqb v 2) mostValues2 mostValues1) s (λ n s.
     number big 1 (refuse Short) s (λ h s. check (leb h 1) Dict (nullOf (eqb v 2) (eqb h 1) s (λ ns s. entriesOf (eqb v 2) t rows n ns s)))))
 
 known : (t v : ℕ) (s : List ℕ) → 1 ≤ v → v ≤ 2 → check (eqb v 1 || eqb v 2) Version
-    (counted 2147483647 s (λ rows s. counted (cond (eqb v 1) 4096 65536) s (λ n s.
+    (counted limit s (λ rows s. counted (cond (eqb v 1) mostValues1 mostValues2) s (λ n s.
     number big 1 (refuse Short) s (λ hasNull s. check (leb hasNull 1) Dict
     (nullOf (eqb v 2) (eqb hasNull 1) s (λ nulls s.
     cond (eqb v 1) (entriesOne t rows n nulls [] s) (blocked t rows n nulls s))))))) ≡ opened t v s
@@ -110,10 +118,6 @@ known t (suc zero) s l m = refl
 known t (suc (suc zero)) s l m = refl
 known t (suc (suc (suc v))) s l m = absurd (omega arith)
 
-most-le : (b : Bool) → cond b 65536 4096 ≤ 65536
-most-le true = omega arith
-most-le false = omega arith
-
 module _ (s : List ℕ) where
   pub fixed-empty : length s < 1 → (t : ℕ) → dictionary t s ≡ refuse Short
   unfolding dictionary
@@ -121,7 +125,7 @@ module _ (s : List ℕ) where
 
   module _ (l : 1 ≤ length s) {v : ℕ} (e : v ≡ getD s 0 0) where
     versioned : (t : ℕ) → dictionary t s ≡ check (eqb v 1 || eqb v 2) Version
-        (counted 2147483647 (drop 1 s) (λ rows s. counted (cond (eqb v 1) 4096 65536) s (λ n s.
+        (counted limit (drop 1 s) (λ rows s. counted (cond (eqb v 1) mostValues1 mostValues2) s (λ n s.
         number big 1 (refuse Short) s (λ hasNull s. check (leb hasNull 1) Dict
         (nullOf (eqb v 2) (eqb hasNull 1) s (λ nulls s.
         cond (eqb v 1) (entriesOne t rows n nulls [] s) (blocked t rows n nulls s)))))))
@@ -136,10 +140,10 @@ module _ (s : List ℕ) where
       pub fixed-opened : (t : ℕ) → dictionary t s ≡ opened t v (drop 1 s)
       fixed-opened t = versioned t ∙ known t v (drop 1 s) lo hi
 
-      pub fixed-rows : {r : Refusal} → CountAt 2147483647 s 1 (Count.Refused r) → (t : ℕ) → dictionary t s ≡ refuse r
+      pub fixed-rows : {r : Refusal} → CountAt limit s 1 (Count.Refused r) → (t : ℕ) → dictionary t s ≡ refuse r
       fixed-rows q t = fixed-opened t ∙ q _
 
-      module _ {rows m : ℕ} (R : CountAt 2147483647 s 1 (Is rows)) (M : m ≡ cond (eqb v 2) 65536 4096) where
+      module _ {rows m : ℕ} (R : CountAt limit s 1 (Is rows)) (M : m ≡ cond (eqb v 2) mostValues2 mostValues1) where
         pub fixed-values : {r : Refusal} → CountAt m s 5 (Count.Refused r) → (t : ℕ) → dictionary t s ≡ refuse r
         fixed-values q t = fixed-opened t ∙ R .0 _ ∙ rw M at q _
 
@@ -160,4 +164,41 @@ module _ (s : List ℕ) where
 
             pub fixed-fields : h ≤ 1 → FixedOf s (Fields (eqb v 2) (eqb h 1) rows n)
             unfolding check
-            fixed-fields w = (λ t. flagged t ∙ simp (le-leb h 1 w), r, omega (arith, N, most-le (eqb v 2)), rw e)
+            fixed-fields w = (λ t. flagged t ∙ simp (le-leb h 1 w), r, rw e)
+
+-- ---- the whole, by its fields, null's entry and its entries
+
+pub by-two : (t n : ℕ) (s : List ℕ) (at : ℕ) (version2 : Bool) (r : AllEntries) → version2 ≡ true → AllEntriesAt true t n s at r → AllEntriesAt version2 t n s at r
+by-two t n s at version2 r h w = rw h w
+
+pub by-one : (t n : ℕ) (s : List ℕ) (at : ℕ) (version2 : Bool) (r : AllEntries) → version2 ≡ false → AllEntriesAt false t n s at r → AllEntriesAt version2 t n s at r
+by-one t n s at version2 r h w = rw h w
+
+module _ (t : ℕ) (s : List ℕ) where
+  pub refused-so : {r : Refusal} → dictionary t s ≡ refuse r → ReadsDictionary t s (Checked.Refused r)
+  unfolding numbersOf
+  refused-so e = record { so = e; numbers = rw e }
+
+  found-so : (h : Summary) → IsRead t s h → ReadsDictionary t s (Checked.Found h)
+  unfolding numbersOf
+  found-so h d = record { so = d; numbers = rw (d .so, length-append (nullsOf h) (d .entries), d .summary .many) }
+
+  module _ {x : Fixed} {version2 has : Bool} {rows values : ℕ} (e : x ≡ Fixed.Fields version2 has rows values) (f : FixedOf s x) {y : Null} (n : NullAt version2 has s 10 y) where
+    pub read-null : {r : Refusal} → y ≡ Null.Refused r → ReadsDictionary t s (Checked.Refused r)
+    read-null g = refused-so ((rw e at f) .0 t ∙ (rw g at n) _)
+
+    module _ {offset : ℤ} {extent : ℕ} {next : Position} (g : y ≡ Null.Numbers offset extent next) {z : AllEntries} (w : AllEntriesAt version2 t values s (next .0) z) where
+      pub read-refused : {r : Refusal} → z ≡ AllEntries.Refused r → ReadsDictionary t s (Checked.Refused r)
+      read-refused h = refused-so ((rw e at f) .0 t ∙ (rw g at n) .0 _ ∙ (rw h at w) rows (nulls has offset extent))
+
+      pub read-found : {first : Cursor} {region : Position} → SFits w32 offset → z ≡ AllEntries.Sound first region → ReadsDictionary t s
+          (Checked.Found (record { rows = rows; values = values; version2 = version2; «has_null» = has; «null_offset» = toZ w32 (ofZ w32 offset); «null_extent» = extent; first = first; region = region }))
+      read-found k h =
+          let v = rw h at w in
+          rw (toZ-ofZ k)
+          (found-so _ (record {
+            entries = v .0;
+            so = (rw e at f) .0 t ∙ (rw g at n) .0 _ ∙ v .1 rows (nulls has offset extent);
+            summary =
+                record { many = v .2; stand = v .3; left = v .4; start = v .5; region = v .6; version = (rw e at f) .2; zeros = (rw g at n) .2 };
+          }))

@@ -18,7 +18,7 @@ use Rattle.refusal.specs.Reading.{Out, refuse, ok, check, andThen}
 use Rattle.stored_value.specs.Reading.{valueOf}
 use Rattle.dictionary.specs.Promises.{Patterns}
 use Rattle.dictionary.specs.Layout.{Entry, Valued, NullOnly, someHas, Distinct, NoExtents, valueBytes, entries1, hasNull, null1, body1, first, Past, Rises, NoneEmpty, entries2, block, blocks, directory, null2, body2}
-use Rattle.dictionary.specs.Reading.{counted, Dictionary, entriesOne, Listing, listings, past, heads, entriesTwo, behind, blocksOf, blocked, nullOf, dictionary}
+use Rattle.dictionary.specs.Reading.{counted, Dictionary, entriesOne, Listing, listings, past, isDue, entriesTwo, behind, blocksOf, blocked, nullOf, dictionary}
 use Rattle.numbers.proofs.SameBytes.{same-refl}
 use Rattle.stored_value.proofs.Laws.{value-laid, sameCell-sym}
 
@@ -101,11 +101,11 @@ null-flag (e ∷ es) = omega arith
 most : ℕ → ℕ
 most v = cond (eqb v 1) 4096 65536
 
-head-laid : (t v rows n : ℕ) (nulls : List Entry) (s : List ℕ) → (eqb v 1 || eqb v 2) ≡ true → rows ≤ 2147483647 → n ≤ most v → n ≤ 65536
+fixed-laid : (t v rows n : ℕ) (nulls : List Entry) (s : List ℕ) → (eqb v 1 || eqb v 2) ≡ true → rows ≤ 2147483647 → n ≤ most v → n ≤ 65536
     → dictionary t (v ∷ (be 4 rows ++ (be 4 n ++ (hasNull nulls ∷ s))))
     ≡ nullOf (eqb v 2) (eqb (hasNull nulls) 1) s (λ nulls s. cond (eqb v 1) (entriesOne t rows n nulls [] s) (blocked t rows n nulls s))
 unfolding dictionary check most
-head-laid t v rows n nulls s e hr hm hn =
+fixed-laid t v rows n nulls s e hr hm hn =
     let f : hasNull nulls ≤ 1 = null-flag nulls in
     byte-laid v (be 4 rows ++ (be 4 n ++ (hasNull nulls ∷ s))) _
     ∙ rw e (counted-laid 2147483647 rows (be 4 n ++ (hasNull nulls ∷ s)) _ hr hr
@@ -136,7 +136,7 @@ unfolding most
 one-laid t rows nulls es region h d o x p r l =
     let q = patterns-cut nulls es p in
     let y = extents-cut nulls es x in
-    head-laid t 1 rows (length es) nulls (null1 nulls ++ (entries1 es ++ region)) refl r l (omega arith)
+    fixed-laid t 1 rows (length es) nulls (null1 nulls ++ (entries1 es ++ region)) refl r l (omega arith)
     ∙ null1-laid nulls (entries1 es ++ region) _ o (y .0) (q .0)
     ∙ entriesOne-laid t rows nulls [] es region h d (apart-none es) (y .1) (q .1)
 
@@ -194,25 +194,25 @@ past-true t (value u) (value w) v p = p
 
 -- the first value is the one that is asked for, if one is
 abbrev pub Begins : Cell → List Entry → Type 0
-Begins head [] = Unit {0}
-Begins head (e ∷ es) = heads head (valueBytes (e .cell)) ≡ true
+Begins due [] = Unit {0}
+Begins due (e ∷ es) = isDue due (valueBytes (e .cell)) ≡ true
 
 begins-any : (es : List Entry) → Begins null es
-unfolding heads
+unfolding isDue
 begins-any [] = tt
 begins-any (e ∷ es) = refl
 
 begins-own : (es : List Entry) → Begins (value (valueBytes (first es))) es
-unfolding heads
+unfolding isDue
 begins-own [] = tt
 begins-own (e ∷ es) = same-refl (valueBytes (e .cell))
 
-entriesTwo-laid : {A : Type 0} (t : ℕ) (before head : Cell) (es sofar : List Entry) (s : List ℕ) (k : Cell → List Entry → List ℕ → Out Refusal A)
-    → t < 12 → Rises t before es → Begins head es → Patterns es
-    → entriesTwo t (length es) before head sofar (entries2 es ++ s) k ≡ k (lastOf before es) (sofar ++ es) s
+entriesTwo-laid : {A : Type 0} (t : ℕ) (before due : Cell) (es sofar : List Entry) (s : List ℕ) (k : Cell → List Entry → List ℕ → Out Refusal A)
+    → t < 12 → Rises t before es → Begins due es → Patterns es
+    → entriesTwo t (length es) before due sofar (entries2 es ++ s) k ≡ k (lastOf before es) (sofar ++ es) s
 unfolding entriesTwo check
-entriesTwo-laid t before head [] sofar s k h r b p = simp append-nil
-entriesTwo-laid t before head (e ∷ es) sofar s k h r b p =
+entriesTwo-laid t before due [] sofar s k h r b p = simp append-nil
+entriesTwo-laid t before due (e ∷ es) sofar s k h r b p =
     let c : Cell = e .cell in
     rw (append-assoc (valueBytes c) (be 4 (e .offset) ++ (be 4 (e .extent) ++ entries2 es)) s)
     (valueOf-laid t c (be 4 (e .offset) ++ (be 4 (e .extent) ++ (entries2 es ++ s))) _ h (r .0)
@@ -283,6 +283,6 @@ two-laid t rows nulls bs region h o n r p hr l m z =
     let tail : List ℕ = be 4 (length bs) ++ (directory 0 bs ++ (be 4 (length (blocks bs)) ++ (blocks bs ++ region))) in
     let y : length (blocks bs) ≤ 2147483647 =
     omega (arith, length-append (null2 nulls) tail, length-append (directory 0 bs) (be 4 (length (blocks bs)) ++ (blocks bs ++ region)), length-append (blocks bs) region) in
-    head-laid t 2 rows (length (joined bs)) nulls (null2 nulls ++ tail) refl hr l l
+    fixed-laid t 2 rows (length (joined bs)) nulls (null2 nulls ++ tail) refl hr l l
     ∙ null2-laid nulls tail _ o (q .0)
     ∙ blocked-laid t rows nulls bs region h n r (q .1) l m y

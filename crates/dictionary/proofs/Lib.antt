@@ -1,11 +1,10 @@
 -- What only the proofs cite.
 pub mod Fields
 pub mod VersionTwo
-pub mod Whole
 pub mod LaidOut
 pub mod Accepted
 pub mod Order
 pub mod Theorems
 pub mod Steps
 pub mod Offsets
-pub mod Cursor
+pub mod NextEntry

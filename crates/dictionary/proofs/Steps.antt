@@ -22,8 +22,8 @@ use Rattle.stored_value.specs.Reading.{valueSize, valueOf}
 use Rattle.dictionary.specs.declared.Value.{Value}
 use Rattle.dictionary.specs.Layout.{Entry, someHas}
 use Rattle.dictionary.specs.Reading.{Dictionary, entriesOne}
-use Rattle.dictionary.specs.Promises.{tail, entryOf, position, Stand}
-use Rattle.dictionary.specs.Answers.{ValueAt}
+use Rattle.dictionary.specs.Promises.{tail, entryOf, position, EntriesFrom}
+use Rattle.dictionary.specs.Promises.{ValueAt}
 
 -- ---- what is accepted passed its tests
 
@@ -118,40 +118,40 @@ drop-past s p e w h = let z : p + (e - p + w) ≡ e + w = omega arith in drop-dr
 -- ---- entries stand one before another
 
 -- one more in front, in a block that is open
-pub stand-cons : (t : ℕ) (two : Bool) (left : ℕ) (s : List ℕ) (k : ℕ) (es : List Entry) → 1 ≤ left → valueSize Short Dict t s ≡ ok k → k + tail two ≤ length s
-    → Stand t two (left - 1) (drop (k + tail two) s) es → Stand t two left s (entryOf two k s ∷ es)
-unfolding Stand
-stand-cons t two left s k es h e l r =
+pub stand-cons : (t : ℕ) (version2 : Bool) (left : ℕ) (s : List ℕ) (k : ℕ) (es : List Entry) → 1 ≤ left → valueSize Short Dict t s ≡ ok k → k + tail version2 ≤ length s
+    → EntriesFrom t version2 (left - 1) (drop (k + tail version2) s) es → EntriesFrom t version2 left s (entryOf version2 k s ∷ es)
+unfolding EntriesFrom
+stand-cons t version2 left s k es h e l r =
     let z : eqb left 0 ≡ false = ne-eqb left 0 (λ q. omega arith) in
     simp z (omega arith, h, (k, e, l, refl, r))
 
 -- the first, in a block that is open
-pub stand-head : (t : ℕ) (two : Bool) (left : ℕ) (s : List ℕ) (e : Entry) (es : List Entry) → 1 ≤ left → Stand t two left s (e ∷ es)
-    → (k : ℕ) × (valueSize Short Dict t s ≡ ok k) × (k + tail two ≤ length s) × (e ≡ entryOf two k s) × Stand t two (left - 1) (drop (k + tail two) s) es
-unfolding Stand
-stand-head t two left s e es h st =
+pub stand-first : (t : ℕ) (version2 : Bool) (left : ℕ) (s : List ℕ) (e : Entry) (es : List Entry) → 1 ≤ left → EntriesFrom t version2 left s (e ∷ es)
+    → (k : ℕ) × (valueSize Short Dict t s ≡ ok k) × (k + tail version2 ≤ length s) × (e ≡ entryOf version2 k s) × EntriesFrom t version2 (left - 1) (drop (k + tail version2) s) es
+unfolding EntriesFrom
+stand-first t version2 left s e es h st =
     let z : eqb left 0 ≡ false = ne-eqb left 0 (λ q. omega arith) in
     (rw z at st) .2
 
 -- where a block's number is due
-pub stand-opened : (t : ℕ) (two : Bool) (s : List ℕ) (e : Entry) (es : List Entry) → Stand t two 0 s (e ∷ es)
-    → (4 ≤ length s) × (1 ≤ beAt 4 s 0) × Stand t two (beAt 4 s 0) (drop 4 s) (e ∷ es)
-unfolding Stand
-stand-opened t two s e es st =
+pub stand-opened : (t : ℕ) (version2 : Bool) (s : List ℕ) (e : Entry) (es : List Entry) → EntriesFrom t version2 0 s (e ∷ es)
+    → (4 ≤ length s) × (1 ≤ beAt 4 s 0) × EntriesFrom t version2 (beAt 4 s 0) (drop 4 s) (e ∷ es)
+unfolding EntriesFrom
+stand-opened t version2 s e es st =
     let z : eqb (beAt 4 s 0) 0 ≡ false = ne-eqb (beAt 4 s 0) 0 (λ q. omega arith) in
     (st .0, st .1, simp z (omega arith, st .1, st .2))
 
-pub stand-opening : (t : ℕ) (two : Bool) (s : List ℕ) (es : List Entry) → 4 ≤ length s → 1 ≤ length es → 1 ≤ beAt 4 s 0
-    → Stand t two (beAt 4 s 0) (drop 4 s) es → Stand t two 0 s es
-unfolding Stand
-stand-opening t two s [] h l m st = tt
-stand-opening t two s (e ∷ es) h l m st = (h, m, stand-head t two (beAt 4 s 0) (drop 4 s) e es m st)
+pub stand-opening : (t : ℕ) (version2 : Bool) (s : List ℕ) (es : List Entry) → 4 ≤ length s → 1 ≤ length es → 1 ≤ beAt 4 s 0
+    → EntriesFrom t version2 (beAt 4 s 0) (drop 4 s) es → EntriesFrom t version2 0 s es
+unfolding EntriesFrom
+stand-opening t version2 s [] h l m st = tt
+stand-opening t version2 s (e ∷ es) h l m st = (h, m, stand-first t version2 (beAt 4 s 0) (drop 4 s) e es m st)
 
 -- ---- whether a value is among i entries: j of them are passed
 
 pub record Sought (t : ℕ) (v start : List ℕ) (i j : ℕ) (rest : List ℕ) : Type 0 where
-  pub so : (n : ℕ) (es : List Entry) → Stand t false n start es → length es ≡ i → i ≤ n
-      → (more : List Entry) × Stand t false (n - j) rest more × (length more ≡ i - j) × (someHas (value v) es ≡ someHas (value v) more)
+  pub so : (n : ℕ) (es : List Entry) → EntriesFrom t false n start es → length es ≡ i → i ≤ n
+      → (more : List Entry) × EntriesFrom t false (n - j) rest more × (length more ≡ i - j) × (someHas (value v) es ≡ someHas (value v) more)
 
 pub sought-first : (t : ℕ) (v s : List ℕ) (i : ℕ) → Sought t v s i 0 s
 sought-first t v s i = record {
@@ -163,16 +163,16 @@ unfolding sameCell
 has-cons v s k e es h = rw h
 
 -- one more entry, while some are left
-sought-turn : (t : ℕ) (v : List ℕ) (m n : ℕ) (es : List Entry) (s : List ℕ) → Stand t false m s es → length es ≡ n → 0 < n → n ≤ m
-    → (k : ℕ) × (valueSize Short Dict t s ≡ ok k) × ((more : List Entry) × Stand t false (m - 1) (drop (k + 4) s) more × (length more ≡ n - 1)
+sought-turn : (t : ℕ) (v : List ℕ) (m n : ℕ) (es : List Entry) (s : List ℕ) → EntriesFrom t false m s es → length es ≡ n → 0 < n → n ≤ m
+    → (k : ℕ) × (valueSize Short Dict t s ≡ ok k) × ((more : List Entry) × EntriesFrom t false (m - 1) (drop (k + 4) s) more × (length more ≡ n - 1)
     × (someHas (value v) es ≡ (same v (take k s) || someHas (value v) more)))
 sought-turn t v m n [] s st l z h = absurd (omega arith)
 sought-turn t v m n (e ∷ es) s st l z h =
-    let x = stand-head t false m s e es (omega arith) st in
+    let x = stand-first t false m s e es (omega arith) st in
     (x .0, x .1, (es, x .4, omega arith, has-cons v s (x .0) e es (x .3)))
 
 module _ {t : ℕ} {v start : List ℕ} {i j : ℕ} {rest : List ℕ} (st : Sought t v start i j rest) where
-  pub sought-done : i ≤ j → (n : ℕ) (es : List Entry) → Stand t false n start es → length es ≡ i → i ≤ n → false ≡ someHas (value v) es
+  pub sought-done : i ≤ j → (n : ℕ) (es : List Entry) → EntriesFrom t false n start es → length es ≡ i → i ≤ n → false ≡ someHas (value v) es
   sought-done d n es h l m = let x = st .so n es h l m in sym (x .3 ∙ none (x .0) (omega (arith, x .2)))
     where
       none : (es : List Entry) → length es ≡ 0 → someHas (value v) es ≡ false
@@ -180,14 +180,14 @@ module _ {t : ℕ} {v start : List ℕ} {i j : ℕ} {rest : List ℕ} (st : Soug
       none (e ∷ es) z = absurd (omega arith)
 
   module _ (lt : j < i) where
-    pub sought-lost : {r : Refusal} → valueSize Short Dict t rest ≡ refuse r → (n : ℕ) (es : List Entry) → Stand t false n start es → length es ≡ i → i ≤ n → false ≡ someHas (value v) es
+    pub sought-lost : {r : Refusal} → valueSize Short Dict t rest ≡ refuse r → (n : ℕ) (es : List Entry) → EntriesFrom t false n start es → length es ≡ i → i ≤ n → false ≡ someHas (value v) es
     sought-lost e n es h l m =
         let x = st .so n es h l m in
         let y = sought-turn t v (n - j) (i - j) (x .0) rest (x .1) (x .2) (omega arith) (omega arith) in
         absurd (let z : _≡_ {A = ℕ} 0 1 = cc (y .1) in omega arith)
 
     module _ {k : ℕ} (e : valueSize Short Dict t rest ≡ ok k) where
-      pub sought-found : {x : Bool} → x ≡ same v (take k rest) → x ≡ true → (n : ℕ) (es : List Entry) → Stand t false n start es → length es ≡ i → i ≤ n → true ≡ someHas (value v) es
+      pub sought-found : {x : Bool} → x ≡ same v (take k rest) → x ≡ true → (n : ℕ) (es : List Entry) → EntriesFrom t false n start es → length es ≡ i → i ≤ n → true ≡ someHas (value v) es
       sought-found g f n es h l m =
           let x = st .so n es h l m in
           let y = sought-turn t v (n - j) (i - j) (x .0) rest (x .1) (x .2) (omega arith) (omega arith) in
@@ -213,7 +213,7 @@ pub record One (t n : ℕ) (start : List ℕ) (i : ℕ) (rest : List ℕ) : Type
   pub es : List Entry
   pub so : (rows : ℕ) (nulls : List Entry) → entriesOne t rows n nulls [] start ≡ entriesOne t rows (n - i) nulls es rest
   pub count : length es ≡ i
-  pub stand : (more : List Entry) → Stand t false (n - i) rest more → Stand t false n start (es ++ more)
+  pub stand : (more : List Entry) → EntriesFrom t false (n - i) rest more → EntriesFrom t false n start (es ++ more)
 
 pub one-first : (t n : ℕ) (s : List ℕ) → One t n s 0 s
 one-first t n s = let z : n - 0 ≡ n = omega arith in record { es = []; so = λ rows nulls. rw z; count = refl; stand = λ more h. rw z at h }
@@ -231,8 +231,8 @@ one-broken t rows zero nulls es s r z e = absurd (omega arith)
 one-broken t rows (suc m) nulls es s r z e = value-refused t s _ r e
 
 module _ {t n : ℕ} {start : List ℕ} {i : ℕ} {rest : List ℕ} (st : One t n start i rest) where
-  pub one-stand : Stand t false n start (st .es)
-  unfolding Stand
+  pub one-stand : EntriesFrom t false n start (st .es)
+  unfolding EntriesFrom
   one-stand = rw (append-nil) at (st .stand [] tt)
 
   pub one-done : i ≡ n → (rows : ℕ) (nulls : List Entry) → entriesOne t rows n nulls [] start ≡ ok (record { rows = rows; entries = nulls ++ st .es; region = rest })

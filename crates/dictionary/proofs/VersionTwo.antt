@@ -8,26 +8,25 @@ use lib.Dec.{eqb, ltb, leb}
 use lib.ListN.{length, take, drop, length-append, length-drop}
 use lib.Seq.{drop-drop}
 use borrow.Author.Tests.{leb-true, leb-false, le-leb, lt-leb, lt-ltb, le-ltb, eq-eqb, ne-eqb}
-use Rattle.numbers.specs.Meaning.{big, beAt, number, same}
+use Rattle.numbers.specs.Meaning.{big, beAt, number, signBit}
 use Rattle.numbers.proofs.Laws.{numberAt-drop}
 use Rattle.refusal.specs.declared.Refusal.{Refusal}
 use Rattle.refusal.specs.declared.Refusal.the-variants.{Short, Dict}
-use Rattle.stored_value.specs.Meaning.{Cell, null, value, less}
+use Rattle.stored_value.specs.Meaning.{Cell, null, value}
 use Rattle.refusal.specs.Reading.{Out, refuse, ok, check}
 use Rattle.stored_value.specs.Reading.{valueSize}
 use Rattle.dictionary.specs.declared.Span.{Span}
-use Rattle.dictionary.specs.declared.Passed.{Passed}
+use Rattle.dictionary.specs.declared.BlockEntries.{BlockEntries}
 use Rattle.dictionary.specs.declared.Count.{Count}
 use Rattle.dictionary.specs.declared.Count.the-variants.{Is}
 use Rattle.dictionary.specs.declared.Directory.{Directory}
 use Rattle.dictionary.specs.declared.Block.{Block}
 use Rattle.dictionary.specs.declared.Blocks.{Blocks}
-use Rattle.dictionary.specs.declared.Walked.{Walked}
+use Rattle.dictionary.specs.declared.AllEntries.{AllEntries}
 use Rattle.dictionary.specs.declared.Value.{Value}
-use Rattle.dictionary.specs.Layout.{Entry}
-use Rattle.dictionary.specs.Reading.{Dictionary, Listing, listings, past, heads, entriesTwo, behind, blocksOf, blocked}
-use Rattle.dictionary.specs.Promises.{entryOf, position, Stand}
-use Rattle.dictionary.specs.Answers.{ValueAt, CountAt, Listed, DirectoryAt, cellAt, PassedAt, BlockAt, BlocksAt, WalkedAt}
+use Rattle.dictionary.specs.Layout.{Entry, mostBlocks}
+use Rattle.dictionary.specs.Reading.{Dictionary, Listing, listings, past, isDue, entriesTwo, behind, blocksOf, blocked}
+use Rattle.dictionary.specs.Promises.{entryOf, position, cursor, EntriesFrom, ValueAt, CountAt, Listed, DirectoryAt, bytesAt, cellAt, BlockEntriesAt, BlockAt, BlocksAt, AllEntriesAt}
 use Rattle.dictionary.proofs.Steps.{offset-behind, drop-past, value-ok, value-refused, word-at, word-short, stand-cons, stand-opening}
 
 -- ---- the directory: i of the n listings from `start` on are read, and `rest` is left
@@ -88,41 +87,31 @@ module _ {t n : ℕ} {start : List ℕ} {i : ℕ} {rest : List ℕ} (st : Listin
             stand = λ more g. rw append-assoc (st .stand (listing k rest ∷ more) (k, e, h, refl, g));
           }
 
--- ---- the value before, and the directory's
+-- ---- the value before, and the one that is due: what a test says of a span that may have no bytes
 
-module _ (s : List ℕ) (c : Span) (w : List ℕ) where
-  cell-none : c .end .0 ≤ c .start .0 → cellAt s c ≡ null
-  cell-none h = rw (le-ltb (c .start .0) (c .end .0) h)
+module _ (s : List ℕ) (c : Span) (f : Cell → Bool) where
+  pub span-none : f null ≡ true → c .end .0 ≤ c .start .0 → true ≡ f (cellAt s c)
+  span-none n h = rw (le-ltb (c .start .0) (c .end .0) h, n)
 
-  cell-some : c .start .0 < c .end .0 → cellAt s c ≡ value (take (c .end .0 - c .start .0) (drop (c .start .0) s))
-  cell-some h = rw (lt-ltb (c .start .0) (c .end .0) h)
+  pub span-some : c .start .0 < c .end .0 → f (value (bytesAt s c)) ≡ f (cellAt s c)
+  span-some h = rw (lt-ltb (c .start .0) (c .end .0) h)
 
-  pub past-none : (t : ℕ) → c .end .0 ≤ c .start .0 → true ≡ past t (cellAt s c) w
-  unfolding past
-  past-none t h = rw (cell-none h)
+abbrev pub span : ℕ → ℕ → Span
+span p e = record { start = position p; end = position e }
 
-  pub past-some : (t : ℕ) → c .start .0 < c .end .0 → less t (take (c .end .0 - c .start .0) (drop (c .start .0) s)) w ≡ past t (cellAt s c) w
-  unfolding past
-  past-some t h = rw (cell-some h)
-
-  pub heads-none : c .end .0 ≤ c .start .0 → true ≡ heads (cellAt s c) w
-  unfolding heads
-  heads-none h = rw (cell-none h)
-
-  pub heads-some : c .start .0 < c .end .0 → same (take (c .end .0 - c .start .0) (drop (c .start .0) s)) w ≡ heads (cellAt s c) w
-  unfolding heads
-  heads-some h = rw (cell-some h)
+cell-some : (s : List ℕ) (c : Span) → c .start .0 < c .end .0 → cellAt s c ≡ value (bytesAt s c)
+cell-some s c h = rw (lt-ltb (c .start .0) (c .end .0) h)
 
 -- ---- a block's entries: i of the n from `start` on are read; behind them the value before is b, and h what the next must be
 
-pub record Passing (t n : ℕ) (before head : Cell) (start : List ℕ) (i : ℕ) (b h : Cell) (rest : List ℕ) : Type 0 where
+pub record Passing (t n : ℕ) (before due : Cell) (start : List ℕ) (i : ℕ) (b h : Cell) (rest : List ℕ) : Type 0 where
   pub new : List Entry
-  pub so : (es : List Entry) (f : Cell → List Entry → List ℕ → Out Refusal Dictionary) → entriesTwo t n before head es start f ≡ entriesTwo t (n - i) b h (es ++ new) rest f
+  pub so : (es : List Entry) (f : Cell → List Entry → List ℕ → Out Refusal Dictionary) → entriesTwo t n before due es start f ≡ entriesTwo t (n - i) b h (es ++ new) rest f
   pub count : length new ≡ i
-  pub stand : (more : List Entry) → Stand t true (n - i) rest more → Stand t true n start (new ++ more)
+  pub stand : (more : List Entry) → EntriesFrom t true (n - i) rest more → EntriesFrom t true n start (new ++ more)
 
-pub passing-first : (t n : ℕ) (before head : Cell) (s : List ℕ) → Passing t n before head s 0 before head s
-passing-first t n before head s =
+pub passing-first : (t n : ℕ) (before due : Cell) (s : List ℕ) → Passing t n before due s 0 before due s
+passing-first t n before due s =
     let z : n - 0 ≡ n = omega arith in
     record { new = []; so = λ es f. rw (z, append-nil); count = refl; stand = λ more g. rw z at g }
 
@@ -132,7 +121,7 @@ numbers t m k es s f =
     entriesTwo t m (value (take k s)) null (es ++ (record { cell = value (take k s); offset = offset; extent = extent } ∷ [])) s' f))
 
 passing-turn : (t m : ℕ) (b h : Cell) (es : List Entry) (s : List ℕ) (f : Cell → List Entry → List ℕ → Out Refusal Dictionary) (k : ℕ) → 0 < m → valueSize Short Dict t s ≡ ok k
-    → entriesTwo t m b h es s f ≡ check (past t b (take k s) && heads h (take k s)) Dict (numbers t (m - 1) k es s f)
+    → entriesTwo t m b h es s f ≡ check (past t b (take k s) && isDue h (take k s)) Dict (numbers t (m - 1) k es s f)
 unfolding entriesTwo
 passing-turn t zero b h es s f k z e = absurd (omega arith)
 passing-turn t (suc m) b h es s f k z e = let c : suc m - 1 ≡ m = omega arith in simp c (value-ok t s _ k e)
@@ -143,47 +132,47 @@ unfolding entriesTwo
 passing-broken t zero b h es s f r z e = absurd (omega arith)
 passing-broken t (suc m) b h es s f r z e = value-refused t s _ r e
 
-module _ {t n : ℕ} {before head : Cell} {start : List ℕ} {i : ℕ} {b h : Cell} {rest : List ℕ} (st : Passing t n before head start i b h rest) where
-  pub passing-done : n ≤ i → (es : List Entry) (f : Cell → List Entry → List ℕ → Out Refusal Dictionary) → entriesTwo t n before head es start f ≡ f b (es ++ st .new) rest
+module _ {t n : ℕ} {before due : Cell} {start : List ℕ} {i : ℕ} {b h : Cell} {rest : List ℕ} (st : Passing t n before due start i b h rest) where
+  pub passing-done : n ≤ i → (es : List Entry) (f : Cell → List Entry → List ℕ → Out Refusal Dictionary) → entriesTwo t n before due es start f ≡ f b (es ++ st .new) rest
   unfolding entriesTwo
   passing-done l es f = let z : n - i ≡ 0 = omega arith in st .so es f ∙ simp z
 
-  pub passing-stand : n ≤ i → (more : List Entry) → Stand t true 0 rest more → Stand t true n start (st .new ++ more)
+  pub passing-stand : n ≤ i → (more : List Entry) → EntriesFrom t true 0 rest more → EntriesFrom t true n start (st .new ++ more)
   passing-stand l more g = let z : n - i ≡ 0 = omega arith in st .stand more (rw z g)
 
   module _ (lt : i < n) where
     pub passing-refused : {r : Refusal} → valueSize Short Dict t rest ≡ refuse r
-        → (es : List Entry) (f : Cell → List Entry → List ℕ → Out Refusal Dictionary) → entriesTwo t n before head es start f ≡ refuse r
+        → (es : List Entry) (f : Cell → List Entry → List ℕ → Out Refusal Dictionary) → entriesTwo t n before due es start f ≡ refuse r
     passing-refused {r} e es f = st .so es f ∙ passing-broken t (n - i) b h (es ++ st .new) rest f r (omega arith) e
 
     module _ {k : ℕ} (e : valueSize Short Dict t rest ≡ ok k) where
-      passing-unrolled : (es : List Entry) (f : Cell → List Entry → List ℕ → Out Refusal Dictionary) → entriesTwo t n before head es start f
-          ≡ check (past t b (take k rest) && heads h (take k rest)) Dict (numbers t (n - i - 1) k (es ++ st .new) rest f)
+      passing-unrolled : (es : List Entry) (f : Cell → List Entry → List ℕ → Out Refusal Dictionary) → entriesTwo t n before due es start f
+          ≡ check (past t b (take k rest) && isDue h (take k rest)) Dict (numbers t (n - i - 1) k (es ++ st .new) rest f)
       passing-unrolled es f = st .so es f ∙ passing-turn t (n - i) b h (es ++ st .new) rest f k (omega arith) e
 
       pub passing-low : {x : Bool} → x ≡ past t b (take k rest) → x ≡ false
-          → (es : List Entry) (f : Cell → List Entry → List ℕ → Out Refusal Dictionary) → entriesTwo t n before head es start f ≡ refuse Dict
+          → (es : List Entry) (f : Cell → List Entry → List ℕ → Out Refusal Dictionary) → entriesTwo t n before due es start f ≡ refuse Dict
       unfolding check
       passing-low g c es f = passing-unrolled es f ∙ simp (← g, c)
 
-      pub passing-other : {x y : Bool} → x ≡ past t b (take k rest) → x ≡ true → y ≡ heads h (take k rest) → y ≡ false
-          → (es : List Entry) (f : Cell → List Entry → List ℕ → Out Refusal Dictionary) → entriesTwo t n before head es start f ≡ refuse Dict
+      pub passing-other : {x y : Bool} → x ≡ past t b (take k rest) → x ≡ true → y ≡ isDue h (take k rest) → y ≡ false
+          → (es : List Entry) (f : Cell → List Entry → List ℕ → Out Refusal Dictionary) → entriesTwo t n before due es start f ≡ refuse Dict
       unfolding check
       passing-other g c d m es f = passing-unrolled es f ∙ simp (← g, c, ← d, m)
 
-      module _ {x y : Bool} (g : x ≡ past t b (take k rest)) (higher : x ≡ true) (d : y ≡ heads h (take k rest)) (listed : y ≡ true) where
-        passing-admitted : (es : List Entry) (f : Cell → List Entry → List ℕ → Out Refusal Dictionary) → entriesTwo t n before head es start f ≡ numbers t (n - i - 1) k (es ++ st .new) rest f
+      module _ {x y : Bool} (g : x ≡ past t b (take k rest)) (higher : x ≡ true) (d : y ≡ isDue h (take k rest)) (listed : y ≡ true) where
+        passing-admitted : (es : List Entry) (f : Cell → List Entry → List ℕ → Out Refusal Dictionary) → entriesTwo t n before due es start f ≡ numbers t (n - i - 1) k (es ++ st .new) rest f
         unfolding check
         passing-admitted es f = passing-unrolled es f ∙ simp (← g, higher, ← d, listed)
 
-        pub passing-short : length rest - k < 8 → (es : List Entry) (f : Cell → List Entry → List ℕ → Out Refusal Dictionary) → entriesTwo t n before head es start f ≡ refuse Short
+        pub passing-short : length rest - k < 8 → (es : List Entry) (f : Cell → List Entry → List ℕ → Out Refusal Dictionary) → entriesTwo t n before due es start f ≡ refuse Short
         passing-short l es f = passing-admitted es f ∙ numbers-short (leb (k + 4) (length rest)) refl
           where
             numbers-short : (w : Bool) → leb (k + 4) (length rest) ≡ w → numbers t (n - i - 1) k (es ++ st .new) rest f ≡ refuse Short
             numbers-short true w = word-at 4 rest k _ (leb-true (k + 4) (length rest) w) ∙ word-short 4 rest (k + 4) _ (omega arith)
             numbers-short false w = let v : length rest < k + 4 = leb-false (k + 4) (length rest) w in word-short 4 rest k _ (omega arith)
 
-        pub passing-next : k + 8 ≤ length rest → Passing t n before head start (i + 1) (value (take k rest)) null (drop (k + 8) rest)
+        pub passing-next : k + 8 ≤ length rest → Passing t n before due start (i + 1) (value (take k rest)) null (drop (k + 8) rest)
         passing-next l =
             let c : n - i - 1 ≡ n - (i + 1) = omega arith in
             let q : k + 4 + 4 ≡ k + 8 = omega arith in
@@ -195,19 +184,19 @@ module _ {t n : ℕ} {before head : Cell} {start : List ℕ} {i : ℕ} {b h : Ce
             }
 
 -- the same at the code's positions: the value stands from p to e
-pub passing-on : {t n : ℕ} {before head : Cell} {start : List ℕ} {i : ℕ} {b h : Cell} (s : List ℕ) (p e : ℕ) → Passing t n before head start i b h (drop p s) → i < n
-    → ValueAt t s p (Value.To (position e)) → {x y : Bool} → x ≡ past t b (take (e - p) (drop p s)) → x ≡ true → y ≡ heads h (take (e - p) (drop p s)) → y ≡ true → e + 8 ≤ length s
-    → Passing t n before head start (i + 1) (cellAt s (record { start = position p; end = position e })) null (drop (e + 8) s)
+pub passing-on : {t n : ℕ} {before due : Cell} {start : List ℕ} {i : ℕ} {b h : Cell} (s : List ℕ) (p e : ℕ) → Passing t n before due start i b h (drop p s) → i < n
+    → ValueAt t s p (Value.To (position e)) → {x y : Bool} → x ≡ past t b (take (e - p) (drop p s)) → x ≡ true → y ≡ isDue h (take (e - p) (drop p s)) → y ≡ true → e + 8 ≤ length s
+    → Passing t n before due start (i + 1) (cellAt s (span p e)) null (drop (e + 8) s)
 passing-on s p e st lt v g c d m r =
     let l : e - p + 8 ≤ length (drop p s) = simp length-drop (omega arith) in
-    rw (drop-past s p e 8 (omega arith), ← cell-some s (record { start = position p; end = position e }) [] (v .1)) at (passing-next st lt (v .0) g c d m l)
+    rw (drop-past s p e 8 (omega arith), ← cell-some s (span p e) (v .1)) at (passing-next st lt (v .0) g c d m l)
 
 -- ---- a block: its listing stands at q, with a value that ends at e, and the block at p
 
-listed-head : (t : ℕ) (s : List ℕ) (k : ℕ) (d : Listing) (ds : List Listing) → valueSize Short Dict t s ≡ ok k → Listed t s (d ∷ ds)
+listed-first : (t : ℕ) (s : List ℕ) (k : ℕ) (d : Listing) (ds : List Listing) → valueSize Short Dict t s ≡ ok k → Listed t s (d ∷ ds)
     → (d ≡ listing k s) × (k + 4 ≤ length s) × Listed t (drop (k + 4) s) ds
 unfolding Listed
-listed-head t s k d ds e l = let q : l .0 ≡ k = cc (l .1) in (rw q at (l .3), rw q at (l .2), rw q at (l .4))
+listed-first t s k d ds e l = let q : l .0 ≡ k = cc (l .1) in (rw q at (l .3), rw q at (l .2), rw q at (l .4))
 
 pub listed-lost : (t : ℕ) (s : List ℕ) (q : ℕ) (r : Refusal) (d : Listing) (ds : List Listing) → ValueAt t s q (Value.Refused r) → Listed t (drop q s) (d ∷ ds) → ⊥
 unfolding Listed
@@ -218,67 +207,67 @@ unfolding behind
 behind-at s base p h l = simp length-drop (omega arith)
 
 module _ (t : ℕ) (s : List ℕ) (base q p e : ℕ) (from : base ≤ p) (to : p ≤ length s) (v : ValueAt t s q (Value.To (position e)))
-    (before : Cell) (d : Listing) (ds : List Listing) (l : Listed t (drop q s) (d ∷ ds)) where
+    (before : Span) (d : Listing) (ds : List Listing) (l : Listed t (drop q s) (d ∷ ds)) where
   pub block-listed : (e + 4 ≤ length s) × Listed t (drop (e + 4) s) ds
   block-listed =
-      let h = listed-head t (drop q s) (e - q) d ds (v .0) l in
+      let h = listed-first t (drop q s) (e - q) d ds (v .0) l in
       let r = rw length-drop at (h .1) in
       (omega arith, rw (drop-past s q e 4 (omega arith)) at (h .2))
 
   module _ (es : List Entry) (f : List Entry → List ℕ → Out Refusal Dictionary) where
-    block-turn : blocksOf t (d ∷ ds) (drop base s) before es (drop p s) f ≡ check (eqb (beAt 4 s e) (p - base)) Dict
-        (number big 4 (refuse Short) (drop p s) (λ n s'. check (leb 1 n && ltb n 2147483648) Dict
-        (entriesTwo t n before (cellAt s (record { start = position q; end = position e })) es s' (λ before es s'. blocksOf t ds (drop base s) before es s' f))))
+    block-turn : blocksOf t (d ∷ ds) (drop base s) (cellAt s before) es (drop p s) f ≡ check (eqb (beAt 4 s e) (p - base)) Dict
+        (number big 4 (refuse Short) (drop p s) (λ n s'. check (leb 1 n && ltb n signBit) Dict
+        (entriesTwo t n (cellAt s before) (cellAt s (span q e)) es s' (λ before es s'. blocksOf t ds (drop base s) before es s' f))))
     unfolding blocksOf
     block-turn =
-        let h = listed-head t (drop q s) (e - q) d ds (v .0) l in
+        let h = listed-first t (drop q s) (e - q) d ds (v .0) l in
         let o = offset-behind s q e (omega arith) in
-        let c = cell-some s (record { start = position q; end = position e }) [] (v .1) in
+        let c = cell-some s (span q e) (v .1) in
         simp (h .0, o, behind-at s base p from to, c)
 
-    pub block-misplaced : {a : ℕ} → a ≡ beAt 4 s e → (a ≡ p - base → ⊥) → blocksOf t (d ∷ ds) (drop base s) before es (drop p s) f ≡ refuse Dict
+    pub block-misplaced : {a : ℕ} → a ≡ beAt 4 s e → (a ≡ p - base → ⊥) → blocksOf t (d ∷ ds) (drop base s) (cellAt s before) es (drop p s) f ≡ refuse Dict
     unfolding check
     block-misplaced g h = block-turn ∙ simp (← g, ne-eqb _ (p - base) h)
 
     module _ {a : ℕ} (g : a ≡ beAt 4 s e) (h : a ≡ p - base) where
-      block-placed : blocksOf t (d ∷ ds) (drop base s) before es (drop p s) f ≡ number big 4 (refuse Short) (drop p s) (λ n s'. check (leb 1 n && ltb n 2147483648) Dict
-          (entriesTwo t n before (cellAt s (record { start = position q; end = position e })) es s' (λ before es s'. blocksOf t ds (drop base s) before es s' f)))
+      block-placed : blocksOf t (d ∷ ds) (drop base s) (cellAt s before) es (drop p s) f ≡ number big 4 (refuse Short) (drop p s) (λ n s'. check (leb 1 n && ltb n signBit) Dict
+          (entriesTwo t n (cellAt s before) (cellAt s (span q e)) es s' (λ before es s'. blocksOf t ds (drop base s) before es s' f)))
       unfolding check
       block-placed = block-turn ∙ simp (← g, eq-eqb a (p - base) h)
 
-      pub block-short : length s - p < 4 → blocksOf t (d ∷ ds) (drop base s) before es (drop p s) f ≡ refuse Short
+      pub block-short : length s - p < 4 → blocksOf t (d ∷ ds) (drop base s) (cellAt s before) es (drop p s) f ≡ refuse Short
       block-short c = block-placed ∙ word-short 4 s p _ c
 
       module _ (r : p + 4 ≤ length s) {n : ℕ} (m : n ≡ beAt 4 s p) where
-        block-numbered : blocksOf t (d ∷ ds) (drop base s) before es (drop p s) f ≡ check (leb 1 n && ltb n 2147483648) Dict
-            (entriesTwo t n before (cellAt s (record { start = position q; end = position e })) es (drop (p + 4) s) (λ before es s'. blocksOf t ds (drop base s) before es s' f))
+        block-numbered : blocksOf t (d ∷ ds) (drop base s) (cellAt s before) es (drop p s) f ≡ check (leb 1 n && ltb n signBit) Dict
+            (entriesTwo t n (cellAt s before) (cellAt s (span q e)) es (drop (p + 4) s) (λ before es s'. blocksOf t ds (drop base s) before es s' f))
         block-numbered = block-placed ∙ rw m (word-at 4 s p _ r)
 
-        pub block-none : n < 1 → blocksOf t (d ∷ ds) (drop base s) before es (drop p s) f ≡ refuse Dict
+        pub block-none : n < 1 → blocksOf t (d ∷ ds) (drop base s) (cellAt s before) es (drop p s) f ≡ refuse Dict
         unfolding check
         block-none c = block-numbered ∙ simp (lt-leb 1 n c)
 
-        pub block-negative : 1 ≤ n → 2147483648 ≤ n → blocksOf t (d ∷ ds) (drop base s) before es (drop p s) f ≡ refuse Dict
+        pub block-negative : 1 ≤ n → signBit ≤ n → blocksOf t (d ∷ ds) (drop base s) (cellAt s before) es (drop p s) f ≡ refuse Dict
         unfolding check
-        block-negative c u = block-numbered ∙ simp (le-leb 1 n c, le-ltb n 2147483648 u)
+        block-negative c u = block-numbered ∙ simp (le-leb 1 n c, le-ltb n signBit u)
 
-        module _ (c : 1 ≤ n) (u : n < 2147483648) where
-          block-sound : blocksOf t (d ∷ ds) (drop base s) before es (drop p s) f
-              ≡ entriesTwo t n before (cellAt s (record { start = position q; end = position e })) es (drop (p + 4) s) (λ before es s'. blocksOf t ds (drop base s) before es s' f)
+        module _ (c : 1 ≤ n) (u : n < signBit) where
+          block-sound : blocksOf t (d ∷ ds) (drop base s) (cellAt s before) es (drop p s) f
+              ≡ entriesTwo t n (cellAt s before) (cellAt s (span q e)) es (drop (p + 4) s) (λ before es s'. blocksOf t ds (drop base s) before es s' f)
           unfolding check
-          block-sound = block-numbered ∙ simp (le-leb 1 n c, lt-ltb n 2147483648 u)
+          block-sound = block-numbered ∙ simp (le-leb 1 n c, lt-ltb n signBit u)
 
-          pub block-refused : {r : Refusal} → PassedAt t n before (cellAt s (record { start = position q; end = position e })) s (p + 4) (Passed.Refused r)
-              → blocksOf t (d ∷ ds) (drop base s) before es (drop p s) f ≡ refuse r
+          pub block-refused : {r : Refusal} → BlockEntriesAt t n before (span q e) s (p + 4) (BlockEntries.Refused r)
+              → blocksOf t (d ∷ ds) (drop base s) (cellAt s before) es (drop p s) f ≡ refuse r
           block-refused x = block-sound ∙ x es _
 
-          pub block-passed : {next : ℕ} (last : Span) (x : PassedAt t n before (cellAt s (record { start = position q; end = position e })) s (p + 4) (Passed.To (position next) last))
-              → blocksOf t (d ∷ ds) (drop base s) before es (drop p s) f ≡ blocksOf t ds (drop base s) (cellAt s last) (es ++ x .0 .0) (drop next s) f
+          pub block-passed : {next : ℕ} (last : Span) (x : BlockEntriesAt t n before (span q e) s (p + 4) (BlockEntries.To (position next) last))
+              → blocksOf t (d ∷ ds) (drop base s) (cellAt s before) es (drop p s) f ≡ blocksOf t ds (drop base s) (cellAt s last) (es ++ x .0 .0) (drop next s) f
           block-passed last x = block-sound ∙ x .0 .1 es _
 
 -- entries that stand behind a block's number stand where it is due
 pub block-stand : (t : ℕ) (s : List ℕ) (p : ℕ) {n : ℕ} (es : List Entry) → p + 4 ≤ length s → n ≡ beAt 4 s p → 1 ≤ n → 1 ≤ length es
-    → Stand t true n (drop (p + 4) s) es → Stand t true 0 (drop p s) es
+    → EntriesFrom t true n (drop (p + 4) s) es → EntriesFrom t true 0 (drop p s) es
 block-stand t s p es h m c l st =
     let b : beAt 4 (drop p s) 0 ≡ beAt 4 s p = numberAt-drop big 4 s p in
     stand-opening t true (drop p s) es (simp length-drop (omega arith)) l (rw b (omega arith)) (rw (b, ← m, drop-drop 4 p s) st)
@@ -292,7 +281,7 @@ pub record Blocking (t : ℕ) (ds : List Listing) (base : List ℕ) (i : ℕ) (d
   pub es : List Entry
   pub so : (f : List Entry → List ℕ → Out Refusal Dictionary) → blocksOf t ds base null [] base f ≡ blocksOf t left base before es rest f
   pub total : length es ≡ sum
-  pub stand : (more : List Entry) → Stand t true 0 rest more → Stand t true 0 base (es ++ more)
+  pub stand : (more : List Entry) → EntriesFrom t true 0 rest more → EntriesFrom t true 0 base (es ++ more)
 
 pub blocking-first : (t : ℕ) (ds : List Listing) (base dir : List ℕ) → Listed t dir ds → Blocking t ds base 0 dir null 0 base
 blocking-first t ds base dir l = record { left = ds; listed = l; count = omega arith; es = []; so = λ f. refl; total = refl; stand = λ more g. g }
@@ -307,16 +296,16 @@ module _ {t : ℕ} {ds : List Listing} {base : List ℕ} {i : ℕ} {dir : List �
       by [] z = refl
       by (d ∷ left) z = absurd (omega arith)
 
-  pub blocking-stand : Stand t true 0 base (st .es)
-  unfolding Stand
+  pub blocking-stand : EntriesFrom t true 0 base (st .es)
+  unfolding EntriesFrom
   blocking-stand = rw append-nil at (st .stand [] tt)
 
-module _ {t : ℕ} {ds : List Listing} {before : Cell} {i sum : ℕ} (s : List ℕ) (base q p : ℕ) (st : Blocking t ds (drop base s) i (drop q s) before sum (drop p s)) (lt : i < length ds) where
+module _ {t : ℕ} {ds : List Listing} {i sum : ℕ} (s : List ℕ) (base q p : ℕ) (before : Span) (st : Blocking t ds (drop base s) i (drop q s) (cellAt s before) sum (drop p s)) (lt : i < length ds) where
   pub blocking-refused : {r : Refusal} → BlockAt t before s base q p (Block.Refused r)
       → (f : List Entry → List ℕ → Out Refusal Dictionary) → blocksOf t ds (drop base s) null [] (drop base s) f ≡ refuse r
   blocking-refused {r} x f = st .so f ∙ by (st .left) (st .listed) (omega (arith, st .count))
     where
-      by : (left : List Listing) → Listed t (drop q s) left → 0 < length left → blocksOf t left (drop base s) before (st .es) (drop p s) f ≡ refuse r
+      by : (left : List Listing) → Listed t (drop q s) left → 0 < length left → blocksOf t left (drop base s) (cellAt s before) (st .es) (drop p s) f ≡ refuse r
       by [] l z = absurd (omega arith)
       by (d ∷ left) l z = x d left l (st .es) f
 
@@ -325,7 +314,7 @@ module _ {t : ℕ} {ds : List Listing} {before : Cell} {i sum : ℕ} (s : List �
   blocking-next listing next number last x = by (st .left) (st .listed) (st .count) (st .so)
     where
       by : (left : List Listing) → Listed t (drop q s) left → length left ≡ length ds - i
-          → ((f : List Entry → List ℕ → Out Refusal Dictionary) → blocksOf t ds (drop base s) null [] (drop base s) f ≡ blocksOf t left (drop base s) before (st .es) (drop p s) f)
+          → ((f : List Entry → List ℕ → Out Refusal Dictionary) → blocksOf t ds (drop base s) null [] (drop base s) f ≡ blocksOf t left (drop base s) (cellAt s before) (st .es) (drop p s) f)
           → Blocking t ds (drop base s) (i + 1) (drop listing s) (cellAt s last) (sum + number) (drop next s)
       by [] l c so = absurd (omega arith)
       by (d ∷ left) l c so =
@@ -354,17 +343,17 @@ behindBlocks t rows n ns offset base es region =
     check (eqb offset (behind base region)) Dict (check (eqb (length es) n) Dict (ok (record { rows = rows; entries = ns ++ es; region = region })))
 
 module _ (t n : ℕ) (s : List ℕ) (at : ℕ) where
-  pub two-count : {r : Refusal} → CountAt 65536 s at (Count.Refused r) → WalkedAt true t n s at (Walked.Refused r)
+  pub two-count : {r : Refusal} → CountAt mostBlocks s at (Count.Refused r) → AllEntriesAt true t n s at (AllEntries.Refused r)
   unfolding blocked
   two-count x rows ns = x _
 
-  module _ {b : ℕ} (x : CountAt 65536 s at (Is b)) where
+  module _ {b : ℕ} (x : CountAt mostBlocks s at (Is b)) where
     two-counted : (rows : ℕ) (ns : List Entry) → blocked t rows n ns (drop at s) ≡ check (cond (eqb n 0) (eqb b 0) (leb 1 b)) Dict
         (listings t b [] (drop (at + 4) s) (λ ds s'. number big 4 (refuse Short) s' (λ offset base. blocksOf t ds base null [] base (behindBlocks t rows n ns offset base))))
     unfolding blocked
     two-counted rows ns = x .0 _
 
-    pub two-unfit : {y : Bool} → y ≡ cond (eqb n 0) (eqb b 0) (leb 1 b) → y ≡ false → WalkedAt true t n s at (Walked.Refused Dict)
+    pub two-unfit : {y : Bool} → y ≡ cond (eqb n 0) (eqb b 0) (leb 1 b) → y ≡ false → AllEntriesAt true t n s at (AllEntries.Refused Dict)
     unfolding check
     two-unfit g h rows ns = two-counted rows ns ∙ simp (← g, h)
 
@@ -374,11 +363,11 @@ module _ (t n : ℕ) (s : List ℕ) (at : ℕ) where
       unfolding check
       two-fit rows ns = two-counted rows ns ∙ simp (← g, fit)
 
-      pub two-directory : {r : Refusal} → DirectoryAt t b s (at + 4) (Directory.Refused r) → WalkedAt true t n s at (Walked.Refused r)
+      pub two-directory : {r : Refusal} → DirectoryAt t b s (at + 4) (Directory.Refused r) → AllEntriesAt true t n s at (AllEntries.Refused r)
       two-directory d rows ns = two-fit rows ns ∙ d _
 
       module _ {e : ℕ} (d : DirectoryAt t b s (at + 4) (Directory.Ends (position e))) where
-        pub two-short : length s - e < 4 → WalkedAt true t n s at (Walked.Refused Short)
+        pub two-short : length s - e < 4 → AllEntriesAt true t n s at (AllEntries.Refused Short)
         two-short h rows ns = two-fit rows ns ∙ d .1 _ ∙ word-short 4 s e _ h
 
         module _ (r : e + 4 ≤ length s) {offset : ℕ} (o : offset ≡ beAt 4 s e) where
@@ -386,7 +375,7 @@ module _ (t n : ℕ) (s : List ℕ) (at : ℕ) where
               ≡ blocksOf t (d .0) (drop (e + 4) s) null [] (drop (e + 4) s) (behindBlocks t rows n ns offset (drop (e + 4) s))
           two-opened rows ns = two-fit rows ns ∙ d .1 _ ∙ rw o (word-at 4 s e _ r)
 
-          pub two-broken : {r : Refusal} → BlocksAt t b s (at + 4) (e + 4) (Blocks.Refused r) → WalkedAt true t n s at (Walked.Refused r)
+          pub two-broken : {r : Refusal} → BlocksAt t b s (at + 4) (e + 4) (Blocks.Refused r) → AllEntriesAt true t n s at (AllEntries.Refused r)
           two-broken z rows ns = two-opened rows ns ∙ z (d .0) (d .2) (d .3) _
 
           module _ {next sum : ℕ} (z : BlocksAt t b s (at + 4) (e + 4) (Blocks.End (position next) sum)) where
@@ -400,22 +389,23 @@ module _ (t n : ℕ) (s : List ℕ) (at : ℕ) where
                 two-opened rows ns ∙ z .0 (d .0) (d .2) (d .3) .1 _
                 ∙ rw (behind-at s (e + 4) next (z .1) (z .2), z .0 (d .0) (d .2) (d .3) .2)
 
-            pub two-offset : (offset ≡ next - (e + 4) → ⊥) → WalkedAt true t n s at (Walked.Refused Dict)
+            pub two-offset : (offset ≡ next - (e + 4) → ⊥) → AllEntriesAt true t n s at (AllEntries.Refused Dict)
             unfolding check
             two-offset h rows ns = two-read rows ns ∙ simp (ne-eqb offset (next - (e + 4)) h)
 
             module _ (h : offset ≡ next - (e + 4)) where
-              pub two-sum : (sum ≡ n → ⊥) → WalkedAt true t n s at (Walked.Refused Dict)
+              pub two-sum : (sum ≡ n → ⊥) → AllEntriesAt true t n s at (AllEntries.Refused Dict)
               unfolding check
               two-sum q rows ns = two-read rows ns ∙ simp (eq-eqb offset (next - (e + 4)) h, ne-eqb sum n q)
 
-              pub two-ends : sum ≡ n → WalkedAt true t n s at (Walked.Ends (position (e + 4)) (position next))
+              pub two-ends : sum ≡ n → AllEntriesAt true t n s at (AllEntries.Sound (cursor (e + 4) 0) (position next))
               unfolding check es
               two-ends q = (
                 es,
                 λ rows ns. two-read rows ns ∙ simp (eq-eqb offset (next - (e + 4)) h, eq-eqb sum n q),
                 z .0 (d .0) (d .2) (d .3) .2 ∙ q,
                 z .0 (d .0) (d .2) (d .3) .3,
+                refl,
                 r,
                 z .2,
               )

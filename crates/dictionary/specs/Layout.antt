@@ -15,6 +15,17 @@ pub record Entry : Type 0 where
   pub offset : ℕ
   pub extent : ℕ
 
+-- ---- limits (01, "Limits"): the value number of each version, and the block number
+
+abbrev pub mostValues1 : ℕ
+mostValues1 = 4096
+
+abbrev pub mostValues2 : ℕ
+mostValues2 = 65536
+
+abbrev pub mostBlocks : ℕ
+mostBlocks = 65536
+
 -- ---- entries
 
 -- a value of type t

@@ -1,32 +1,40 @@
--- Where the code finds entries: a cursor is a position and the number of entries left in the block that is open, 0 where a block's number is due.
--- Version 1 has no blocks: all its entries are left from the start.
-use mathlib.Core.Path.{_≡_}
+-- What the code's answers say, in the reading's terms: first the public functions', then the private ones'.
 use Prim.Native.Nat.{ℕ, _+_, _-_, _≤_, _<_}
-use mathlib.Core.Bool.{Bool, false, cond}
+use mathlib.Core.Path.{_≡_}
+use mathlib.Core.Bool.{Bool, true, false, cond}
 use mathlib.Core.List.{List, [], _∷_, _++_}
-use lib.Dec.{eqb, leb}
+use lib.Dec.{eqb, ltb, leb}
 use lib.IntN.{ℤ, pos}
 use lib.ListN.{length, take, drop, getD}
 use mir.Syntax.{w32}
 use mir.Val.{ofZ}
 use Rattle.numbers.specs.declared.Position.{Position}
-use Rattle.numbers.specs.Meaning.{beAt, signed32, minusOne}
+use Rattle.numbers.specs.Meaning.{beAt, signed32, signBit, minusOne}
+use Rattle.refusal.specs.Meaning.{numberOf}
+use Rattle.refusal.specs.Reading.{Out, refuse, ok, numbersOf}
 use Rattle.refusal.specs.declared.Refusal.{Refusal}
 use Rattle.refusal.specs.declared.Refusal.the-variants.{Short, Dict}
-use Rattle.stored_value.specs.Meaning.{null, value}
-use Rattle.refusal.specs.Reading.{Out, refuse, ok}
+use Rattle.stored_value.specs.Meaning.{Cell, null, value}
 use Rattle.stored_value.specs.Reading.{valueSize}
+use Rattle.dictionary.specs.declared.Cursor.{Cursor}
+use Rattle.dictionary.specs.declared.Summary.{Summary}
 use Rattle.dictionary.specs.declared.Checked.{Checked}
-use Rattle.dictionary.specs.declared.Checked.the-variants.{Refused, Found}
-use Rattle.dictionary.specs.declared.Head.{Head}
+use Rattle.dictionary.specs.declared.Checked.the-variants.{Found}
 use Rattle.dictionary.specs.declared.EntryAt.{EntryAt}
-use Rattle.dictionary.specs.Layout.{Entry}
-use Rattle.dictionary.specs.Reading.{dictionary}
+use Rattle.dictionary.specs.declared.Value.{Value}
+use Rattle.dictionary.specs.declared.Count.{Count}
+use Rattle.dictionary.specs.declared.Null.{Null}
+use Rattle.dictionary.specs.declared.Fixed.{Fixed}
+use Rattle.dictionary.specs.declared.Span.{Span}
+use Rattle.dictionary.specs.declared.Directory.{Directory}
+use Rattle.dictionary.specs.declared.BlockEntries.{BlockEntries}
+use Rattle.dictionary.specs.declared.Block.{Block}
+use Rattle.dictionary.specs.declared.Blocks.{Blocks}
+use Rattle.dictionary.specs.declared.AllEntries.{AllEntries}
+use Rattle.dictionary.specs.Layout.{Entry, someHas}
+use Rattle.dictionary.specs.Reading.{Dictionary, Listing, counted, nullOf, entriesOne, listings, entriesTwo, blocksOf, blocked, dictionary}
 
--- both numbers of each entry are 32-bit patterns
-abbrev pub Patterns : List Entry → Type 0
-Patterns [] = Unit {0}
-Patterns (e ∷ es) = (e .offset < 4294967296) × (e .extent < 4294967296) × Patterns es
+-- ---- where entries stand
 
 -- the bytes of a block's number, where that is due, and the entries left then
 abbrev pub opening : ℕ → ℕ
@@ -37,22 +45,33 @@ leftIn left s = cond (eqb left 0) (beAt 4 s 0) left
 
 -- behind a value: its offset, and in version 2 its extent
 abbrev pub tail : Bool → ℕ
-tail two = cond two 8 4
+tail version2 = cond version2 8 4
 
 abbrev pub extentAt : Bool → ℕ → List ℕ → ℕ
-extentAt two k s = cond two (beAt 4 s (k + 4)) minusOne
+extentAt version2 k s = cond version2 (beAt 4 s (k + 4)) minusOne
 
 -- the entry whose value takes the k bytes at the front of s
 abbrev pub entryOf : Bool → ℕ → List ℕ → Entry
-entryOf two k s = record { cell = value (take k s); offset = beAt 4 s k; extent = extentAt two k s }
+entryOf version2 k s = record { cell = value (take k s); offset = beAt 4 s k; extent = extentAt version2 k s }
 
--- the entries es stand one after another at the front of s
-unfoldable pub Stand : ℕ → Bool → ℕ → List ℕ → List Entry → Type 0
-Stand t two left s [] = Unit {0}
-Stand t two left s (e ∷ es) =
+-- the entries es stand one after another at the front of s, where `left` of them are left in the block that is open
+unfoldable pub EntriesFrom : ℕ → Bool → ℕ → List ℕ → List Entry → Type 0
+EntriesFrom t version2 left s [] = Unit {0}
+EntriesFrom t version2 left s (e ∷ es) =
     (opening left ≤ length s) × (1 ≤ leftIn left s)
-    × ((k : ℕ) × (valueSize Short Dict t (drop (opening left) s) ≡ ok k) × (k + tail two ≤ length (drop (opening left) s))
-    × (e ≡ entryOf two k (drop (opening left) s)) × Stand t two (leftIn left s - 1) (drop (k + tail two) (drop (opening left) s)) es)
+    × ((k : ℕ) × (valueSize Short Dict t (drop (opening left) s) ≡ ok k) × (k + tail version2 ≤ length (drop (opening left) s))
+    × (e ≡ entryOf version2 k (drop (opening left) s)) × EntriesFrom t version2 (leftIn left s - 1) (drop (k + tail version2) (drop (opening left) s)) es)
+
+-- the entries es stand one after another at a cursor
+abbrev pub EntriesAt : ℕ → Bool → List ℕ → Cursor → List Entry → Type 0
+EntriesAt t version2 s c es = EntriesFrom t version2 (c .left) (drop (c .at .0) s) es
+
+-- both numbers of each entry are 32-bit patterns
+abbrev pub Patterns : List Entry → Type 0
+Patterns [] = Unit {0}
+Patterns (e ∷ es) = (e .offset < 4294967296) × (e .extent < 4294967296) × Patterns es
+
+-- ---- `read`: the dictionary of any bytes
 
 -- the 32 bits of a signed number
 abbrev pub pattern : ℤ → ℕ
@@ -62,54 +81,189 @@ pattern z = ofZ w32 z
 abbrev pub nulls : Bool → ℤ → ℕ → List Entry
 nulls has offset extent = cond has (record { cell = null; offset = pattern offset; extent = extent } ∷ []) []
 
-abbrev pub nullsOf : Head → List Entry
+abbrev pub nullsOf : Summary → List Entry
 nullsOf h = nulls (h .«has_null») (h .«null_offset») (h .«null_extent»)
 
--- the cursor before the first entry: in version 2 a block's number is due
-abbrev pub firstLeft : Head → ℕ
-firstLeft h = cond (h .two) 0 (h .count)
+-- the dictionary that a summary of s and the values' entries es make up
+abbrev pub dictionaryOf : List ℕ → Summary → List Entry → Dictionary
+dictionaryOf s h es = record { rows = h .rows; entries = nullsOf h ++ es; region = drop (h .region .0) s }
 
--- what the code says of a dictionary: the reading's refusal; or the reading's dictionary, with its entries where the head says (anywhere, if there are
--- none), and zero for null's numbers where it has no entry
-abbrev pub Tells : ℕ → List ℕ → Checked → Type 0
-Tells t s (Refused r) = dictionary t s ≡ refuse r
-Tells t s (Found h) =
-    (es : List Entry) × (dictionary t s ≡ ok (record { rows = h .rows; entries = nullsOf h ++ es; region = drop (h .region .0) s }))
-    × (length es ≡ h .count) × Stand t (h .two) (firstLeft h) (drop (h .entries .0) s) es × (h .entries .0 ≤ length s) × (h .region .0 ≤ length s)
-    × (h .two ≡ eqb (getD s 0 0) 2) × (h .«has_null» ≡ false → (h .«null_offset» ≡ pos 0) × (h .«null_extent» ≡ 0))
+-- the summary h of s is true of the values' entries es: they are as many as it says and stand at its cursor (which may be anywhere, if there are none);
+-- in version 2 a block's number is due there; null's numbers are zero where it has no entry
+pub record Summarizes (t : ℕ) (s : List ℕ) (h : Summary) (es : List Entry) : Type 0 where
+  pub many : length es ≡ h .values
+  pub stand : EntriesAt t (h .version2) s (h .first) es
+  pub left : h .first .left ≡ cond (h .version2) 0 (h .values)
+  pub start : h .first .at .0 ≤ length s
+  pub region : h .region .0 ≤ length s
+  pub version : h .version2 ≡ eqb (getD s 0 0) 2
+  pub zeros : h .«has_null» ≡ false → (h .«null_offset» ≡ pos 0) × (h .«null_extent» ≡ 0)
 
--- ---- the entry at a cursor of any bytes
+-- the bytes are read as a dictionary with this summary
+pub record IsRead (t : ℕ) (s : List ℕ) (h : Summary) : Type 0 where
+  pub entries : List Entry
+  pub so : dictionary t s ≡ ok (dictionaryOf s h entries)
+  pub summary : Summarizes t s h entries
+
+-- the reading's refusal, or the reading's dictionary
+abbrev pub SaysDictionary : ℕ → List ℕ → Checked → Type 0
+SaysDictionary t s (Checked.Refused r) = dictionary t s ≡ refuse r
+SaysDictionary t s (Found h) = IsRead t s h
+
+-- the answer in numbers: its own, 0 or the refusal's; and the row count and the number of entries, null's among them
+abbrev pub checkedOut : Checked → ℕ × (ℕ × ℕ)
+checkedOut (Checked.Refused r) = (numberOf r, (0, 0))
+checkedOut (Found h) = (0, (h .rows, length (nullsOf h) + h .values))
+
+pub record ReadsDictionary (t : ℕ) (s : List ℕ) (r : Checked) : Type 0 where
+  pub so : SaysDictionary t s r
+  pub numbers : checkedOut r ≡ numbersOf (0, 0) (λ (d : Dictionary). (0, (d .rows, length (d .entries)))) (dictionary t s)
+
+-- ---- `next`: the entry at a cursor of any bytes
 
 abbrev pub position : ℕ → Position
 position p = record { 0 = p }
 
+abbrev pub cursor : ℕ → ℕ → Cursor
+cursor p left = record { at = position p; left = left }
+
 -- none stands there
 abbrev pub noEntry : EntryAt
-noEntry = record { start = position 0; end = position 0; offset = pos 0; extent = 0; «next_at» = position 0; left = 0 }
+noEntry = record { start = position 0; end = position 0; offset = pos 0; extent = 0; next = cursor 0 0 }
 
--- the value from `at` to e, what is behind it, and the cursor behind that
-abbrev pub entryTo : Bool → List ℕ → ℕ → ℕ → ℕ → EntryAt
-entryTo two s at n e =
-    record { start = position at; end = position e; offset = signed32 (beAt 4 s e); extent = extentAt two e s; «next_at» = position (e + tail two); left = n - 1 }
+-- the value at the cursor, which ends at e, what is behind it, and the cursor behind that
+abbrev pub entryEnding : Bool → List ℕ → Cursor → ℕ → EntryAt
+entryEnding version2 s c e =
+    record { start = c .at; end = position e; offset = signed32 (beAt 4 s e); extent = extentAt version2 e s; next = cursor (e + tail version2) (c .left - 1) }
 
-unfoldable pub entrySized : Bool → List ℕ → ℕ → ℕ → Out Refusal ℕ → EntryAt
-entrySized two s at n (refuse r) = noEntry
-entrySized two s at n (ok k) = cond (leb (at + k + tail two) (length s)) (entryTo two s at n (at + k)) noEntry
+unfoldable pub entryOfSize : Bool → List ℕ → Cursor → Out Refusal ℕ → EntryAt
+entryOfSize version2 s c (refuse r) = noEntry
+entryOfSize version2 s c (ok k) = cond (leb (c .at .0 + k + tail version2) (length s)) (entryEnding version2 s c (c .at .0 + k)) noEntry
 
--- the first of n entries left in a block
-unfoldable pub entryFrom : ℕ → Bool → List ℕ → ℕ → ℕ → EntryAt
-entryFrom t two s at n = cond (eqb n 0) noEntry (entrySized two s at n (valueSize Short Dict t (drop at s)))
+-- the first of the entries left in a block that is open
+unfoldable pub entryInBlock : ℕ → Bool → List ℕ → Cursor → EntryAt
+entryInBlock t version2 s c = cond (eqb (c .left) 0) noEntry (entryOfSize version2 s c (valueSize Short Dict t (drop (c .at .0) s)))
 
 -- where a block's number is due, it is read first
-unfoldable pub nextOf : ℕ → Bool → List ℕ → ℕ → ℕ → EntryAt
-nextOf t two s at left =
-    cond (eqb left 0) (cond (leb (at + 4) (length s)) (entryFrom t two s (at + 4) (beAt 4 s at)) noEntry) (entryFrom t two s at left)
+unfoldable pub nextEntry : ℕ → Bool → List ℕ → Cursor → EntryAt
+nextEntry t version2 s c =
+    cond (eqb (c .left) 0)
+    (cond (leb (c .at .0 + 4) (length s)) (entryInBlock t version2 s (cursor (c .at .0 + 4) (beAt 4 s (c .at .0)))) noEntry)
+    (entryInBlock t version2 s c)
 
 -- what the code found, as an entry
 abbrev pub entryAt : List ℕ → EntryAt → Entry
 entryAt s a = record { cell = value (take (a .end .0 - a .start .0) (drop (a .start .0) s)); offset = pattern (a .offset); extent = a .extent }
 
--- what the code says of the entry at a cursor, if e stands there and then es
-abbrev pub Steps : ℕ → Bool → List ℕ → EntryAt → Entry → List Entry → Type 0
-Steps t two s a e es =
-    (e ≡ entryAt s a) × (a .start .0 ≤ a .end .0) × (a .end .0 ≤ length s) × (a .«next_at» .0 ≤ length s) × Stand t two (a .left) (drop (a .«next_at» .0) s) es
+-- what was found is the entry e, and es stand behind it
+pub record IsNext (t : ℕ) (version2 : Bool) (s : List ℕ) (a : EntryAt) (e : Entry) (es : List Entry) : Type 0 where
+  pub so : e ≡ entryAt s a
+  pub start : a .start .0 ≤ a .end .0
+  pub end : a .end .0 ≤ length s
+  pub next : a .next .at .0 ≤ length s
+  pub stand : EntriesAt t version2 s (a .next) es
+
+pub record NextAt (t : ℕ) (version2 : Bool) (s : List ℕ) (c : Cursor) (a : EntryAt) : Type 0 where
+  pub so : a ≡ nextEntry t version2 s c
+  pub first : (e : Entry) (es : List Entry) → EntriesAt t version2 s c (e ∷ es) → IsNext t version2 s a e es
+
+-- ---- the private functions: fields
+
+-- a value at a position, and where it ends
+abbrev pub ValueAt : ℕ → List ℕ → ℕ → Value → Type 0
+ValueAt t s at (Value.Refused r) = valueSize Short Dict t (drop at s) ≡ refuse r
+ValueAt t s at (Value.To e) = (valueSize Short Dict t (drop at s) ≡ ok (e .0 - at)) × (at < e .0) × (e .0 ≤ length s)
+
+-- whether i entries of version 1 that stand at a position have the value v
+abbrev pub HasValueAt : ℕ → ℕ → List ℕ → ℕ → List ℕ → Bool → Type 0
+HasValueAt t i s at v r = (n : ℕ) (es : List Entry) → EntriesFrom t false n (drop at s) es → length es ≡ i → i ≤ n → r ≡ someHas (value v) es
+
+-- a count at a position
+abbrev pub CountAt : ℕ → List ℕ → ℕ → Count → Type 0
+CountAt most s at (Count.Refused r) = (f : ℕ → List ℕ → Out Refusal Dictionary) → counted most (drop at s) f ≡ refuse r
+CountAt most s at (Count.Is n) =
+    ((f : ℕ → List ℕ → Out Refusal Dictionary) → counted most (drop at s) f ≡ f n (drop (at + 4) s)) × (at + 4 ≤ length s) × (n ≤ most)
+
+-- an offset at a position
+abbrev pub OffsetAt : List ℕ → ℕ → ℤ → Type 0
+OffsetAt s at z = (z ≡ signed32 (beAt 4 s at)) × (beAt 4 s at < 4294967296)
+
+-- null's entry, if there is one, at a position
+abbrev pub NullAt : Bool → Bool → List ℕ → ℕ → Null → Type 0
+NullAt version2 has s at (Null.Refused r) = (f : List Entry → List ℕ → Out Refusal Dictionary) → nullOf version2 has (drop at s) f ≡ refuse r
+NullAt version2 has s at (Null.Numbers offset extent next) =
+    ((f : List Entry → List ℕ → Out Refusal Dictionary) → nullOf version2 has (drop at s) f ≡ f (nulls has offset extent) (drop (next .0) s)) × (next .0 ≤ length s)
+    × (has ≡ false → (offset ≡ pos 0) × (extent ≡ 0))
+
+-- the entries of either version
+abbrev pub entriesOf : Bool → ℕ → ℕ → ℕ → List Entry → List ℕ → Out Refusal Dictionary
+entriesOf version2 t rows n ns s = cond version2 (blocked t rows n ns s) (entriesOne t rows n ns [] s)
+
+-- the ten bytes that every dictionary begins with
+abbrev pub FixedOf : List ℕ → Fixed → Type 0
+FixedOf s (Fixed.Refused r) = (t : ℕ) → dictionary t s ≡ refuse r
+FixedOf s (Fixed.Fields version2 has rows values) =
+    ((t : ℕ) → dictionary t s ≡ nullOf version2 has (drop 10 s) (λ ns s. entriesOf version2 t rows values ns s)) × (10 ≤ length s)
+    × (version2 ≡ eqb (getD s 0 0) 2)
+
+-- ---- version 2
+
+-- a directory's listings stand one after another at the front of s
+unfoldable pub Listed : ℕ → List ℕ → List Listing → Type 0
+Listed t s [] = Unit {0}
+Listed t s (d ∷ ds) =
+    (k : ℕ) × (valueSize Short Dict t s ≡ ok k) × (k + 4 ≤ length s) × (d ≡ record { first = take k s; at = beAt 4 s k }) × Listed t (drop (k + 4) s) ds
+
+-- n listings at a position, and where they end
+abbrev pub DirectoryAt : ℕ → ℕ → List ℕ → ℕ → Directory → Type 0
+DirectoryAt t n s at (Directory.Refused r) = (f : List Listing → List ℕ → Out Refusal Dictionary) → listings t n [] (drop at s) f ≡ refuse r
+DirectoryAt t n s at (Directory.Ends next) =
+    (ds : List Listing) × ((f : List Listing → List ℕ → Out Refusal Dictionary) → listings t n [] (drop at s) f ≡ f ds (drop (next .0) s))
+    × Listed t (drop at s) ds × (length ds ≡ n) × (next .0 ≤ length s)
+
+-- a span's bytes, and the value that it has: none where it has no bytes
+abbrev pub bytesAt : List ℕ → Span → List ℕ
+bytesAt s c = take (c .end .0 - c .start .0) (drop (c .start .0) s)
+
+abbrev pub cellAt : List ℕ → Span → Cell
+cellAt s c = cond (ltb (c .start .0) (c .end .0)) (value (bytesAt s c)) null
+
+-- n entries of a block at a position, behind the value `before`, where the value `due` is due: where they end, and the last value
+abbrev pub BlockEntriesAt : ℕ → ℕ → Span → Span → List ℕ → ℕ → BlockEntries → Type 0
+BlockEntriesAt t n before due s at (BlockEntries.Refused r) =
+    (es : List Entry) (f : Cell → List Entry → List ℕ → Out Refusal Dictionary) → entriesTwo t n (cellAt s before) (cellAt s due) es (drop at s) f ≡ refuse r
+BlockEntriesAt t n before due s at (BlockEntries.To next last) =
+    ((new : List Entry) × ((es : List Entry) (f : Cell → List Entry → List ℕ → Out Refusal Dictionary)
+    → entriesTwo t n (cellAt s before) (cellAt s due) es (drop at s) f ≡ f (cellAt s last) (es ++ new) (drop (next .0) s))
+    × (length new ≡ n) × ((more : List Entry) → EntriesFrom t true 0 (drop (next .0) s) more → EntriesFrom t true n (drop at s) (new ++ more)))
+    × (at ≤ next .0) × (next .0 ≤ length s) × (last .end .0 ≤ length s)
+
+-- the block at p, whose listing stands at q: where both end, its last value, and its number of entries
+abbrev pub BlockAt : ℕ → Span → List ℕ → ℕ → ℕ → ℕ → Block → Type 0
+BlockAt t before s base q p (Block.Refused r) =
+    (d : Listing) (ds : List Listing) → Listed t (drop q s) (d ∷ ds)
+    → (es : List Entry) (f : List Entry → List ℕ → Out Refusal Dictionary) → blocksOf t (d ∷ ds) (drop base s) (cellAt s before) es (drop p s) f ≡ refuse r
+BlockAt t before s base q p (Block.Ends listing next last number) =
+    ((d : Listing) (ds : List Listing) → Listed t (drop q s) (d ∷ ds) → Listed t (drop (listing .0) s) ds
+    × ((new : List Entry) × ((es : List Entry) (f : List Entry → List ℕ → Out Refusal Dictionary)
+    → blocksOf t (d ∷ ds) (drop base s) (cellAt s before) es (drop p s) f ≡ blocksOf t ds (drop base s) (cellAt s last) (es ++ new) (drop (next .0) s) f)
+    × (length new ≡ number) × ((more : List Entry) → EntriesFrom t true 0 (drop (next .0) s) more → EntriesFrom t true 0 (drop p s) (new ++ more))))
+    × (p ≤ next .0) × (next .0 ≤ length s) × (last .end .0 ≤ length s) × (number < signBit)
+
+-- b blocks from base on, whose directory stands at dir: where the last ends, and the number of entries in all
+abbrev pub BlocksAt : ℕ → ℕ → List ℕ → ℕ → ℕ → Blocks → Type 0
+BlocksAt t b s dir base (Blocks.Refused r) =
+    (ds : List Listing) → Listed t (drop dir s) ds → length ds ≡ b
+    → (f : List Entry → List ℕ → Out Refusal Dictionary) → blocksOf t ds (drop base s) null [] (drop base s) f ≡ refuse r
+BlocksAt t b s dir base (Blocks.End next sum) =
+    ((ds : List Listing) → Listed t (drop dir s) ds → length ds ≡ b
+    → (es : List Entry) × ((f : List Entry → List ℕ → Out Refusal Dictionary) → blocksOf t ds (drop base s) null [] (drop base s) f ≡ f es (drop (next .0) s))
+    × (length es ≡ sum) × EntriesFrom t true 0 (drop base s) es)
+    × (base ≤ next .0) × (next .0 ≤ length s)
+
+-- the n entries of either version at a position: the cursor before the first, and where the region of bitmaps begins
+abbrev pub AllEntriesAt : Bool → ℕ → ℕ → List ℕ → ℕ → AllEntries → Type 0
+AllEntriesAt version2 t n s at (AllEntries.Refused r) = (rows : ℕ) (ns : List Entry) → entriesOf version2 t rows n ns (drop at s) ≡ refuse r
+AllEntriesAt version2 t n s at (AllEntries.Sound first region) =
+    (es : List Entry) × ((rows : ℕ) (ns : List Entry) → entriesOf version2 t rows n ns (drop at s) ≡ ok (record { rows = rows; entries = ns ++ es; region = drop (region .0) s }))
+    × (length es ≡ n) × EntriesAt t version2 s first es × (first .left ≡ cond version2 0 n) × (first .at .0 ≤ length s) × (region .0 ≤ length s)

@@ -4,17 +4,18 @@ use mathlib.Core.Bool.{Bool, true, false, not, _&&_, _||_, cond}
 use mathlib.Core.List.{List, [], _∷_, _++_}
 use lib.Dec.{eqb, ltb, leb}
 use lib.ListN.{length}
-use Rattle.numbers.specs.Meaning.{big, number, same, minusOne}
+use Rattle.numbers.specs.Meaning.{big, number, same, signBit, minusOne}
+use Rattle.refusal.specs.Meaning.{limit}
 use Rattle.refusal.specs.declared.Refusal.{Refusal}
 use Rattle.refusal.specs.declared.Refusal.the-variants.{Short, Version, Dict, Limit}
 use Rattle.stored_value.specs.Meaning.{Cell, null, value, less}
 use Rattle.refusal.specs.Reading.{Out, refuse, ok, check}
 use Rattle.stored_value.specs.Reading.{valueOf}
-use Rattle.dictionary.specs.Layout.{Entry, someHas}
+use Rattle.dictionary.specs.Layout.{Entry, someHas, mostValues1, mostValues2, mostBlocks}
 
 -- a count of four bytes, big-endian and signed: SHORT; a negative one is DICT, one above `most` LIMIT
 unfoldable pub counted : {A : Type 0} → ℕ → List ℕ → (ℕ → List ℕ → Out Refusal A) → Out Refusal A
-counted most s k = number big 4 (refuse Short) s (λ n s. check (ltb n 2147483648) Dict (check (leb n most) Limit (k n s)))
+counted most s k = number big 4 (refuse Short) s (λ n s. check (ltb n signBit) Dict (check (leb n most) Limit (k n s)))
 
 -- what a dictionary says: the row count, the entries in stored order, null's first, and the bytes of the region, 01's body of bitmaps
 pub record Dictionary : Type 0 where
@@ -44,16 +45,16 @@ unfoldable pub past : ℕ → Cell → List ℕ → Bool
 past t null w = true
 past t (value v) w = less t v w
 
--- the value is the one that the directory has for its block, if it is the block's first
-unfoldable pub heads : Cell → List ℕ → Bool
-heads null v = true
-heads (value w) v = same w v
+-- the value is the one that is due, if one is: a block's first is the one that the directory has for it
+unfoldable pub isDue : Cell → List ℕ → Bool
+isDue null v = true
+isDue (value w) v = same w v
 
--- n entries of a block, in which `es` came before: `before` is the value before, if there is one, and `head` what the next value must be, if anything
+-- n entries of a block, in which `es` came before: `before` is the value before, if there is one, and `due` what the next must be, if anything
 unfoldable pub entriesTwo : {A : Type 0} → ℕ → ℕ → Cell → Cell → List Entry → List ℕ → (Cell → List Entry → List ℕ → Out Refusal A) → Out Refusal A
-entriesTwo t zero before head es s k = k before es s
-entriesTwo t (suc n) before head es s k =
-    valueOf Short Dict t s (λ v s. check (past t before v && heads head v) Dict
+entriesTwo t zero before due es s k = k before es s
+entriesTwo t (suc n) before due es s k =
+    valueOf Short Dict t s (λ v s. check (past t before v && isDue due v) Dict
     (number big 4 (refuse Short) s (λ offset s. number big 4 (refuse Short) s (λ extent s.
     entriesTwo t n (value v) null (es ++ (record { cell = value v; offset = offset; extent = extent } ∷ [])) s k))))
 
@@ -66,13 +67,13 @@ unfoldable pub blocksOf : ℕ → List Listing → List ℕ → Cell → List En
 blocksOf t [] base before es s k = k es s
 blocksOf t (d ∷ ds) base before es s k =
     check (eqb (d .at) (behind base s)) Dict
-    (number big 4 (refuse Short) s (λ n s. check (leb 1 n && ltb n 2147483648) Dict
+    (number big 4 (refuse Short) s (λ n s. check (leb 1 n && ltb n signBit) Dict
     (entriesTwo t n before (value (d .first)) es s (λ before es s. blocksOf t ds base before es s k))))
 
 -- no blocks exactly when there is no value; the body offset, then the sum of entry numbers, are tested behind the last block
 unfoldable pub blocked : ℕ → ℕ → ℕ → List Entry → List ℕ → Out Refusal Dictionary
 blocked t rows n nulls s =
-    counted 65536 s (λ b s. check (cond (eqb n 0) (eqb b 0) (leb 1 b)) Dict
+    counted mostBlocks s (λ b s. check (cond (eqb n 0) (eqb b 0) (leb 1 b)) Dict
     (listings t b [] s (λ ds s. number big 4 (refuse Short) s (λ offset base.
     blocksOf t ds base null [] base (λ es region.
     check (eqb offset (behind base region)) Dict (check (eqb (length es) n) Dict
@@ -80,7 +81,7 @@ blocked t rows n nulls s =
 
 -- null's entry, if there is one; in version 2 with a length
 unfoldable pub nullOf : Bool → Bool → List ℕ → (List Entry → List ℕ → Out Refusal Dictionary) → Out Refusal Dictionary
-nullOf two false s k = k [] s
+nullOf version2 false s k = k [] s
 nullOf false true s k = number big 4 (refuse Short) s (λ offset s. k (record { cell = null; offset = offset; extent = minusOne } ∷ []) s)
 nullOf true true s k =
     number big 4 (refuse Short) s (λ offset s. number big 4 (refuse Short) s (λ extent s. k (record { cell = null; offset = offset; extent = extent } ∷ []) s))
@@ -88,7 +89,7 @@ nullOf true true s k =
 unfoldable pub dictionary : ℕ → List ℕ → Out Refusal Dictionary
 dictionary t s =
     number big 1 (refuse Short) s (λ version s. check (eqb version 1 || eqb version 2) Version
-    (counted 2147483647 s (λ rows s. counted (cond (eqb version 1) 4096 65536) s (λ n s.
+    (counted limit s (λ rows s. counted (cond (eqb version 1) mostValues1 mostValues2) s (λ n s.
     number big 1 (refuse Short) s (λ hasNull s. check (leb hasNull 1) Dict
     (nullOf (eqb version 2) (eqb hasNull 1) s (λ nulls s.
     cond (eqb version 1) (entriesOne t rows n nulls [] s) (blocked t rows n nulls s))))))))

@@ -1,46 +1,57 @@
-// A body's dictionary (document 01, "Bitmap body"), of either version: its head and entries checked in byte order, and a cursor over the entries.
+// A body's dictionary (document 01, "Bitmap body"), of either version: its fields and entries checked in byte order, and a cursor over the entries.
 ghost use mathlib.Core.Path.{_≡_};
-ghost use Prim.Native.Nat.{_+_, _-_, _<_, _≤_};
+ghost use Prim.Native.Nat.{_+_, _<_, _≤_};
 ghost use mathlib.Core.Bool.{true, false, cond};
-ghost use mathlib.Core.List.{List, _∷_};
 ghost use lib.Dec.{eqb, leb};
-ghost use lib.ListN.{length, take, drop};
-ghost use Rattle.numbers.specs.Meaning.{beAt, signed32};
-ghost use Rattle.dictionary.specs.Layout.{Entry};
-ghost use Rattle.dictionary.specs.Reading.{past, heads};
-ghost use Rattle.dictionary.specs.Promises.{tail, extentAt, noEntry, entryFrom, nextOf, Stand, Tells, Steps};
-ghost use Rattle.dictionary.specs.Answers.{ValueAt, TakenAt, CountAt, NullAt, FixedOf, DirectoryAt, cellAt, PassedAt, BlockAt, BlocksAt, WalkedAt};
+ghost use lib.ListN.{length};
+ghost use Rattle.dictionary.specs.Layout.{mostValues1, mostValues2, mostBlocks};
+ghost use Rattle.dictionary.specs.Reading.{past, isDue};
+ghost use Rattle.dictionary.specs.Promises.{tail, extentAt, noEntry, entryInBlock, NextAt, ReadsDictionary, cellAt, bytesAt};
+ghost use Rattle.dictionary.specs.Promises.{ValueAt, HasValueAt, CountAt, OffsetAt, NullAt, FixedOf, DirectoryAt, BlockEntriesAt, BlockAt, BlocksAt, AllEntriesAt};
 use numbers::Position;
 use refusal::Refusal;
 use stored_value::Sized;
 
+// Document 01, "Limits": the value number of each version, and the block number.
+const MOST_VALUES_1: u64 = 4_096;
+
+const MOST_VALUES_2: u64 = 65_536;
+
+const MOST_BLOCKS: u64 = 65_536;
+
+// Where a walk over the values' entries stands: a position, and the number of entries left in the block that is open there, 0 where a block's number is
+// due. Version 1 has no blocks: all its entries are left from the start.
+pub struct Cursor {
+    pub at: Position,
+    pub left: u64,
+}
+
 // What a sound dictionary says: the row count, the number of values, whether the version is 2; whether null has an entry, and that entry's offset and
-// extent, 0 where it has none; where the values' entries begin, and where the region of bitmaps does (01's "body of bitmaps").
-pub struct Head {
+// extent, 0 where it has none; the cursor before the values' first entry, and where the region of bitmaps begins (01's "body of bitmaps").
+pub struct Summary {
     pub rows: u64,
-    pub count: u64,
-    pub two: bool,
+    pub values: u64,
+    pub version2: bool,
     pub has_null: bool,
     pub null_offset: i32,
     pub null_extent: u64,
-    pub entries: Position,
+    pub first: Cursor,
     pub region: Position,
 }
 
 // What is read of any bytes as a dictionary: the first rule that is broken, or what a sound one says.
 pub enum Checked {
     Refused(Refusal),
-    Found(Head),
+    Found(Summary),
 }
 
-// The entry at a cursor: where its value stands, its offset and extent; and the next cursor, a position and the number of entries left in the open block.
+// The entry at a cursor: where its value stands, its offset and extent; and the cursor behind it.
 pub struct EntryAt {
     pub start: Position,
     pub end: Position,
     pub offset: i32,
     pub extent: u64,
-    pub next_at: Position,
-    pub left: u64,
+    pub next: Cursor,
 }
 
 // Where a value ends.
@@ -68,10 +79,10 @@ enum Null {
 enum Fixed {
     Refused(Refusal),
     Fields {
-        two: bool,
+        version2: bool,
         has_null: bool,
         rows: u64,
-        count: u64,
+        values: u64,
     },
 }
 
@@ -88,7 +99,7 @@ enum Directory {
 }
 
 // Where entries of a block end, and the last one's value.
-enum Passed {
+enum BlockEntries {
     Refused(Refusal),
     To { next: Position, last: Span },
 }
@@ -110,22 +121,23 @@ enum Blocks {
     End { next: Position, sum: u64 },
 }
 
-// Where the entries begin, and the region of bitmaps.
-enum Walked {
+// The cursor before the first entry, and where the region of bitmaps begins.
+enum AllEntries {
     Refused(Refusal),
-    Ends { entries: Position, region: Position },
+    Sound { first: Cursor, region: Position },
 }
 
 // A count of four bytes, negative ones refused.
-fn count_at(body: &[u8], at: usize, most: u64) -> Count
-    requires { ⌜ at ≤ length (now body) ⌝ }
-    ensures { λ r. ⌜ CountAt most (now (body .entry)) at r ⌝ }
+fn count_at(body: &[u8], at: Position, most: u64) -> Count
+    requires { ⌜ at .0 ≤ length (now body) ⌝ }
+    ensures { λ r. ⌜ CountAt most (now (body .entry)) (at .0) r ⌝ }
 {
-    if body.len() - at < 4 {
+    let p = at.0;
+    if body.len() - p < 4 {
         return Count::Refused(Refusal::Short);
     }
-    let n = numbers::be32(body, Position(at));
-    if 2147483648 <= n {
+    let n = numbers::be32(body, at);
+    if numbers::SIGN_BIT <= n {
         return Count::Refused(Refusal::Dict);
     }
     if most < n {
@@ -135,13 +147,13 @@ fn count_at(body: &[u8], at: usize, most: u64) -> Count
 }
 
 // 01's limit on the value number of each version.
-fn most_values(two: bool) -> u64
-    ensures { λ r. ⌜ r ≡ cond two 65536 4096 ⌝ }
+fn most_values(version2: bool) -> u64
+    ensures { λ r. ⌜ r ≡ cond version2 mostValues2 mostValues1 ⌝ }
 {
-    if two {
-        return 65536;
+    if version2 {
+        return MOST_VALUES_2;
     }
-    4096
+    MOST_VALUES_1
 }
 
 // The version, the row count, the value number and has-null.
@@ -158,14 +170,14 @@ fn fixed_fields(body: &[u8]) -> Fixed
     if 2 < version {
         return Fixed::Refused(Refusal::Version);
     }
-    let two = version == 2;
-    let rows = match count_at(body, 1, 2147483647) {
+    let version2 = version == 2;
+    let rows = match count_at(body, Position(1), refusal::LIMIT) {
         Count::Refused(r) => {
             return Fixed::Refused(r);
         }
         Count::Is(n) => n,
     };
-    let count = match count_at(body, 5, most_values(two)) {
+    let values = match count_at(body, Position(5), most_values(version2)) {
         Count::Refused(r) => {
             return Fixed::Refused(r);
         }
@@ -179,77 +191,78 @@ fn fixed_fields(body: &[u8]) -> Fixed
         return Fixed::Refused(Refusal::Dict);
     }
     Fixed::Fields {
-        two: two,
+        version2: version2,
         has_null: has == 1,
         rows: rows,
-        count: count,
+        values: values,
     }
 }
 
 // The offset at a position, signed.
-fn offset_at(body: &[u8], at: usize) -> i32
-    requires { ⌜ at + 4 ≤ length (now body) ⌝ }
-    ensures { λ r. ⌜ (r ≡ signed32 (beAt 4 (now (body .entry)) at)) × (beAt 4 (now (body .entry)) at < 4294967296) ⌝ }
+fn offset_at(body: &[u8], at: Position) -> i32
+    requires { ⌜ at .0 + 4 ≤ length (now body) ⌝ }
+    ensures { λ r. ⌜ OffsetAt (now (body .entry)) (at .0) r ⌝ }
 {
-    numbers::to_signed(numbers::be32(body, Position(at)) as u32)
+    numbers::to_signed(numbers::be32(body, at) as u32)
 }
 
 // Null's entry, if there is one.
-fn null_entry(body: &[u8], two: bool, has: bool, at: usize) -> Null
-    requires { ⌜ at ≤ length (now body) ⌝ }
-    ensures { λ r. ⌜ NullAt two has (now (body .entry)) at r ⌝ }
+fn null_entry(body: &[u8], version2: bool, has: bool, at: Position) -> Null
+    requires { ⌜ at .0 ≤ length (now body) ⌝ }
+    ensures { λ r. ⌜ NullAt version2 has (now (body .entry)) (at .0) r ⌝ }
 {
     if !has {
         return Null::Numbers {
             offset: 0,
             extent: 0,
-            next: Position(at),
+            next: at,
         };
     }
-    if body.len() - at < 4 {
+    let p = at.0;
+    if body.len() - p < 4 {
         return Null::Refused(Refusal::Short);
     }
     let offset = offset_at(body, at);
-    let p = at + 4;
-    if !two {
+    let e = p + 4;
+    if !version2 {
         return Null::Numbers {
             offset: offset,
-            extent: 4294967295,
-            next: Position(p),
+            extent: numbers::MINUS_ONE,
+            next: Position(e),
         };
     }
-    if body.len() - p < 4 {
+    if body.len() - e < 4 {
         return Null::Refused(Refusal::Short);
     }
     Null::Numbers {
         offset: offset,
-        extent: numbers::be32(body, Position(p)),
-        next: Position(p + 4),
+        extent: numbers::be32(body, Position(e)),
+        next: Position(e + 4),
     }
 }
 
 // Where the value at `at` ends.
-fn value_end(body: &[u8], t: u32, at: usize) -> Value
-    ensures { λ r. ⌜ ValueAt t (now (body .entry)) at r ⌝ }
+fn value_end(body: &[u8], t: u32, at: Position) -> Value
+    ensures { λ r. ⌜ ValueAt t (now (body .entry)) (at .0) r ⌝ }
 {
-    match stored_value::size(body, Position(at), t, Refusal::Short, Refusal::Dict) {
+    match stored_value::size(body, at, t, Refusal::Short, Refusal::Dict) {
         Sized::Refused(r) => {
             return Value::Refused(r);
         }
         Sized::Bytes(n) => {
-            return Value::To(Position(at + n));
+            return Value::To(Position(at.0 + n));
         }
     }
 }
 
-// Whether one of the i entries of version 1 from `at` on has the value v.
-fn taken(body: &[u8], t: u32, at: usize, i: u64, v: &[u8]) -> bool
-    ensures { λ r. ⌜ TakenAt t i (now (body .entry)) at (now (v .entry)) r ⌝ }
+// Whether one of the n entries of version 1 from `at` on has the value v.
+fn has_value(body: &[u8], t: u32, n: u64, at: Position, v: &[u8]) -> bool
+    ensures { λ r. ⌜ HasValueAt t n (now (body .entry)) (at .0) (now (v .entry)) r ⌝ }
 {
-    let mut j: u64 = 0;
-    let mut p = at;
-    while j < i {
-        match value_end(body, t, p) {
+    let mut i: u64 = 0;
+    let mut p = at.0;
+    while i < n {
+        match value_end(body, t, Position(p)) {
             Value::Refused(_) => {
                 return false;
             }
@@ -261,51 +274,51 @@ fn taken(body: &[u8], t: u32, at: usize, i: u64, v: &[u8]) -> bool
                 p = e + 4;
             }
         }
-        j = j + 1;
+        i = i + 1;
     }
     false
 }
 
 // Version 1: the n entries from `at` on. Their values are distinct: each is compared with those before it.
-fn entries_one(body: &[u8], t: u32, n: u64, at: usize) -> Walked
-    requires { ⌜ at ≤ length (now body) ⌝ }
-    ensures { λ r. ⌜ WalkedAt false t n (now (body .entry)) at r ⌝ }
+fn entries_one(body: &[u8], t: u32, n: u64, at: Position) -> AllEntries
+    requires { ⌜ at .0 ≤ length (now body) ⌝ }
+    ensures { λ r. ⌜ AllEntriesAt false t n (now (body .entry)) (at .0) r ⌝ }
 {
     let mut i: u64 = 0;
-    let mut p = at;
+    let mut p = at.0;
     while i < n {
-        match value_end(body, t, p) {
+        match value_end(body, t, Position(p)) {
             Value::Refused(r) => {
-                return Walked::Refused(r);
+                return AllEntries::Refused(r);
             }
             Value::To(to) => {
                 let e = to.0;
-                if taken(body, t, at, i, &body[p..e]) {
-                    return Walked::Refused(Refusal::Dict);
+                if has_value(body, t, i, at, &body[p..e]) {
+                    return AllEntries::Refused(Refusal::Dict);
                 }
                 if body.len() - e < 4 {
-                    return Walked::Refused(Refusal::Short);
+                    return AllEntries::Refused(Refusal::Short);
                 }
                 p = e + 4;
             }
         }
         i = i + 1;
     }
-    Walked::Ends {
-        entries: Position(at),
+    AllEntries::Sound {
+        first: Cursor { at: at, left: n },
         region: Position(p),
     }
 }
 
 // Version 2: the n listings of the directory from `at` on. Their values and offsets wait for the blocks.
-fn directory_end(body: &[u8], t: u32, n: u64, at: usize) -> Directory
-    requires { ⌜ at ≤ length (now body) ⌝ }
-    ensures { λ r. ⌜ DirectoryAt t n (now (body .entry)) at r ⌝ }
+fn directory_end(body: &[u8], t: u32, n: u64, at: Position) -> Directory
+    requires { ⌜ at .0 ≤ length (now body) ⌝ }
+    ensures { λ r. ⌜ DirectoryAt t n (now (body .entry)) (at .0) r ⌝ }
 {
     let mut i: u64 = 0;
-    let mut p = at;
+    let mut p = at.0;
     while i < n {
-        match value_end(body, t, p) {
+        match value_end(body, t, Position(p)) {
             Value::Refused(r) => {
                 return Directory::Refused(r);
             }
@@ -322,61 +335,66 @@ fn directory_end(body: &[u8], t: u32, n: u64, at: usize) -> Directory
     Directory::Ends(Position(p))
 }
 
-// Whether the value from p to e is past the one before, if there is one.
-fn is_past(body: &[u8], t: u32, before: Span, p: usize, e: usize) -> bool
-    requires { ⌜ (before .end .0 ≤ length (now body)) × (p ≤ e) × (e ≤ length (now body)) ⌝ }
-    ensures { λ r. ⌜ r ≡ past t (cellAt (now (body .entry)) before) (take (e - p) (drop p (now (body .entry)))) ⌝ }
+// Whether a value is past the one before, if there is one.
+fn is_past(body: &[u8], t: u32, before: Span, value: Span) -> bool
+    requires { ⌜ (before .end .0 ≤ length (now body)) × (value .start .0 ≤ value .end .0) × (value .end .0 ≤ length (now body)) ⌝ }
+    ensures { λ r. ⌜ r ≡ past t (cellAt (now (body .entry)) before) (bytesAt (now (body .entry)) value) ⌝ }
 {
-    let b = before.start.0;
+    let a = before.start.0;
     let z = before.end.0;
-    if b < z {
-        return stored_value::less(t, &body[b..z], &body[p..e]);
+    if a < z {
+        let p = value.start.0;
+        let e = value.end.0;
+        return stored_value::less(t, &body[a..z], &body[p..e]);
     }
     true
 }
 
-// Whether the value from p to e is the directory's, if that must head a block.
-fn is_head(body: &[u8], head: Span, p: usize, e: usize) -> bool
-    requires { ⌜ (head .end .0 ≤ length (now body)) × (p ≤ e) × (e ≤ length (now body)) ⌝ }
-    ensures { λ r. ⌜ r ≡ heads (cellAt (now (body .entry)) head) (take (e - p) (drop p (now (body .entry)))) ⌝ }
+// Whether a value is the one that is due, if one is: a block begins with the value that the directory has for it.
+fn is_due(body: &[u8], due: Span, value: Span) -> bool
+    requires { ⌜ (due .end .0 ≤ length (now body)) × (value .start .0 ≤ value .end .0) × (value .end .0 ≤ length (now body)) ⌝ }
+    ensures { λ r. ⌜ r ≡ isDue (cellAt (now (body .entry)) due) (bytesAt (now (body .entry)) value) ⌝ }
 {
-    let b = head.start.0;
-    let z = head.end.0;
-    if b < z {
-        return numbers::same(&body[b..z], &body[p..e]);
+    let a = due.start.0;
+    let z = due.end.0;
+    if a < z {
+        let p = value.start.0;
+        let e = value.end.0;
+        return numbers::same(&body[a..z], &body[p..e]);
     }
     true
 }
 
-// Version 2: the n entries of a block from `at` on. Values rise strictly, the first from `before`, and the first is `head`, the directory's.
-fn block_entries(body: &[u8], t: u32, n: u64, at: usize, before: Span, head: Span) -> Passed
-    requires { ⌜ (at ≤ length (now body)) × (before .end .0 ≤ length (now body)) × (head .end .0 ≤ length (now body)) ⌝ }
-    ensures { λ r. ⌜ PassedAt t n (cellAt (now (body .entry)) before) (cellAt (now (body .entry)) head) (now (body .entry)) at r ⌝ }
+// Version 2: the n entries of a block from `at` on. Values rise strictly, the first from `before`, and the first is `due`, the directory's.
+fn block_entries(body: &[u8], t: u32, n: u64, at: Position, before: Span, due: Span) -> BlockEntries
+    requires { ⌜ (at .0 ≤ length (now body)) × (before .end .0 ≤ length (now body)) × (due .end .0 ≤ length (now body)) ⌝ }
+    ensures { λ r. ⌜ BlockEntriesAt t n before due (now (body .entry)) (at .0) r ⌝ }
 {
     let mut i: u64 = 0;
-    let mut p = at;
+    let mut p = at.0;
     let mut last = before;
-    let mut first = head;
+    let mut first = due;
     while i < n {
-        match value_end(body, t, p) {
+        match value_end(body, t, Position(p)) {
             Value::Refused(r) => {
-                return Passed::Refused(r);
+                return BlockEntries::Refused(r);
             }
             Value::To(to) => {
                 let e = to.0;
-                if !is_past(body, t, last, p, e) {
-                    return Passed::Refused(Refusal::Dict);
+                let value = Span {
+                    start: Position(p),
+                    end: to,
+                };
+                if !is_past(body, t, last, value) {
+                    return BlockEntries::Refused(Refusal::Dict);
                 }
-                if !is_head(body, first, p, e) {
-                    return Passed::Refused(Refusal::Dict);
+                if !is_due(body, first, value) {
+                    return BlockEntries::Refused(Refusal::Dict);
                 }
                 if body.len() - e < 8 {
-                    return Passed::Refused(Refusal::Short);
+                    return BlockEntries::Refused(Refusal::Short);
                 }
-                last = Span {
-                    start: Position(p),
-                    end: Position(e),
-                };
+                last = value;
                 first = Span {
                     start: Position(0),
                     end: Position(0),
@@ -386,52 +404,59 @@ fn block_entries(body: &[u8], t: u32, n: u64, at: usize, before: Span, head: Spa
         }
         i = i + 1;
     }
-    Passed::To {
+    BlockEntries::To {
         next: Position(p),
         last: last,
     }
 }
 
-// Version 2: the block at p, whose listing stands at q. Its offset, which counts from base, is tested before its number is read.
-fn one_block(body: &[u8], t: u32, base: usize, q: usize, p: usize, before: Span) -> Block
-    requires { ⌜ (base ≤ p) × (p ≤ length (now body)) × (before .end .0 ≤ length (now body)) ⌝ }
-    ensures { λ r. ⌜ BlockAt t (cellAt (now (body .entry)) before) (now (body .entry)) base q p r ⌝ }
+// Version 2: the block at `at`, whose listing stands at `listing`. Its offset, which counts from base, is tested before its number is read.
+fn one_block(
+    body: &[u8],
+    t: u32,
+    base: Position,
+    listing: Position,
+    at: Position,
+    before: Span,
+) -> Block
+    requires { ⌜ (base .0 ≤ at .0) × (at .0 ≤ length (now body)) × (before .end .0 ≤ length (now body)) ⌝ }
+    ensures { λ r. ⌜ BlockAt t before (now (body .entry)) (base .0) (listing .0) (at .0) r ⌝ }
 {
-    match value_end(body, t, q) {
+    match value_end(body, t, listing) {
         Value::Refused(r) => {
             return Block::Refused(r);
         }
         Value::To(to) => {
             let e = to.0;
+            let p = at.0;
             if body.len() - e < 4 {
                 return Block::Refused(Refusal::Short);
             }
-            let place = numbers::be32(body, Position(e));
-            if place != (p - base) as u64 {
+            let offset = numbers::be32(body, to);
+            if offset != (p - base.0) as u64 {
                 return Block::Refused(Refusal::Dict);
             }
             if body.len() - p < 4 {
                 return Block::Refused(Refusal::Short);
             }
-            let n = numbers::be32(body, Position(p));
+            let n = numbers::be32(body, at);
             if n < 1 {
                 return Block::Refused(Refusal::Dict);
             }
-            if 2147483648 <= n {
+            if numbers::SIGN_BIT <= n {
                 return Block::Refused(Refusal::Dict);
             }
-            let first = Span {
-                start: Position(q),
-                end: Position(e),
+            let due = Span {
+                start: listing,
+                end: to,
             };
-            match block_entries(body, t, n, p + 4, before, first) {
-                Passed::Refused(r) => {
+            match block_entries(body, t, n, Position(p + 4), before, due) {
+                BlockEntries::Refused(r) => {
                     return Block::Refused(r);
                 }
-                Passed::To { next, last } => {
-                    let listing = e + 4;
+                BlockEntries::To { next, last } => {
                     return Block::Ends {
-                        listing: Position(listing),
+                        listing: Position(e + 4),
                         next: next,
                         last: last,
                         number: n,
@@ -442,21 +467,21 @@ fn one_block(body: &[u8], t: u32, base: usize, q: usize, p: usize, before: Span)
     }
 }
 
-// Version 2: the b blocks from base on, whose directory stands at dir, without gaps.
-fn all_blocks(body: &[u8], t: u32, b: u64, dir: usize, base: usize) -> Blocks
-    requires { ⌜ (base ≤ length (now body)) × (b ≤ 65536) ⌝ }
-    ensures { λ r. ⌜ BlocksAt t b (now (body .entry)) dir base r ⌝ }
+// Version 2: the b blocks from base on, whose directory stands at `directory`, without gaps.
+fn all_blocks(body: &[u8], t: u32, b: u64, directory: Position, base: Position) -> Blocks
+    requires { ⌜ (base .0 ≤ length (now body)) × (b ≤ mostBlocks) ⌝ }
+    ensures { λ r. ⌜ BlocksAt t b (now (body .entry)) (directory .0) (base .0) r ⌝ }
 {
     let mut i: u64 = 0;
-    let mut q = dir;
-    let mut p = base;
+    let mut list = directory;
+    let mut at = base;
     let mut before = Span {
         start: Position(0),
         end: Position(0),
     };
     let mut total: u64 = 0;
     while i < b {
-        match one_block(body, t, base, q, p, before) {
+        match one_block(body, t, base, list, at, before) {
             Block::Refused(r) => {
                 return Blocks::Refused(r);
             }
@@ -466,8 +491,8 @@ fn all_blocks(body: &[u8], t: u32, b: u64, dir: usize, base: usize) -> Blocks
                 last,
                 number,
             } => {
-                q = listing.0;
-                p = next.0;
+                list = listing;
+                at = next;
                 before = last;
                 total = total + number;
             }
@@ -475,7 +500,7 @@ fn all_blocks(body: &[u8], t: u32, b: u64, dir: usize, base: usize) -> Blocks
         i = i + 1;
     }
     Blocks::End {
-        next: Position(p),
+        next: at,
         sum: total,
     }
 }
@@ -491,57 +516,60 @@ fn blocks_fit(n: u64, b: u64) -> bool
 }
 
 // Version 2: directory, body offset and blocks. The body offset, then the sum of entry numbers, are tested behind the last block.
-fn entries_two(body: &[u8], t: u32, n: u64, at: usize) -> Walked
-    requires { ⌜ at ≤ length (now body) ⌝ }
-    ensures { λ r. ⌜ WalkedAt true t n (now (body .entry)) at r ⌝ }
+fn entries_two(body: &[u8], t: u32, n: u64, at: Position) -> AllEntries
+    requires { ⌜ at .0 ≤ length (now body) ⌝ }
+    ensures { λ r. ⌜ AllEntriesAt true t n (now (body .entry)) (at .0) r ⌝ }
 {
-    let b = match count_at(body, at, 65536) {
+    let b = match count_at(body, at, MOST_BLOCKS) {
         Count::Refused(r) => {
-            return Walked::Refused(r);
+            return AllEntries::Refused(r);
         }
         Count::Is(b) => b,
     };
     if !blocks_fit(n, b) {
-        return Walked::Refused(Refusal::Dict);
+        return AllEntries::Refused(Refusal::Dict);
     }
-    let dir = at + 4;
-    let e = match directory_end(body, t, b, dir) {
+    let directory = Position(at.0 + 4);
+    let to = match directory_end(body, t, b, directory) {
         Directory::Refused(r) => {
-            return Walked::Refused(r);
+            return AllEntries::Refused(r);
         }
-        Directory::Ends(to) => to.0,
+        Directory::Ends(to) => to,
     };
+    let e = to.0;
     if body.len() - e < 4 {
-        return Walked::Refused(Refusal::Short);
+        return AllEntries::Refused(Refusal::Short);
     }
-    let offset = numbers::be32(body, Position(e));
+    let offset = numbers::be32(body, to);
     let base = e + 4;
-    match all_blocks(body, t, b, dir, base) {
+    match all_blocks(body, t, b, directory, Position(base)) {
         Blocks::Refused(r) => {
-            return Walked::Refused(r);
+            return AllEntries::Refused(r);
         }
         Blocks::End { next, sum } => {
-            let p = next.0;
-            if offset != (p - base) as u64 {
-                return Walked::Refused(Refusal::Dict);
+            if offset != (next.0 - base) as u64 {
+                return AllEntries::Refused(Refusal::Dict);
             }
             if sum != n {
-                return Walked::Refused(Refusal::Dict);
+                return AllEntries::Refused(Refusal::Dict);
             }
-            return Walked::Ends {
-                entries: Position(base),
-                region: Position(p),
+            return AllEntries::Sound {
+                first: Cursor {
+                    at: Position(base),
+                    left: 0,
+                },
+                region: next,
             };
         }
     }
 }
 
 // The entries of either version.
-fn entries(body: &[u8], t: u32, two: bool, n: u64, at: usize) -> Walked
-    requires { ⌜ at ≤ length (now body) ⌝ }
-    ensures { λ r. ⌜ WalkedAt two t n (now (body .entry)) at r ⌝ }
+fn entries(body: &[u8], t: u32, version2: bool, n: u64, at: Position) -> AllEntries
+    requires { ⌜ at .0 ≤ length (now body) ⌝ }
+    ensures { λ r. ⌜ AllEntriesAt version2 t n (now (body .entry)) (at .0) r ⌝ }
 {
-    if two {
+    if version2 {
         return entries_two(body, t, n, at);
     }
     entries_one(body, t, n, at)
@@ -549,18 +577,18 @@ fn entries(body: &[u8], t: u32, two: bool, n: u64, at: usize) -> Walked
 
 // A body's dictionary of either version, every rule tested in byte order.
 pub fn read(body: &[u8], t: u32) -> Checked
-    ensures { λ r. ⌜ Tells t (now (body .entry)) r ⌝ }
+    ensures { λ r. ⌜ ReadsDictionary t (now (body .entry)) r ⌝ }
 {
     match fixed_fields(body) {
         Fixed::Refused(r) => {
             return Checked::Refused(r);
         }
         Fixed::Fields {
-            two,
+            version2,
             has_null,
             rows,
-            count,
-        } => match null_entry(body, two, has_null, 10) {
+            values,
+        } => match null_entry(body, version2, has_null, Position(10)) {
             Null::Refused(r) => {
                 return Checked::Refused(r);
             }
@@ -568,19 +596,19 @@ pub fn read(body: &[u8], t: u32) -> Checked
                 offset,
                 extent,
                 next,
-            } => match entries(body, t, two, count, next.0) {
-                Walked::Refused(r) => {
+            } => match entries(body, t, version2, values, next) {
+                AllEntries::Refused(r) => {
                     return Checked::Refused(r);
                 }
-                Walked::Ends { entries, region } => {
-                    return Checked::Found(Head {
+                AllEntries::Sound { first, region } => {
+                    return Checked::Found(Summary {
                         rows: rows,
-                        count: count,
-                        two: two,
+                        values: values,
+                        version2: version2,
                         has_null: has_null,
                         null_offset: offset,
                         null_extent: extent,
-                        entries: entries,
+                        first: first,
                         region: region,
                     });
                 }
@@ -590,24 +618,24 @@ pub fn read(body: &[u8], t: u32) -> Checked
 }
 
 // How many bytes an entry has behind its value.
-fn behind_value(two: bool) -> usize
-    ensures { λ r. ⌜ (r ≡ tail two) × (4 ≤ r) × (r ≤ 8) ⌝ }
+fn behind_value(version2: bool) -> usize
+    ensures { λ r. ⌜ (r ≡ tail version2) × (4 ≤ r) × (r ≤ 8) ⌝ }
 {
-    if two {
+    if version2 {
         return 8;
     }
     4
 }
 
-// The extent of the entry whose value ends at e.
-fn extent_at(body: &[u8], two: bool, e: usize) -> u64
-    requires { ⌜ e + tail two ≤ length (now body) ⌝ }
-    ensures { λ r. ⌜ r ≡ extentAt two e (now (body .entry)) ⌝ }
+// The extent of the entry whose value ends at `end`.
+fn extent_at(body: &[u8], version2: bool, end: Position) -> u64
+    requires { ⌜ end .0 + tail version2 ≤ length (now body) ⌝ }
+    ensures { λ r. ⌜ r ≡ extentAt version2 (end .0) (now (body .entry)) ⌝ }
 {
-    if two {
-        return numbers::be32(body, Position(e + 4));
+    if version2 {
+        return numbers::be32(body, Position(end.0 + 4));
     }
-    4294967295
+    numbers::MINUS_ONE
 }
 
 // What `next` answers where no entry stands.
@@ -619,55 +647,64 @@ fn no_entry() -> EntryAt
         end: Position(0),
         offset: 0,
         extent: 0,
-        next_at: Position(0),
-        left: 0,
+        next: Cursor {
+            at: Position(0),
+            left: 0,
+        },
     }
 }
 
-// The entry at `at` with `n` left in its block, itself among them.
-fn entry_at(body: &[u8], t: u32, two: bool, at: usize, n: u64) -> EntryAt
-    ensures { λ r. ⌜ r ≡ entryFrom t two (now (body .entry)) at n ⌝ }
+// The entry at a cursor in a block that is open, itself among those left.
+fn entry_at(body: &[u8], t: u32, version2: bool, cursor: Cursor) -> EntryAt
+    ensures { λ r. ⌜ r ≡ entryInBlock t version2 (now (body .entry)) cursor ⌝ }
 {
-    if n == 0 {
+    let left = cursor.left;
+    if left == 0 {
         return no_entry();
     }
-    match value_end(body, t, at) {
+    let start = cursor.at;
+    match value_end(body, t, start) {
         Value::Refused(_) => {
             return no_entry();
         }
         Value::To(to) => {
             let e = to.0;
-            let w = behind_value(two);
+            let w = behind_value(version2);
             if body.len() - e < w {
                 return no_entry();
             }
             return EntryAt {
-                start: Position(at),
-                end: Position(e),
-                offset: offset_at(body, e),
-                extent: extent_at(body, two, e),
-                next_at: Position(e + w),
-                left: n - 1,
+                start: start,
+                end: to,
+                offset: offset_at(body, to),
+                extent: extent_at(body, version2, to),
+                next: Cursor {
+                    at: Position(e + w),
+                    left: left - 1,
+                },
             };
         }
     }
 }
 
-// The entry at a cursor: a position, and the number of entries left in the block that is open, 0 where a block's number is due. Where entries stand there,
-// it is the first of them, and the cursor behind it comes with it; where none does, `noEntry`.
-pub fn next(body: &[u8], t: u32, two: bool, at: Position, left: u64) -> EntryAt
-    ensures { λ r. ⌜ (r ≡ nextOf t two (now (body .entry)) (at .0) left) × ((e : Entry) (es : List Entry) → Stand t two left (drop (at .0) (now (body .entry))) (e ∷ es) → Steps t two (now (body .entry)) r e es) ⌝ }
+// The entry at a cursor. Where entries stand there, it is the first of them, and the cursor behind it comes with it; where none does, `noEntry`.
+pub fn next(body: &[u8], t: u32, version2: bool, cursor: Cursor) -> EntryAt
+    ensures { λ r. ⌜ NextAt t version2 (now (body .entry)) cursor r ⌝ }
 {
-    let p = at.0;
-    if left == 0 {
+    if cursor.left == 0 {
+        let at = cursor.at;
+        let p = at.0;
         if body.len() < p {
             return no_entry();
         }
         if body.len() - p < 4 {
             return no_entry();
         }
-        let n = numbers::be32(body, at);
-        return entry_at(body, t, two, p + 4, n);
+        let opened = Cursor {
+            at: Position(p + 4),
+            left: numbers::be32(body, at),
+        };
+        return entry_at(body, t, version2, opened);
     }
-    entry_at(body, t, two, p, left)
+    entry_at(body, t, version2, cursor)
 }

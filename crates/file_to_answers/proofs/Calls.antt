@@ -1,95 +1,135 @@
--- The three calls in turn, by what each of them answers, and what that says of a column's file.
-use Prim.Native.Nat.{ℕ, _≤_}
-use mathlib.Core.Path.{_≡_, refl, sym, _∙_}
-use mathlib.Core.Bool.{Bool, true, false, cond}
-use mathlib.Core.List.{List, _++_}
+-- The calls by what Locate answers, and what that says of a column's file.
+use Prim.Native.Nat.{ℕ, _+_, _≤_}
+use mathlib.Core.Path.{_≡_, refl, sym, ap, _∙_}
+use mathlib.Core.List.{List, [], _∷_}
 use native.Mathlib.Omega.{arith}
-use lib.ListN.{length, drop}
-use borrow.Author.Tests.{ne-eqb}
-use Rattle.numbers.specs.Meaning.{Bytes, joined}
+use lib.ListN.{length, take, drop}
+use Rattle.numbers.specs.Meaning.{Bytes}
+use Rattle.numbers.specs.declared.Position.{Position}
 use Rattle.refusal.specs.Meaning.{numberOf}
 use Rattle.refusal.specs.declared.Refusal.{Refusal}
-use Rattle.row_field.specs.Meaning.{size}
-use Rattle.stored_value.specs.Meaning.{Cell}
-use Rattle.refusal.specs.Reading.{Out, refuse, ok, andThen}
-use Rattle.index_file.specs.Reading.{lookedAt, located, answerOf, partOf}
-use Rattle.bitmap_index.specs.declared.Audited.{Audited}
-use Rattle.bitmap_index.specs.declared.Audited.the-variants.{Rows}
+use Rattle.refusal.specs.Reading.{Out, refuse, ok, andThen, numbersOf}
+use Rattle.index_file.specs.declared.Located.{Located}
+use Rattle.index_file.specs.Reading.{Part, Sought, found, absent, find, locatedBy, soughtNumbers}
+use Rattle.index_file.proofs.Theorems.{found-within}
 use Rattle.bitmap_index.specs.declared.Answered.{Answered}
-use Rattle.bitmap_index.specs.Meaning.{Question, scan, keeps}
-use Rattle.bitmap_index.specs.Reading.{Answer, audit, auditBuffer, ask, askBuffer, auditedBy, answeredBy}
-use Rattle.file_to_answers.specs.declared.Told.{Told}
-use Rattle.file_to_answers.specs.Layout.{ColumnFile}
-use Rattle.file_to_answers.specs.Reading.{said, askedOf, bodyTold, auditedBuffer, bodyBuffer, toldBy, told, toldBuffer}
-use Rattle.file_to_answers.proofs.Demand3.{told-as-scan, buffer-as-scan}
+use Rattle.bitmap_index.specs.Reading.{Answer, ask, askBuffer, answeredBy, askOut, askNumbers}
+use Rattle.bitmap_index.specs.Promises.{AskPromise}
+use Rattle.file_to_answers.specs.declared.FileAnswer.{FileAnswer}
+use Rattle.file_to_answers.specs.Reading.{used, lookedAt, askPart, askPartBuffer, askFile, askFileBuffer, fileAnswerBy, askFileOut, askFileNumbers}
+use Rattle.file_to_answers.specs.Promises.{LocatePromise, AskFilePromise, FileAsScan}
+use Rattle.file_to_answers.proofs.Theorems.{file-is-answered}
 
--- Ask's answer, told
-abbrev pub toldOf : Answered → Told
-toldOf (Answered.Refused r) = Told.Refused (numberOf r)
-toldOf Answered.Skip = Told.Skip
-toldOf (Answered.Keep n) = Told.Keep n
+-- ---- the buffer that is looked at
 
-pub tell-refused : {y : Answered} {r : Refusal} {m : ℕ} → y ≡ Answered.Refused r → m ≡ numberOf r → Told.Refused m ≡ toldOf y
-tell-refused e g = rw (e, g)
+pub used-embedded : {A : Type 0} (embedded : List ℕ) (x y : A) → (length embedded ≡ 0 → ⊥) → used embedded x y ≡ x
+unfolding used
+used-embedded [] x y h = absurd (h refl)
+used-embedded (b ∷ embedded) x y h = refl
 
-pub tell-skip : {y : Answered} → y ≡ Answered.Skip → Told.Skip ≡ toldOf y
-tell-skip e = rw e
+pub used-file : {A : Type 0} (embedded : List ℕ) (x y : A) → length embedded ≡ 0 → used embedded x y ≡ y
+unfolding used
+used-file [] x y h = refl
+used-file (b ∷ embedded) x y h = absurd (omega arith)
 
-pub tell-keep : {y : Answered} {n : ℕ} → y ≡ Answered.Keep n → Told.Keep n ≡ toldOf y
-tell-keep e = rw e
+bytes-looked-at : (embedded file : List ℕ) → Bytes embedded → Bytes file → Bytes (lookedAt embedded file)
+unfolding used
+bytes-looked-at [] file a b = b
+bytes-looked-at (x ∷ embedded) file a b = a
 
-said-told : (b : Bool) (m : ℕ) → cond b (Told.Keep m) Told.Skip ≡ toldOf (cond b (Answered.Keep m) Answered.Skip)
-said-told true m = refl
-said-told false m = refl
+-- ---- the reading of an answer
 
-asked-told : (o : Out Refusal Answer) → askedOf o ≡ toldOf (answeredBy o)
-unfolding askedOf answeredBy said
-asked-told (refuse r) = refl
-asked-told (ok a) = said-told (keeps (a .matched)) (a .matched)
+read-found : (o : Out Refusal (Sought Part)) (start : Position) (size : ℕ) → Located.Found start size ≡ locatedBy o → o ≡ ok (found (record { start = start; length = size }))
+unfolding locatedBy
+read-found (refuse r) start size e = absurd (let z : _≡_ {A = ℕ} 0 1 = cc in omega arith)
+read-found (ok absent) start size e = absurd (let z : _≡_ {A = ℕ} 0 1 = cc in omega arith)
+read-found (ok (found p)) start size e = let x : start ≡ p .start = cc in let y : size ≡ p .length = cc in rw (x, y)
 
-audit-refuses : (o : Out Refusal ℕ) (r : Refusal) → auditedBy o ≡ Audited.Refused r → o ≡ refuse r
-unfolding auditedBy
-audit-refuses (refuse q) r e = cc
-audit-refuses (ok n) r e = absurd (let z : _≡_ {A = ℕ} 0 1 = cc in omega arith)
+read-absent : (o : Out Refusal (Sought Part)) → Located.Absent ≡ locatedBy o → o ≡ ok absent
+unfolding locatedBy
+read-absent (refuse r) e = absurd (let z : _≡_ {A = ℕ} 0 1 = cc in omega arith)
+read-absent (ok absent) e = refl
+read-absent (ok (found p)) e = absurd (let z : _≡_ {A = ℕ} 0 1 = cc in omega arith)
 
-audit-counts : (o : Out Refusal ℕ) (n : ℕ) → auditedBy o ≡ Rows n → o ≡ ok n
-unfolding auditedBy
-audit-counts (refuse q) n e = absurd (let z : _≡_ {A = ℕ} 0 1 = cc in omega arith)
-audit-counts (ok m) n e = cc
+read-refused : (o : Out Refusal (Sought Part)) (r : Refusal) → Located.Refused r ≡ locatedBy o → o ≡ refuse r
+unfolding locatedBy
+read-refused (refuse q) r e = cc
+read-refused (ok absent) r e = absurd (let z : _≡_ {A = ℕ} 0 1 = cc in omega arith)
+read-refused (ok (found p)) r e = absurd (let z : _≡_ {A = ℕ} 0 1 = cc in omega arith)
 
-module _ (embedded file column kind : List ℕ) (t q : ℕ) (literal field : List ℕ) where
-  abbrev Promise : Told → List ℕ → Type 0
-  Promise r exit = (r ≡ told embedded file column kind t q literal field) × (exit ≡ toldBuffer embedded file column kind t q literal field)
+module _ (bytes column kind : List ℕ) {l : Located} (e : l ≡ locatedBy (find bytes column kind)) where
+  was-found : {start : Position} {size : ℕ} → l ≡ Located.Found start size → find bytes column kind ≡ ok (found (record { start = start; length = size }))
+  was-found {start} {size} g = read-found (find bytes column kind) start size (sym g ∙ e)
 
-  -- what the promise for any bytes says of a column's file
-  pub as-scan : {r : Told} {exit : List ℕ} → r ≡ told embedded file column kind t q literal field → exit ≡ toldBuffer embedded file column kind t q literal field → Bytes field
-      → (cells : List Cell) (ls : List (List ℕ)) → ColumnFile t cells column kind (lookedAt embedded file) → Question t q ls → literal ≡ joined ls → size (length cells) ≤ length field
-      → (r ≡ said (scan q ls cells .matched)) × (exit ≡ scan q ls cells .field ++ drop (size (length cells)) field)
-  as-scan x y b cells ls f w l h = (
-    x ∙ rw l (told-as-scan t cells column kind embedded file f field b h q ls w),
-    y ∙ rw l (buffer-as-scan t cells column kind embedded file f field b h q ls w),
+  was-absent : l ≡ Located.Absent → find bytes column kind ≡ ok absent
+  was-absent g = read-absent (find bytes column kind) (sym g ∙ e)
+
+  was-refused : {r : Refusal} → l ≡ Located.Refused r → find bytes column kind ≡ refuse r
+  was-refused {r} g = read-refused (find bytes column kind) r (sym g ∙ e)
+
+  -- what is found lies within the buffer that is looked at
+  pub inside : (embedded file : List ℕ) → Bytes embedded → Bytes file → bytes ≡ lookedAt embedded file → {start : Position} {size : ℕ} → l ≡ Located.Found start size
+      → start .0 + size ≤ length bytes
+  inside embedded file a b x {start} {size} g =
+      found-within bytes column kind (record { start = start; length = size }) (rw x (bytes-looked-at embedded file a b)) (was-found g)
+
+  -- ---- Locate
+
+  module _ (buffer : ℕ × ℕ) where
+    pub locate-found : {start : Position} {size : ℕ} → l ≡ Located.Found start size → {body : List ℕ} → body ≡ take size (drop (start .0) bytes)
+        → {place : ℕ × ℕ} → place ≡ (buffer .0, start .0 + buffer .1) → LocatePromise bytes column kind buffer 0 body place
+    unfolding numbersOf soughtNumbers
+    locate-found g p h = record { number = rw (was-found g); part = rw (was-found g) p; handed-back = rw (was-found g) h }
+
+    pub locate-absent : l ≡ Located.Absent → (place : ℕ × ℕ) → LocatePromise bytes column kind buffer 255 [] place
+    unfolding numbersOf soughtNumbers
+    locate-absent g place = record { number = rw (was-absent g); part = rw (was-absent g); handed-back = rw (was-absent g) tt }
+
+    pub locate-refused : {r : Refusal} → l ≡ Located.Refused r → {n : ℕ} → n ≡ numberOf r → (place : ℕ × ℕ) → LocatePromise bytes column kind buffer n [] place
+    unfolding numbersOf
+    locate-refused g x place = record { number = rw (was-refused g) x; part = rw (was-refused g); handed-back = rw (was-refused g) tt }
+
+-- ---- Locate, then Ask
+
+-- Ask's answer as the one call's, and its numbers
+asked : (o : Out Refusal Answer) → FileAnswer.Answered (answeredBy o) ≡ fileAnswerBy (andThen o (λ a. ok (found a)))
+unfolding fileAnswerBy andThen answeredBy
+asked (refuse r) = refl
+asked (ok a) = refl
+
+numbered : (o : Out Refusal Answer) → numbersOf 0 askNumbers o ≡ numbersOf 0 askFileNumbers (andThen o (λ a. ok (found a)))
+unfolding numbersOf andThen askFileNumbers
+numbered (refuse r) = refl
+numbered (ok a) = refl
+
+-- for any bytes, and so for a column's file
+abbrev pub Promise : (bytes column kind : List ℕ) (t q : ℕ) (literals before after : List ℕ) → FileAnswer → Type 0
+Promise bytes column kind t q literals before after r =
+    AskFilePromise bytes column kind t q literals before after r
+    × FileAsScan bytes column kind t q literals before (λ a. (r ≡ fileAnswerBy (ok (found a))) × (after ≡ a .buffer))
+
+module _ (bytes column kind : List ℕ) (t q : ℕ) (literals before : List ℕ) (b : Bytes before) where
+  both : {after : List ℕ} {r : FileAnswer} → AskFilePromise bytes column kind t q literals before after r → Promise bytes column kind t q literals before after r
+  both p = (
+    p,
+    λ cells ls f w l room.
+        let s = file-is-answered t cells column kind bytes f before b room q ls w in
+        (p .answer ∙ rw l (ap fileAnswerBy (s .0)), p .buffer ∙ rw l (s .1)),
   )
 
-  module _ {n : ℕ} (e : n ≡ answerOf (located embedded file column kind)) where
-    pub absent : n ≡ 255 → Promise Told.Absent field
-    unfolding told toldBy toldBuffer
-    absent g = (rw (← e, g), rw (← e, g))
+  module _ {l : Located} (e : l ≡ locatedBy (find bytes column kind)) where
+    pub asked-absent : l ≡ Located.Absent → Promise bytes column kind t q literals before before FileAnswer.Absent
+    unfolding askFile askPart andThen askFileBuffer askPartBuffer fileAnswerBy askFileOut askFileNumbers numbersOf
+    asked-absent g = let x = was-absent bytes column kind e g in both (record { answer = rw x; numbers = rw x; buffer = rw x })
 
-    pub refused : (n ≡ 255 → ⊥) → (n ≡ 0 → ⊥) → Promise (Told.Refused n) field
-    unfolding told toldBy toldBuffer
-    refused x y = (rw (← e, ne-eqb n 255 x, ne-eqb n 0 y), rw (← e, ne-eqb n 0 y))
+    pub asked-refused : {r : Refusal} → l ≡ Located.Refused r → Promise bytes column kind t q literals before before (FileAnswer.Answered (Answered.Refused r))
+    unfolding askFile andThen askFileBuffer askPartBuffer fileAnswerBy askFileOut askOut numbersOf
+    asked-refused g = let x = was-refused bytes column kind e g in both (record { answer = rw x; numbers = rw x; buffer = rw x })
 
-    module _ (z : n ≡ 0) {body : List ℕ} (p : body ≡ partOf (located embedded file column kind) (lookedAt embedded file)) {a : Audited} (u : a ≡ auditedBy (audit t body field))
-        {after : List ℕ} (v : after ≡ auditBuffer t body field) where
-      pub audit-refused : {r : Refusal} → a ≡ Audited.Refused r → {m : ℕ} → m ≡ numberOf r → Promise (Told.Refused m) after
-      unfolding told toldBy toldBuffer bodyTold bodyBuffer askedOf andThen auditedBuffer
-      audit-refused {r} h g =
-          let w : audit t body field ≡ refuse r = audit-refuses (audit t body field) r (sym u ∙ h) in
-          (rw (← e, z, ← p, w, g), rw (← e, z, ← p, w) v)
-
-      pub answered : {k : ℕ} → a ≡ Rows k → {y : Answered} → y ≡ answeredBy (ask t q literal body after) → {exit : List ℕ} → exit ≡ askBuffer t q literal body after
-          → {r : Told} → r ≡ toldOf y → Promise r exit
-      unfolding told toldBy toldBuffer bodyTold bodyBuffer andThen auditedBuffer
-      answered {k} h g x o =
-          let w : audit t body field ≡ ok k = audit-counts (audit t body field) k (sym u ∙ h) in
-          (o ∙ rw (← e, z, ← p, w, ← v, g) (sym (asked-told (ask t q literal body after))), rw (← e, z, ← p, w, ← v) x)
+    pub asked-found : {start : Position} {size : ℕ} → l ≡ Located.Found start size → {body : List ℕ} → body ≡ take size (drop (start .0) bytes)
+        → {y : Answered} {after : List ℕ} → AskPromise t q literals body before after y → Promise bytes column kind t q literals before after (FileAnswer.Answered y)
+    unfolding askFile askPart andThen askFileBuffer askPartBuffer askFileOut
+    asked-found g {body} p h =
+        let x = was-found bytes column kind e g in
+        let o = ask t q literals body before in
+        both (record { answer = rw (x, ← p, h .answer) (asked o); numbers = rw (x, ← p) (h .numbers ∙ numbered o); buffer = rw (x, ← p) (h .buffer) })

@@ -6,10 +6,10 @@ use lib.ListN.{length}
 use Rattle.refusal.specs.Meaning.{limit}
 use Rattle.stored_value.specs.Meaning.{Cell}
 use Rattle.index_file.specs.Layout.{File}
-use Rattle.bitmap_index.specs.Layout.{Body}
+use Rattle.bitmap_index.specs.Layout.{ColumnBody}
 
 pub record ColumnFile (t : ℕ) (cells : List Cell) (column kind bytes : List ℕ) : Type 0 where
   pub body : List ℕ
   pub file : File column kind body bytes
-  pub laid : Body t cells body
+  pub laid : ColumnBody t cells body
   pub small : length bytes ≤ limit

@@ -1,48 +1,69 @@
--- What Locate, Audit and Ask in turn answer for any buffers: Audit and Ask are lent, unchanged, the part that Locate hands back.
-use Prim.Native.Nat.{ℕ}
-use mathlib.Core.Bool.{cond}
-use mathlib.Core.List.{List}
-use lib.Dec.{eqb}
+-- What Locate, and Locate and Ask in turn, answer for any buffers. `bytes` are those of the buffer that is looked at.
+use Prim.Native.Nat.{ℕ, _+_}
+use mathlib.Core.Path.{_≡_}
+use mathlib.Core.List.{List, [], _∷_}
 use Rattle.refusal.specs.declared.Refusal.{Refusal}
-use Rattle.refusal.specs.Meaning.{numberOf}
 use Rattle.refusal.specs.Reading.{Out, refuse, ok, andThen}
-use Rattle.index_file.specs.Reading.{lookedAt, located, answerOf, partOf}
-use Rattle.bitmap_index.specs.Meaning.{keeps}
-use Rattle.bitmap_index.specs.Reading.{Answer, audit, auditBuffer, ask, askBuffer}
-use Rattle.file_to_answers.specs.declared.Told.{Told}
-use Rattle.file_to_answers.specs.declared.Told.the-variants.{Absent, Refused, Skip, Keep}
+use Rattle.index_file.specs.Reading.{Part, Sought, found, absent, bytesOf, find, foundNumber, absentNumber}
+use Rattle.bitmap_index.specs.declared.Answered.{Answered}
+use Rattle.bitmap_index.specs.Reading.{Answer, ask, askBuffer, answeredBy, askOut}
+use Rattle.file_to_answers.specs.declared.FileAnswer.{FileAnswer}
 
--- a count of 0 says skip, any other keep
-unfoldable pub said : ℕ → Told
-said matched = cond (keeps matched) (Keep matched) Skip
+-- ---- Locate
 
-unfoldable pub askedOf : Out Refusal Answer → Told
-askedOf (refuse r) = Refused (numberOf r)
-askedOf (ok a) = said (a .matched)
+-- "If the embedded buffer isn't empty it is used and the other isn't looked at; else the file is used": the first of two things
+-- where the embedded buffer isn't empty, else the second
+unfoldable pub used : {A : Type 0} → List ℕ → A → A → A
+used [] ofEmbedded ofFile = ofFile
+used (b ∷ embedded) ofEmbedded ofFile = ofEmbedded
 
--- Audit and Ask of a body, the field handed from the one to the other
-unfoldable pub bodyTold : ℕ → ℕ → List ℕ → List ℕ → List ℕ → Told
-bodyTold t q literal field body = askedOf (andThen (audit t body field) (λ rows. ask t q literal body (auditBuffer t body field)))
+-- the bytes that are looked at
+abbrev pub lookedAt : List ℕ → List ℕ → List ℕ
+lookedAt embedded file = used embedded embedded file
 
-unfoldable pub auditedBuffer : Out Refusal ℕ → List ℕ → List ℕ → List ℕ
-auditedBuffer (refuse r) after next = after
-auditedBuffer (ok n) after next = next
+-- the part of the buffer that is handed back: "With the other answers, ABSENT and a refusal, the part is empty"
+abbrev pub partOf : Out Refusal (Sought Part) → List ℕ → List ℕ
+partOf (refuse r) bytes = []
+partOf (ok absent) bytes = []
+partOf (ok (found p)) bytes = bytesOf p bytes
 
-unfoldable pub bodyBuffer : ℕ → ℕ → List ℕ → List ℕ → List ℕ → List ℕ
-bodyBuffer t q literal field body =
-    auditedBuffer (audit t body field) (auditBuffer t body field) (askBuffer t q literal body (auditBuffer t body field))
+-- "The body found is handed back as a part of the buffer it lies in .., not a copy": where the part stands in memory, from the buffer's place on. A place is
+-- a pair, of an allocation and an offset in it. With the other answers the part has no bytes, and its place is left open
+abbrev pub HandedBack : Out Refusal (Sought Part) → ℕ × ℕ → ℕ × ℕ → Type 0
+HandedBack (refuse r) buffer place = Unit {0}
+HandedBack (ok absent) buffer place = Unit {0}
+HandedBack (ok (found p)) buffer place = place ≡ (buffer .0, p .start .0 + buffer .1)
 
--- by Locate's number: 255 is ABSENT, any other but 0 a refusal
-unfoldable pub toldBy : ℕ → Told → Told
-toldBy number found = cond (eqb number 255) Absent (cond (eqb number 0) found (Refused number))
+-- ---- Locate, then Ask on the part that it finds
 
-unfoldable pub told : List ℕ → List ℕ → List ℕ → List ℕ → ℕ → ℕ → List ℕ → List ℕ → Told
-told embedded file column kind t q literal field =
-    toldBy (answerOf (located embedded file column kind))
-    (bodyTold t q literal field (partOf (located embedded file column kind) (lookedAt embedded file)))
+unfoldable pub askPart : List ℕ → ℕ → ℕ → List ℕ → List ℕ → Sought Part → Out Refusal (Sought Answer)
+askPart bytes t q literals field absent = ok absent
+askPart bytes t q literals field (found p) = andThen (ask t q literals (bytesOf p bytes) field) (λ a. ok (found a))
 
--- the buffer then: as it was where Locate found nothing
-unfoldable pub toldBuffer : List ℕ → List ℕ → List ℕ → List ℕ → ℕ → ℕ → List ℕ → List ℕ → List ℕ
-toldBuffer embedded file column kind t q literal field =
-    cond (eqb (answerOf (located embedded file column kind)) 0)
-    (bodyBuffer t q literal field (partOf (located embedded file column kind) (lookedAt embedded file))) field
+unfoldable pub askFile : List ℕ → List ℕ → List ℕ → ℕ → ℕ → List ℕ → List ℕ → Out Refusal (Sought Answer)
+askFile bytes column kind t q literals field = andThen (find bytes column kind) (askPart bytes t q literals field)
+
+-- the buffer then: with ABSENT and with a refusal of Locate as it was
+unfoldable pub askPartBuffer : List ℕ → ℕ → ℕ → List ℕ → List ℕ → Out Refusal (Sought Part) → List ℕ
+askPartBuffer bytes t q literals field (refuse r) = field
+askPartBuffer bytes t q literals field (ok absent) = field
+askPartBuffer bytes t q literals field (ok (found p)) = askBuffer t q literals (bytesOf p bytes) field
+
+unfoldable pub askFileBuffer : List ℕ → List ℕ → List ℕ → ℕ → ℕ → List ℕ → List ℕ → List ℕ
+askFileBuffer bytes column kind t q literals field = askPartBuffer bytes t q literals field (find bytes column kind)
+
+-- the call's answer
+unfoldable pub fileAnswerBy : Out Refusal (Sought Answer) → FileAnswer
+fileAnswerBy (refuse r) = FileAnswer.Answered (Answered.Refused r)
+fileAnswerBy (ok absent) = FileAnswer.Absent
+fileAnswerBy (ok (found a)) = FileAnswer.Answered (answeredBy (ok a))
+
+-- its number and its count: Ask's, or ABSENT's and 0
+unfoldable pub askFileOut : FileAnswer → ℕ × ℕ
+askFileOut FileAnswer.Absent = (absentNumber, 0)
+askFileOut (FileAnswer.Answered a) = askOut a
+
+-- the same of the reading, where it is no refusal
+unfoldable pub askFileNumbers : Sought Answer → ℕ × ℕ
+askFileNumbers absent = (absentNumber, 0)
+askFileNumbers (found a) = (foundNumber, a .matched)

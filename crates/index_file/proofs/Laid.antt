@@ -1,5 +1,5 @@
 -- What is laid out is read as it was meant.
-use Prim.Native.Nat.{ℕ, suc, _+_, _<_, _≤_}
+use Prim.Native.Nat.{ℕ, suc, _+_, _^_, _<_, _≤_}
 use mathlib.Core.Path.{_≡_, refl, sym, ap, _∙_}
 use mathlib.Core.Bool.{Bool, false, _||_}
 use mathlib.Core.List.{List, [], _∷_, _++_, append-assoc}
@@ -7,39 +7,40 @@ use native.Mathlib.Omega.{arith}
 use lib.ListN.{length, take, drop, length-append}
 use lib.Seq.{take-at, drop-at}
 use borrow.Author.Tests.{lt-ltb, le-leb, eq-eqb}
-use Rattle.numbers.specs.Meaning.{be, big, same, All}
+use Rattle.numbers.specs.Meaning.{be, big, same, All, signBit}
 use Rattle.numbers.proofs.Laws.{number-laid}
 use Rattle.refusal.specs.Meaning.{limit}
 use Rattle.refusal.specs.declared.Refusal.{Refusal}
-use Rattle.index_file.specs.declared.Located.{Located}
+use Rattle.refusal.specs.Reading.{refuse, ok, check}
 use Rattle.index_file.specs.declared.Place.{Place}
 use Rattle.index_file.specs.declared.Place.the-variants.{Nowhere, At}
-use Rattle.index_file.specs.Layout.{Entry, Column, nameBytes, entryBytes, entriesBytes, columnBytes, columnsBytes, headBytes, FitEntry, FitColumn, Once, Headed, File, Unlisted}
-use Rattle.index_file.specs.Reading.{need, broken, count, name, afterEntry, entries, afterColumn, columns, position, placed, head, file, find}
+use Rattle.index_file.specs.Layout.{magic, fileVersion, frontSize, leastHead, ListedIndex, ListedColumn, nameBytes, entryBytes, entriesBytes, columnBytes, columnsBytes, headBytes, GoodIndex, GoodColumn, Once, Headed, File, Unlisted}
+use Rattle.index_file.specs.Reading.{count, name, position, afterEntry, entries, afterColumn, columns, Part, found, absent, placed, head, file, find}
+use Rattle.index_file.specs.Promises.{Rest}
 use Rattle.index_file.proofs.Laws.{find-file}
 use Rattle.index_file.proofs.Once.{placeIn, placeOf, in-once, of-once, of-unlisted}
 
 -- ---- fields
 
-pub name-laid : (n t : List ℕ) (k : List ℕ → List ℕ → Located) → length n < 65536 → name (nameBytes n ++ t) k ≡ k n t
-unfolding name need
+pub name-laid : (n t : List ℕ) (k : Rest (List ℕ)) → length n < 256 ^ 2 → name (nameBytes n ++ t) k ≡ k n t
+unfolding name check
 name-laid n t k h =
     let l : length n ≤ length (n ++ t) = simp length-append (omega arith) in
-    number-laid big 2 broken (length n) (n ++ t) _ h
+    number-laid big 2 (refuse Refusal.Head) (length n) (n ++ t) _ h
     ∙ simp (le-leb (length n) (length (n ++ t)) l, take-at n t (length n) refl, drop-at n t (length n) refl)
 
-pub count-laid : (v : ℕ) (t : List ℕ) (k : ℕ → List ℕ → Located) → v < 2147483648 → count (be 4 v ++ t) k ≡ k v t
-unfolding count need
-count-laid v t k h = number-laid big 4 broken v t _ (omega arith) ∙ simp lt-ltb
+pub count-laid : (v : ℕ) (t : List ℕ) (k : Rest ℕ) → v < signBit → count (be 4 v ++ t) k ≡ k v t
+unfolding count check
+count-laid v t k h = number-laid big 4 (refuse Refusal.Head) v t _ (omega arith) ∙ simp lt-ltb
 
 -- ---- entries
 
-pub entry-split : (e : Entry) (r : List ℕ) → entryBytes e ++ r ≡ nameBytes (e .name) ++ (be 4 (e .start) ++ (be 4 (e .length) ++ r))
+pub entry-split : (e : ListedIndex) (r : List ℕ) → entryBytes e ++ r ≡ nameBytes (e .name) ++ (be 4 (e .start) ++ (be 4 (e .length) ++ r))
 entry-split e r =
     append-assoc (nameBytes (e .name)) (be 4 (e .start) ++ be 4 (e .length)) r
     ∙ ap (λ (l : List ℕ). nameBytes (e .name) ++ l) (append-assoc (be 4 (e .start)) (be 4 (e .length)) r)
 
-pub entries-laid : (kind : List ℕ) (es : List Entry) (place : Place) (t : List ℕ) (k : Place → List ℕ → Located) → All FitEntry es
+pub entries-laid : (kind : List ℕ) (es : List ListedIndex) (place : Place) (t : List ℕ) (k : Rest Place) → All GoodIndex es
     → entries kind (length es) place (entriesBytes es ++ t) k ≡ k (placeIn kind place es) t
 unfolding entries placeIn
 entries-laid kind [] place t k h = refl
@@ -47,18 +48,18 @@ entries-laid kind (e ∷ es) place t k h =
     let r : List ℕ = entriesBytes es ++ t in
     ap (λ (l : List ℕ). entries kind (suc (length es)) place l k) (append-assoc (entryBytes e) (entriesBytes es) t ∙ entry-split e r)
     ∙ name-laid (e .name) (be 4 (e .start) ++ (be 4 (e .length) ++ r)) _ (h .0 .0)
-    ∙ number-laid big 4 broken (e .start) (be 4 (e .length) ++ r) _ (h .0 .1)
-    ∙ number-laid big 4 broken (e .length) r _ (h .0 .2)
-    ∙ entries-laid kind es (afterEntry (same kind (e .name)) (e .start) (e .length) place) t k (h .1)
+    ∙ number-laid big 4 (refuse Refusal.Head) (e .start) (be 4 (e .length) ++ r) _ (h .0 .1)
+    ∙ number-laid big 4 (refuse Refusal.Head) (e .length) r _ (h .0 .2)
+    ∙ entries-laid kind es (afterEntry (same kind (e .name)) (position (e .start)) (e .length) place) t k (h .1)
 
 -- ---- columns
 
-pub column-split : (c : Column) (r : List ℕ) → columnBytes c ++ r ≡ nameBytes (c .name) ++ (be 4 (length (c .entries)) ++ (entriesBytes (c .entries) ++ r))
+pub column-split : (c : ListedColumn) (r : List ℕ) → columnBytes c ++ r ≡ nameBytes (c .name) ++ (be 4 (length (c .entries)) ++ (entriesBytes (c .entries) ++ r))
 column-split c r =
     append-assoc (nameBytes (c .name)) (be 4 (length (c .entries)) ++ entriesBytes (c .entries)) r
     ∙ ap (λ (l : List ℕ). nameBytes (c .name) ++ l) (append-assoc (be 4 (length (c .entries))) (entriesBytes (c .entries)) r)
 
-pub columns-laid : (column kind : List ℕ) (cs : List Column) (seen : Bool) (place : Place) (t : List ℕ) (k : Place → List ℕ → Located) → All FitColumn cs
+pub columns-laid : (column kind : List ℕ) (cs : List ListedColumn) (seen : Bool) (place : Place) (t : List ℕ) (k : Rest Place) → All GoodColumn cs
     → columns column kind (length cs) seen place (columnsBytes cs ++ t) k ≡ k (placeOf kind column seen place cs) t
 unfolding columns placeOf
 columns-laid column kind [] seen place t k h = refl
@@ -72,14 +73,14 @@ columns-laid column kind (c ∷ cs) seen place t k h =
 
 -- ---- the head
 
-module _ (column kind : List ℕ) (n : ℕ) (cs : List Column) (r : List ℕ) (whole : n ≡ length (headBytes n cs r)) (small : n < 2147483648)
-    (few : length cs < 2147483648) (short : length r < 2147483648) (fit : All FitColumn cs) where
+module _ (column kind : List ℕ) (n : ℕ) (cs : List ListedColumn) (r : List ℕ) (whole : n ≡ length (headBytes n cs r)) (small : n < signBit)
+    (few : length cs < signBit) (short : length r < signBit) (fit : All GoodColumn cs) where
   -- the fields from the column number on
   abbrev fields : List ℕ
   fields = be 4 (length cs) ++ (columnsBytes cs ++ (be 4 (length r) ++ r))
 
   head-laid : (total : ℕ) → head column kind n total fields ≡ placed n total (placeOf kind column false Nowhere cs)
-  unfolding head need
+  unfolding head check
   head-laid total =
       let e : length r ≡ length r = refl in
       count-laid (length cs) (columnsBytes cs ++ (be 4 (length r) ++ r)) _ few
@@ -88,19 +89,19 @@ module _ (column kind : List ℕ) (n : ℕ) (cs : List Column) (r : List ℕ) (w
       ∙ simp (eq-eqb (length r) (length r) e)
 
   file-laid : (rest : List ℕ) → file column kind (headBytes n cs r ++ rest) ≡ placed n (length (headBytes n cs r ++ rest)) (placeOf kind column false Nowhere cs)
-  unfolding file need
+  unfolding file check
   file-laid rest =
       let b : List ℕ = headBytes n cs r ++ rest in
       let l : length b ≡ n + length rest = length-append (headBytes n cs r) rest ∙ omega arith in
-      let f : 24 ≤ n = rw whole (simp length-append (omega arith)) in
-      let p : 16 ≤ length b = omega arith in
+      let f : leastHead ≤ n = rw whole (simp length-append (omega arith)) in
+      let p : frontSize ≤ length b = omega arith in
       let q : n ≤ length b = omega arith in
-      let x : drop 16 (take n b) ≡ fields = ap (drop 16) (take-at (headBytes n cs r) rest n (sym whole)) in
-      simp (le-leb 16 (length b) p)
-      (number-laid big 8 (Located.Refused Refusal.Short) 1493475289347502 (be 4 1 ++ (be 4 n ++ (fields ++ rest))) _ (omega arith)
-      ∙ number-laid big 4 (Located.Refused Refusal.Short) 1 (be 4 n ++ (fields ++ rest)) _ (omega arith)
+      let x : drop frontSize (take n b) ≡ fields = ap (drop frontSize) (take-at (headBytes n cs r) rest n (sym whole)) in
+      simp (le-leb frontSize (length b) p)
+      (number-laid big 8 (refuse Refusal.Short) magic (be 4 fileVersion ++ (be 4 n ++ (fields ++ rest))) _ (omega arith)
+      ∙ number-laid big 4 (refuse Refusal.Short) fileVersion (be 4 n ++ (fields ++ rest)) _ (omega arith)
       ∙ count-laid n (fields ++ rest) _ small
-      ∙ simp (le-leb 24 n f, le-leb n (length b) q, x) (head-laid (length b)))
+      ∙ simp (le-leb leastHead n f, le-leb n (length b) q, x) (head-laid (length b)))
 
 -- ---- a file of the column
 
@@ -119,31 +120,34 @@ headed-file column kind h =
     ∙ ap (λ (b : List ℕ). placed (h .headLength) (length b) place) (sym (h .laid))
 
 -- a head that does not list what is asked for
-pub unlisted-file : {column kind bytes : List ℕ} (h : Headed bytes) → Unlisted column kind (h .columns) → file column kind bytes ≡ Located.Absent
+pub unlisted-file : {column kind bytes : List ℕ} (h : Headed bytes) → Unlisted column kind (h .columns) → file column kind bytes ≡ ok absent
 unfolding placed
 unlisted-file {column} {kind} {bytes} h u = headed-file column kind h ∙ ap (placed (h .headLength) (length bytes)) (of-unlisted kind column u)
 
+abbrev pub partOf : {column kind body bytes : List ℕ} → File column kind body bytes → Part
+partOf f = record { start = position (f .entry .start); length = f .entry .length }
+
 module _ {column kind body bytes : List ℕ} (f : File column kind body bytes) (small : length bytes ≤ limit) where
   -- an asked name that is listed is no longer than a stored name can be
-  column-fits : FitColumn (f .asked)
-  column-fits = once-fit FitColumn (f .column-once) (f .head .fit)
+  column-fits : GoodColumn (f .asked)
+  column-fits = once-fit GoodColumn (f .column-once) (f .head .fit)
 
-  kind-fits : FitEntry (f .entry)
-  kind-fits = once-fit FitEntry (f .kind-once) (column-fits .2)
+  kind-fits : GoodIndex (f .entry)
+  kind-fits = once-fit GoodIndex (f .kind-once) (column-fits .2)
 
-  place-is : placeOf kind column false Nowhere (f .head .columns) ≡ At (f .entry .start) (f .entry .length)
+  place-is : placeOf kind column false Nowhere (f .head .columns) ≡ At (position (f .entry .start)) (f .entry .length)
   place-is = of-once kind column (f .column-once) ∙ in-once kind (f .kind-once)
 
-  placed-is : placed (f .head .headLength) (length bytes) (At (f .entry .start) (f .entry .length)) ≡ Located.Found (position (f .entry .start)) (f .entry .length)
-  unfolding placed need
+  placed-is : placed (f .head .headLength) (length bytes) (At (position (f .entry .start)) (f .entry .length)) ≡ ok (found (partOf f))
+  unfolding placed check
   placed-is =
       let s : ℕ = f .entry .start in
       let n : ℕ = f .entry .length in
       let w : s + n ≤ length bytes = f .within in
       let b : f .head .headLength ≤ s = f .behind in
-      simp (lt-ltb s 2147483648 (f .not-negative .0), lt-ltb n 2147483648 (f .not-negative .1), le-leb (f .head .headLength) s b, le-leb (s + n) (length bytes) w)
+      simp (lt-ltb s signBit (f .not-negative .0), lt-ltb n signBit (f .not-negative .1), le-leb (f .head .headLength) s b, le-leb (s + n) (length bytes) w)
 
-  pub laid-find : find bytes column kind ≡ Located.Found (position (f .entry .start)) (f .entry .length)
+  pub laid-find : find bytes column kind ≡ ok (found (partOf f))
   laid-find =
       let x : length column ≤ limit = rw (← f .column-once .holds) (omega (arith, column-fits .0)) in
       let y : length kind ≤ limit = rw (← f .kind-once .holds) (omega (arith, kind-fits .0)) in

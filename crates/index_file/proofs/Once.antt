@@ -8,9 +8,10 @@ use native.Mathlib.Omega.{arith}
 use Rattle.index_file.specs.declared.Place.{Place}
 use Rattle.index_file.specs.declared.Place.the-variants.{Nowhere, At, Repeated}
 use Rattle.numbers.specs.Meaning.{All, same}
+use Rattle.numbers.specs.declared.Position.{Position}
 use Rattle.numbers.proofs.SameBytes.{same-refl, same→eq}
-use Rattle.index_file.specs.Layout.{Entry, Column, Named, Once, Unlisted, no-column, no-kind}
-use Rattle.index_file.specs.Reading.{afterEntry, afterColumn}
+use Rattle.index_file.specs.Layout.{ListedIndex, ListedColumn, Named, Once, Unlisted, no-column, no-kind}
+use Rattle.index_file.specs.Reading.{position, afterEntry, afterColumn}
 
 never : {X : Type 0} → _≡_ {A = ℕ} 0 1 → X
 never z = absurd (let w : ⊥ = omega arith in w)
@@ -51,64 +52,64 @@ not-named asked stored e n = let z : true ≡ false = sym (named-same asked stor
 -- ---- the entries of a column
 
 module _ (kind : List ℕ) where
-  abbrev pub Asked-entry : Entry → Type 0
+  abbrev pub Asked-entry : ListedIndex → Type 0
   Asked-entry e = Named kind (e .name)
 
   -- the place that the reading gathers from entries
-  unfoldable pub placeIn : Place → List Entry → Place
+  unfoldable pub placeIn : Place → List ListedIndex → Place
   placeIn place [] = place
-  placeIn place (e ∷ es) = placeIn (afterEntry (same kind (e .name)) (e .start) (e .length) place) es
+  placeIn place (e ∷ es) = placeIn (afterEntry (same kind (e .name)) (position (e .start)) (e .length) place) es
 
-  in-none : (place : Place) (es : List Entry) → All (λ (e : Entry). Asked-entry e → ⊥) es → placeIn place es ≡ place
+  in-none : (place : Place) (es : List ListedIndex) → All (λ (e : ListedIndex). Asked-entry e → ⊥) es → placeIn place es ≡ place
   unfolding placeIn afterEntry
   in-none place [] h = refl
   in-none place (e ∷ es) h = simp (other-name kind (e .name) (h .0)) (in-none place es (h .1))
 
-  in-parts : (before : List Entry) (e : Entry) (after : List Entry) → Asked-entry e → All (λ (e : Entry). Asked-entry e → ⊥) before → All (λ (e : Entry). Asked-entry e → ⊥) after
-      → placeIn Nowhere (before ++ (e ∷ after)) ≡ At (e .start) (e .length)
+  in-parts : (before : List ListedIndex) (e : ListedIndex) (after : List ListedIndex) → Asked-entry e → All (λ (e : ListedIndex). Asked-entry e → ⊥) before → All (λ (e : ListedIndex). Asked-entry e → ⊥) after
+      → placeIn Nowhere (before ++ (e ∷ after)) ≡ At (position (e .start)) (e .length)
   unfolding placeIn afterEntry
   in-parts [] e after n b a =
-      ap (λ (t : Bool). placeIn (afterEntry t (e .start) (e .length) Nowhere) after) (named-same kind (e .name) n) ∙ in-none (At (e .start) (e .length)) after a
+      ap (λ (t : Bool). placeIn (afterEntry t (position (e .start)) (e .length) Nowhere) after) (named-same kind (e .name) n) ∙ in-none (At (position (e .start)) (e .length)) after a
   in-parts (x ∷ before) e after n b a =
-      ap (λ (t : Bool). placeIn (afterEntry t (x .start) (x .length) Nowhere) (before ++ (e ∷ after))) (other-name kind (x .name) (b .0)) ∙ in-parts before e after n (b .1) a
+      ap (λ (t : Bool). placeIn (afterEntry t (position (x .start)) (x .length) Nowhere) (before ++ (e ∷ after))) (other-name kind (x .name) (b .0)) ∙ in-parts before e after n (b .1) a
 
-  pub in-once : {e : Entry} {es : List Entry} → Once Asked-entry e es → placeIn Nowhere es ≡ At (e .start) (e .length)
+  pub in-once : {e : ListedIndex} {es : List ListedIndex} → Once Asked-entry e es → placeIn Nowhere es ≡ At (position (e .start)) (e .length)
   in-once {e} {es} o = rw (o .parts) (in-parts (o .before) e (o .after) (o .holds) (o .none-before) (o .none-after))
 
   -- and back
 
-  in-repeated : (es : List Entry) → placeIn Repeated es ≡ Repeated
+  in-repeated : (es : List ListedIndex) → placeIn Repeated es ≡ Repeated
   unfolding placeIn afterEntry
   in-repeated [] = refl
   in-repeated (e ∷ es) = ap (λ (p : Place). placeIn p es) (stays (same kind (e .name))) ∙ in-repeated es
     where
-      stays : (b : Bool) → afterEntry b (e .start) (e .length) Repeated ≡ Repeated
+      stays : (b : Bool) → afterEntry b (position (e .start)) (e .length) Repeated ≡ Repeated
       stays true = refl
       stays false = refl
 
-  in-at : (es : List Entry) (start size : ℕ) {place : Place} → (place ≡ Repeated → ⊥) → placeIn (At start size) es ≡ place
-      → All (λ (e : Entry). Asked-entry e → ⊥) es × (At start size ≡ place)
+  in-at : (es : List ListedIndex) (start : Position) (size : ℕ) {place : Place} → (place ≡ Repeated → ⊥) → placeIn (At start size) es ≡ place
+      → All (λ (e : ListedIndex). Asked-entry e → ⊥) es × (At start size ≡ place)
   unfolding placeIn afterEntry
   in-at [] start size n h = (tt, h)
   in-at (e ∷ es) start size {place} n h = go (same kind (e .name)) refl h (in-at es start size n)
     where
-      go : (b : Bool) → same kind (e .name) ≡ b → placeIn (afterEntry b (e .start) (e .length) (At start size)) es ≡ place
-          → (placeIn (At start size) es ≡ place → All (λ (e : Entry). Asked-entry e → ⊥) es × (At start size ≡ place))
-          → All (λ (e : Entry). Asked-entry e → ⊥) (e ∷ es) × (At start size ≡ place)
+      go : (b : Bool) → same kind (e .name) ≡ b → placeIn (afterEntry b (position (e .start)) (e .length) (At start size)) es ≡ place
+          → (placeIn (At start size) es ≡ place → All (λ (e : ListedIndex). Asked-entry e → ⊥) es × (At start size ≡ place))
+          → All (λ (e : ListedIndex). Asked-entry e → ⊥) (e ∷ es) × (At start size ≡ place)
       go true q h ih = absurd (n (sym h ∙ in-repeated es))
       go false q h ih = let r = ih h in ((not-named kind (e .name) q, r .0), r .1)
 
   -- a place that is no repetition is that of no entry, or of the one that is asked for
-  pub in-back : (es : List Entry) {place : Place} → (place ≡ Repeated → ⊥) → placeIn Nowhere es ≡ place
-      → (All (λ (e : Entry). Asked-entry e → ⊥) es × (Nowhere ≡ place)) ⊎ ((e : Entry) × Once Asked-entry e es × (At (e .start) (e .length) ≡ place))
+  pub in-back : (es : List ListedIndex) {place : Place} → (place ≡ Repeated → ⊥) → placeIn Nowhere es ≡ place
+      → (All (λ (e : ListedIndex). Asked-entry e → ⊥) es × (Nowhere ≡ place)) ⊎ ((e : ListedIndex) × Once Asked-entry e es × (At (position (e .start)) (e .length) ≡ place))
   unfolding placeIn afterEntry
   in-back [] n h = inl (tt, h)
   in-back (e ∷ es) {place} n h = go (same kind (e .name)) refl h (in-back es n)
     where
-      go : (b : Bool) → same kind (e .name) ≡ b → placeIn (afterEntry b (e .start) (e .length) Nowhere) es ≡ place
-          → (placeIn Nowhere es ≡ place → (All (λ (e : Entry). Asked-entry e → ⊥) es × (Nowhere ≡ place)) ⊎ ((e : Entry) × Once Asked-entry e es × (At (e .start) (e .length) ≡ place)))
-          → (All (λ (e : Entry). Asked-entry e → ⊥) (e ∷ es) × (Nowhere ≡ place)) ⊎ ((x : Entry) × Once Asked-entry x (e ∷ es) × (At (x .start) (x .length) ≡ place))
-      go true q h ih = let r = in-at es (e .start) (e .length) n h in inr (e, once-first (same-named kind (e .name) q) (r .0), r .1)
+      go : (b : Bool) → same kind (e .name) ≡ b → placeIn (afterEntry b (position (e .start)) (e .length) Nowhere) es ≡ place
+          → (placeIn Nowhere es ≡ place → (All (λ (e : ListedIndex). Asked-entry e → ⊥) es × (Nowhere ≡ place)) ⊎ ((e : ListedIndex) × Once Asked-entry e es × (At (position (e .start)) (e .length) ≡ place)))
+          → (All (λ (e : ListedIndex). Asked-entry e → ⊥) (e ∷ es) × (Nowhere ≡ place)) ⊎ ((x : ListedIndex) × Once Asked-entry x (e ∷ es) × (At (position (x .start)) (x .length) ≡ place))
+      go true q h ih = let r = in-at es (position (e .start)) (e .length) n h in inr (e, once-first (same-named kind (e .name) q) (r .0), r .1)
       go false q h ih =
           let o = not-named kind (e .name) q in
           ⊎-elim (λ r. inl ((o, r .0), r .1)) (λ r. inr (r .0, once-later o (r .1), r .2)) (ih h)
@@ -116,22 +117,22 @@ module _ (kind : List ℕ) where
   -- ---- the columns
 
   module _ (column : List ℕ) where
-    abbrev pub Asked-column : Column → Type 0
+    abbrev pub Asked-column : ListedColumn → Type 0
     Asked-column c = Named column (c .name)
 
     -- the place that the reading gathers from columns
-    unfoldable pub placeOf : Bool → Place → List Column → Place
+    unfoldable pub placeOf : Bool → Place → List ListedColumn → Place
     placeOf seen place [] = place
     placeOf seen place (c ∷ cs) =
         placeOf (seen || same column (c .name)) (afterColumn (same column (c .name)) seen (placeIn Nowhere (c .entries)) place) cs
 
-    of-none : (seen : Bool) (place : Place) (cs : List Column) → All (λ (c : Column). Asked-column c → ⊥) cs → placeOf seen place cs ≡ place
+    of-none : (seen : Bool) (place : Place) (cs : List ListedColumn) → All (λ (c : ListedColumn). Asked-column c → ⊥) cs → placeOf seen place cs ≡ place
     unfolding placeOf afterColumn
     of-none seen place [] h = refl
     of-none seen place (c ∷ cs) h = simp (other-name column (c .name) (h .0), or-false) (of-none seen place cs (h .1))
 
-    of-parts : (before : List Column) (c : Column) (after : List Column) → Asked-column c → All (λ (c : Column). Asked-column c → ⊥) before
-        → All (λ (c : Column). Asked-column c → ⊥) after → placeOf false Nowhere (before ++ (c ∷ after)) ≡ placeIn Nowhere (c .entries)
+    of-parts : (before : List ListedColumn) (c : ListedColumn) (after : List ListedColumn) → Asked-column c → All (λ (c : ListedColumn). Asked-column c → ⊥) before
+        → All (λ (c : ListedColumn). Asked-column c → ⊥) after → placeOf false Nowhere (before ++ (c ∷ after)) ≡ placeIn Nowhere (c .entries)
     unfolding placeOf afterColumn
     of-parts [] c after n b a =
         ap (λ (t : Bool). placeOf (false || t) (afterColumn t false (placeIn Nowhere (c .entries)) Nowhere) after) (named-same column (c .name) n)
@@ -140,10 +141,10 @@ module _ (kind : List ℕ) where
         ap (λ (t : Bool). placeOf (false || t) (afterColumn t false (placeIn Nowhere (x .entries)) Nowhere) (before ++ (c ∷ after))) (other-name column (x .name) (b .0))
         ∙ of-parts before c after n (b .1) a
 
-    pub of-once : {c : Column} {cs : List Column} → Once Asked-column c cs → placeOf false Nowhere cs ≡ placeIn Nowhere (c .entries)
+    pub of-once : {c : ListedColumn} {cs : List ListedColumn} → Once Asked-column c cs → placeOf false Nowhere cs ≡ placeIn Nowhere (c .entries)
     of-once {c} {cs} o = rw (o .parts) (of-parts (o .before) c (o .after) (o .holds) (o .none-before) (o .none-after))
 
-    of-repeated : (cs : List Column) → placeOf true Repeated cs ≡ Repeated
+    of-repeated : (cs : List ListedColumn) → placeOf true Repeated cs ≡ Repeated
     unfolding placeOf afterColumn
     of-repeated [] = refl
     of-repeated (c ∷ cs) = ap (λ (p : Place). placeOf true p cs) (stays (same column (c .name))) ∙ of-repeated cs
@@ -152,50 +153,50 @@ module _ (kind : List ℕ) where
         stays true = refl
         stays false = refl
 
-    of-seen : (new : Place) (cs : List Column) {place : Place} → (place ≡ Repeated → ⊥) → placeOf true new cs ≡ place
-        → All (λ (c : Column). Asked-column c → ⊥) cs × (new ≡ place)
+    of-seen : (new : Place) (cs : List ListedColumn) {place : Place} → (place ≡ Repeated → ⊥) → placeOf true new cs ≡ place
+        → All (λ (c : ListedColumn). Asked-column c → ⊥) cs × (new ≡ place)
     unfolding placeOf afterColumn
     of-seen new [] n h = (tt, h)
     of-seen new (c ∷ cs) {place} n h = go (same column (c .name)) refl h (of-seen new cs n)
       where
         go : (b : Bool) → same column (c .name) ≡ b → placeOf true (afterColumn b true (placeIn Nowhere (c .entries)) new) cs ≡ place
-            → (placeOf true new cs ≡ place → All (λ (c : Column). Asked-column c → ⊥) cs × (new ≡ place))
-            → All (λ (c : Column). Asked-column c → ⊥) (c ∷ cs) × (new ≡ place)
+            → (placeOf true new cs ≡ place → All (λ (c : ListedColumn). Asked-column c → ⊥) cs × (new ≡ place))
+            → All (λ (c : ListedColumn). Asked-column c → ⊥) (c ∷ cs) × (new ≡ place)
         go true q h ih = absurd (n (sym h ∙ of-repeated cs))
         go false q h ih = let r = ih h in ((not-named column (c .name) q, r .0), r .1)
 
     -- a place that is no repetition is that of no column, or of the one that is asked for
-    pub of-back : (cs : List Column) {place : Place} → (place ≡ Repeated → ⊥) → placeOf false Nowhere cs ≡ place
-        → (All (λ (c : Column). Asked-column c → ⊥) cs × (Nowhere ≡ place)) ⊎ ((c : Column) × Once Asked-column c cs × (placeIn Nowhere (c .entries) ≡ place))
+    pub of-back : (cs : List ListedColumn) {place : Place} → (place ≡ Repeated → ⊥) → placeOf false Nowhere cs ≡ place
+        → (All (λ (c : ListedColumn). Asked-column c → ⊥) cs × (Nowhere ≡ place)) ⊎ ((c : ListedColumn) × Once Asked-column c cs × (placeIn Nowhere (c .entries) ≡ place))
     unfolding placeOf afterColumn
     of-back [] n h = inl (tt, h)
     of-back (c ∷ cs) {place} n h = go (same column (c .name)) refl h (of-back cs n)
       where
         go : (b : Bool) → same column (c .name) ≡ b → placeOf (false || b) (afterColumn b false (placeIn Nowhere (c .entries)) Nowhere) cs ≡ place
-            → (placeOf false Nowhere cs ≡ place → (All (λ (c : Column). Asked-column c → ⊥) cs × (Nowhere ≡ place)) ⊎ ((c : Column) × Once Asked-column c cs × (placeIn Nowhere (c .entries) ≡ place)))
-            → (All (λ (c : Column). Asked-column c → ⊥) (c ∷ cs) × (Nowhere ≡ place)) ⊎ ((x : Column) × Once Asked-column x (c ∷ cs) × (placeIn Nowhere (x .entries) ≡ place))
+            → (placeOf false Nowhere cs ≡ place → (All (λ (c : ListedColumn). Asked-column c → ⊥) cs × (Nowhere ≡ place)) ⊎ ((c : ListedColumn) × Once Asked-column c cs × (placeIn Nowhere (c .entries) ≡ place)))
+            → (All (λ (c : ListedColumn). Asked-column c → ⊥) (c ∷ cs) × (Nowhere ≡ place)) ⊎ ((x : ListedColumn) × Once Asked-column x (c ∷ cs) × (placeIn Nowhere (x .entries) ≡ place))
         go true q h ih = let r = of-seen (placeIn Nowhere (c .entries)) cs n h in inr (c, once-first (same-named column (c .name) q) (r .0), r .1)
         go false q h ih =
             let o = not-named column (c .name) q in
             ⊎-elim (λ r. inl ((o, r .0), r .1)) (λ r. inr (r .0, once-later o (r .1), r .2)) (ih h)
 
     -- the place is one: so the asked column stands once, and in it the asked kind
-    pub found-back : (cs : List Column) (start size : ℕ) → placeOf false Nowhere cs ≡ At start size
-        → (c : Column) × (e : Entry) × Once Asked-column c cs × Once Asked-entry e (c .entries) × (e .start ≡ start) × (e .length ≡ size)
+    pub found-back : (cs : List ListedColumn) (start : Position) (size : ℕ) → placeOf false Nowhere cs ≡ At start size
+        → (c : ListedColumn) × (e : ListedIndex) × Once Asked-column c cs × Once Asked-entry e (c .entries) × (position (e .start) ≡ start) × (e .length ≡ size)
     found-back cs start size h =
         let n : At start size ≡ Repeated → ⊥ = λ e. never (cc) in
         ⊎-elim (λ r. let q : Nowhere ≡ At start size = r .1 in never (cc))
-        (λ r. ⊎-elim (λ s. let q : Nowhere ≡ At start size = s .1 in never (cc)) (λ s. let q : At (s .0 .start) (s .0 .length) ≡ At start size = s .2 in (r .0, s .0, r .1, s .1, cc, cc)) (in-back (r .0 .entries) n (r .2)))
+        (λ r. ⊎-elim (λ s. let q : Nowhere ≡ At start size = s .1 in never (cc)) (λ s. let q : At (position (s .0 .start)) (s .0 .length) ≡ At start size = s .2 in (r .0, s .0, r .1, s .1, cc, cc)) (in-back (r .0 .entries) n (r .2)))
         (of-back cs n h)
 
     -- there is none: so the asked column is not there, or the asked kind not in it
-    pub absent-back : (cs : List Column) → placeOf false Nowhere cs ≡ Nowhere → Unlisted column kind cs
+    pub absent-back : (cs : List ListedColumn) → placeOf false Nowhere cs ≡ Nowhere → Unlisted column kind cs
     absent-back cs h =
         let n : Nowhere ≡ Repeated → ⊥ = λ e. never (cc) in
         ⊎-elim (λ r. no-column (r .0))
-        (λ r. ⊎-elim (λ s. no-kind (r .1) (s .0)) (λ s. let q : At (s .0 .start) (s .0 .length) ≡ Nowhere = s .2 in never (cc)) (in-back (r .0 .entries) n (r .2)))
+        (λ r. ⊎-elim (λ s. no-kind (r .1) (s .0)) (λ s. let q : At (position (s .0 .start)) (s .0 .length) ≡ Nowhere = s .2 in never (cc)) (in-back (r .0 .entries) n (r .2)))
         (of-back cs n h)
 
-    pub of-unlisted : {cs : List Column} → Unlisted column kind cs → placeOf false Nowhere cs ≡ Nowhere
+    pub of-unlisted : {cs : List ListedColumn} → Unlisted column kind cs → placeOf false Nowhere cs ≡ Nowhere
     of-unlisted {cs} (no-column none) = of-none false Nowhere cs none
     of-unlisted (no-kind {asked} o none) = of-once o ∙ in-none Nowhere (asked .entries) none

@@ -1,56 +1,53 @@
--- 01, "Locate" and "Index file head": what is answered for any bytes. A cursor `s` is what is left of the head's bytes, so that a field that passes the head
+-- 01, "Index file head": what Locate finds in one buffer, for any bytes. A cursor `s` is what is left of the head's bytes, so that a field that passes the head
 -- finds too few; for magic, version and head length it is what is left of the file. `k` is what follows of what was read.
 use Prim.Native.Nat.{ℕ, zero, suc, _+_}
 use mathlib.Core.Bool.{Bool, true, false, _||_}
-use mathlib.Core.List.{List, [], _∷_}
-use mathlib.Core.Path.{_≡_}
+use mathlib.Core.List.{List}
 use lib.ListN.{length, take, drop}
 use lib.Dec.{leb, ltb, eqb}
-use Rattle.numbers.specs.Meaning.{same, number, big}
+use Rattle.numbers.specs.Meaning.{same, number, big, signBit}
 use Rattle.numbers.specs.declared.Position.{Position}
 use Rattle.refusal.specs.Meaning.{numberOf, limit}
+use Rattle.refusal.specs.declared.Refusal.{Refusal}
 use Rattle.refusal.specs.declared.Refusal.the-variants.{Short, Magic, Version, Head, Limit}
+use Rattle.refusal.specs.Reading.{Out, refuse, ok, check, numbersOf}
 use Rattle.index_file.specs.declared.Located.{Located}
 use Rattle.index_file.specs.declared.Located.the-variants.{Found, Absent, Refused}
 use Rattle.index_file.specs.declared.Place.{Place}
 use Rattle.index_file.specs.declared.Place.the-variants.{Nowhere, At, Repeated}
+use Rattle.index_file.specs.Layout.{magic, fileVersion, frontSize, leastHead}
 
 -- ---- fields
 
--- the answer r where the test holds, else the refusal
-unfoldable pub need : Bool → Located → Located → Located
-need true refusal r = r
-need false refusal r = refusal
-
--- "HEAD: index file head breaks a rule below", whichever it is
-abbrev pub broken : Located
-broken = Refused Head
-
--- four bytes; "a negative number" is broken: head length, column number, index number, redundant length
-unfoldable pub count : List ℕ → (ℕ → List ℕ → Located) → Located
-count s k = number big 4 broken s (λ v s. need (ltb v 2147483648) broken (k v s))
+-- four bytes; "a negative number" is HEAD: head length, column number, index number, redundant length
+unfoldable pub count : {A : Type 0} → List ℕ → (ℕ → List ℕ → Out Refusal A) → Out Refusal A
+count s k = number big 4 (refuse Head) s (λ v s. check (ltb v signBit) Head (k v s))
 
 -- "A name is 2 bytes of unsigned length and its bytes"
-unfoldable pub name : List ℕ → (List ℕ → List ℕ → Located) → Located
-name s k = number big 2 broken s (λ n s. need (leb n (length s)) broken (k (take n s) (drop n s)))
+unfoldable pub name : {A : Type 0} → List ℕ → (List ℕ → List ℕ → Out Refusal A) → Out Refusal A
+name s k = number big 2 (refuse Head) s (λ n s. check (leb n (length s)) Head (k (take n s) (drop n s)))
 
 -- ---- the columns
+
+-- a byte position, as a kind of its own
+abbrev pub position : ℕ → Position
+position p = record { 0 = p }
 
 -- A stored name is the asked one where `same` says so: "Names are compared byte for byte".
 
 -- where the asked kind stands, after one more entry of the column, whose name is the asked one or not: "the asked kind twice in it"
-unfoldable pub afterEntry : Bool → ℕ → ℕ → Place → Place
+unfoldable pub afterEntry : Bool → Position → ℕ → Place → Place
 afterEntry false start size place = place
 afterEntry true start size Nowhere = At start size
 afterEntry true start size (At start′ size′) = Repeated
 afterEntry true start size Repeated = Repeated
 
 -- m entries of one column: name, start, length
-unfoldable pub entries : List ℕ → ℕ → Place → List ℕ → (Place → List ℕ → Located) → Located
+unfoldable pub entries : {A : Type 0} → List ℕ → ℕ → Place → List ℕ → (Place → List ℕ → Out Refusal A) → Out Refusal A
 entries kind zero place s k = k place s
 entries kind (suc m) place s k =
-    name s (λ stored s. number big 4 broken s (λ start s. number big 4 broken s (λ size s.
-    entries kind m (afterEntry (same kind stored) start size place) s k)))
+    name s (λ stored s. number big 4 (refuse Head) s (λ start s. number big 4 (refuse Head) s (λ size s.
+    entries kind m (afterEntry (same kind stored) (position start) size place) s k)))
 
 -- where the asked kind stands, after one more column, whose name is the asked one or not, and which lists the asked kind at `new`; `seen`: whether one before it had the name.
 -- "the asked column name twice" is a repetition, whatever the two list
@@ -60,7 +57,7 @@ afterColumn true false new place = new
 afterColumn true true new place = Repeated
 
 -- n columns: name, index number, entries
-unfoldable pub columns : List ℕ → List ℕ → ℕ → Bool → Place → List ℕ → (Place → List ℕ → Located) → Located
+unfoldable pub columns : {A : Type 0} → List ℕ → List ℕ → ℕ → Bool → Place → List ℕ → (Place → List ℕ → Out Refusal A) → Out Refusal A
 columns column kind zero seen place s k = k place s
 columns column kind (suc n) seen place s k =
     name s (λ stored s. count s (λ m s. entries kind m Nowhere s (λ new s.
@@ -68,77 +65,74 @@ columns column kind (suc n) seen place s k =
 
 -- ---- the file
 
--- a byte position, as a kind of its own
-abbrev pub position : ℕ → Position
-position p = record { 0 = p }
+-- where a body lies: from a position of the buffer on, so many bytes
+pub record Part : Type 0 where
+  pub start : Position
+  pub length : ℕ
+
+-- what is sought is found, or "Column or kind not listed: ABSENT"
+pub data Sought (A : Type 0) : Type 0 where
+  found : A → Sought A
+  absent : Sought A
 
 -- what is answered of the place in a head and a file so long: "the asked start below the head length, a negative length, or an end past the file".
 -- A start with its top bit set is negative, and so below.
-unfoldable pub placed : ℕ → ℕ → Place → Located
-placed headLength fileLength Nowhere = Absent
+unfoldable pub placed : ℕ → ℕ → Place → Out Refusal (Sought Part)
+placed headLength fileLength Nowhere = ok absent
 placed headLength fileLength (At start size) =
-    need (ltb start 2147483648) broken (need (leb headLength start) broken
-    (need (ltb size 2147483648) broken (need (leb (start + size) fileLength) broken (Found (position start) size))))
-placed headLength fileLength Repeated = broken
+    check (ltb (start .0) signBit) Head (check (leb headLength (start .0)) Head
+    (check (ltb size signBit) Head (check (leb (start .0 + size) fileLength) Head (ok (found (record { start = start; length = size }))))))
+placed headLength fileLength Repeated = refuse Head
 
--- the head from the column number on: "redundant bytes not ending exactly at the head length" is broken
-unfoldable pub head : List ℕ → List ℕ → ℕ → ℕ → List ℕ → Located
+-- the head from the column number on: "redundant bytes not ending exactly at the head length" is HEAD
+unfoldable pub head : List ℕ → List ℕ → ℕ → ℕ → List ℕ → Out Refusal (Sought Part)
 head column kind headLength fileLength s =
     count s (λ n s. columns column kind n false Nowhere s (λ place s. count s (λ redundant s.
-    need (eqb redundant (length s)) broken (placed headLength fileLength place))))
+    check (eqb redundant (length s)) Head (placed headLength fileLength place))))
 
 -- "fewer than 16 bytes is SHORT; MAGIC; VERSION; then HEAD for: a head length below 24 or past the file; a field passing the head; a negative number"
-unfoldable pub file : List ℕ → List ℕ → List ℕ → Located
+unfoldable pub file : List ℕ → List ℕ → List ℕ → Out Refusal (Sought Part)
 file column kind bytes =
-    need (leb 16 (length bytes)) (Refused Short) (number big 8 (Refused Short) bytes (λ magic s.
-    need (eqb magic 1493475289347502) (Refused Magic) (number big 4 (Refused Short) s (λ version s.
-    need (eqb version 1) (Refused Version) (count s (λ headLength s.
-    need (leb 24 headLength) broken (need (leb headLength (length bytes)) broken
-    (head column kind headLength (length bytes) (drop 16 (take headLength bytes))))))))))
+    check (leb frontSize (length bytes)) Short (number big 8 (refuse Short) bytes (λ stored s.
+    check (eqb stored magic) Magic (number big 4 (refuse Short) s (λ version s.
+    check (eqb version fileVersion) Version (count s (λ headLength s.
+    check (leb leastHead headLength) Head (check (leb headLength (length bytes)) Head
+    (head column kind headLength (length bytes) (drop frontSize (take headLength bytes))))))))))
 
 -- "An input buffer (asked names too, row fields not) that is too long is LIMIT before anything else"
-unfoldable pub find : List ℕ → List ℕ → List ℕ → Located
+unfoldable pub find : List ℕ → List ℕ → List ℕ → Out Refusal (Sought Part)
 find bytes column kind =
-    need (leb (length bytes) limit) (Refused Limit) (need (leb (length column) limit) (Refused Limit)
-    (need (leb (length kind) limit) (Refused Limit) (file column kind bytes)))
+    check (leb (length bytes) limit) Limit (check (leb (length column) limit) Limit
+    (check (leb (length kind) limit) Limit (file column kind bytes)))
 
--- ---- Locate
+-- the bytes of a part
+abbrev pub bytesOf : Part → List ℕ → List ℕ
+bytesOf p bytes = take (p .length) (drop (p .start .0) bytes)
 
--- "If the embedded buffer isn't empty it is used and the other isn't looked at; else the file is used": the first of two things
--- where the embedded buffer isn't empty, else the second
-unfoldable pub used : {A : Type 0} → List ℕ → A → A → A
-used [] ofEmbedded ofFile = ofFile
-used (b ∷ embedded) ofEmbedded ofFile = ofEmbedded
+-- ---- the answer, and its numbers
 
--- the bytes that are looked at
-abbrev pub lookedAt : List ℕ → List ℕ → List ℕ
-lookedAt embedded file = used embedded embedded file
+unfoldable pub locatedBy : Out Refusal (Sought Part) → Located
+locatedBy (refuse r) = Refused r
+locatedBy (ok absent) = Absent
+locatedBy (ok (found p)) = Found (p .start) (p .length)
 
-abbrev pub located : List ℕ → List ℕ → List ℕ → List ℕ → Located
-located embedded file column kind = find (lookedAt embedded file) column kind
+-- the refusals' numbers are 01's, which gives the other two answers none: they are chosen here
+abbrev pub foundNumber : ℕ
+foundNumber = 0
 
--- the number of each answer. The refusals' are 01's, which gives the other two none: 0 for found and 255 for ABSENT are chosen here
-abbrev pub answerOf : Located → ℕ
-answerOf (Found start size) = 0
-answerOf Absent = 255
-answerOf (Refused r) = numberOf r
+abbrev pub absentNumber : ℕ
+absentNumber = 255
 
--- the number, and start and length of the body in the buffer that was looked at, 0 with the other answers
-unfoldable pub locateOut : Located → ℕ × ℕ × ℕ
-locateOut (Found start size) = (0, start .0, size)
-locateOut Absent = (255, 0, 0)
-locateOut (Refused r) = (numberOf r, 0, 0)
+-- the number, and start and length of the body in the buffer, 0 with the other answers
+unfoldable pub locateOut : Located → ℕ × (ℕ × ℕ)
+locateOut (Found start size) = (foundNumber, (start .0, size))
+locateOut Absent = (absentNumber, (0, 0))
+locateOut (Refused r) = (numberOf r, (0, 0))
 
--- the part of the buffer that is handed back: "With the other answers, ABSENT and a refusal, the part is empty"
-abbrev pub partOf : Located → List ℕ → List ℕ
-partOf (Found start size) bytes = take size (drop (start .0) bytes)
-partOf Absent bytes = []
-partOf (Refused r) bytes = []
+-- the same of the reading
+unfoldable pub soughtNumbers : Sought Part → ℕ × (ℕ × ℕ)
+soughtNumbers (found p) = (foundNumber, (p .start .0, p .length))
+soughtNumbers absent = (absentNumber, (0, 0))
 
--- "The body found is handed back as a part of the buffer it lies in .., not a copy": where the part stands in memory, from the buffer's place on. A place is
--- a pair, of an allocation and an offset in it.
--- With the other answers it has no bytes, and its place is left open
-abbrev pub HandedBack : Located → ℕ × ℕ → ℕ × ℕ → Type 0
-HandedBack (Found start size) buffer part = part ≡ (buffer .0, start .0 + buffer .1)
-HandedBack Absent buffer part = Unit {0}
-HandedBack (Refused r) buffer part = Unit {0}
+abbrev pub locateNumbers : Out Refusal (Sought Part) → ℕ × (ℕ × ℕ)
+locateNumbers o = numbersOf (0, 0) soughtNumbers o

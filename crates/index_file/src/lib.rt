@@ -1,17 +1,28 @@
-// Document 01's Locate within one buffer. Which of two is looked at is chosen where there are two: `file_to_answers::locate` and the C interface.
+// The head of an index file (document 01): where in the file the asked index of the asked column lies. Which of two buffers is looked at is chosen above.
 ghost use mathlib.Core.Path.{_≡_};
 ghost use mathlib.Core.Bool.{false};
 ghost use Prim.Native.Nat.{_≤_};
 ghost use lib.ListN.{length, drop};
 ghost use Rattle.numbers.specs.Meaning.{same};
-ghost use Rattle.index_file.specs.Reading.{afterEntry, afterColumn, entries, columns, placed, head, file, find, answerOf, locateOut, partOf, HandedBack};
-ghost use Rattle.index_file.specs.Promises.{named, counted, walked};
+ghost use Rattle.index_file.specs.Layout.{frontSize};
+ghost use Rattle.index_file.specs.Reading.{afterEntry, afterColumn, entries, columns, placed, head, file, locatedBy};
+ghost use Rattle.index_file.specs.Promises.{nameAt, countAt, walkAt, FindPromise};
 use numbers::Position;
 use refusal::Refusal;
 
-const LIMIT: usize = 2147483647;
+const MAGIC: u64 = 1_493_475_289_347_502;
 
-const MAGIC: u64 = 1493475289347502;
+const VERSION: u64 = 1;
+
+// The bytes of magic, version and head length, which stand in front, and the least head.
+const FRONT_SIZE: usize = 16;
+
+const LEAST_HEAD: usize = 24;
+
+// The numbers of Locate's answers that are no refusals.
+pub const FOUND: u8 = 0;
+
+pub const ABSENT: u8 = 255;
 
 // Where the body is, ABSENT for a column or a kind that is not listed, or a refusal.
 pub enum Located {
@@ -23,14 +34,14 @@ pub enum Located {
 // Where the asked kind stands, as far as the head was read: in no entry, in one; or it, or the asked column, is there twice.
 enum Place {
     Nowhere,
-    At { start: usize, length: usize },
+    At { start: Position, length: usize },
     Repeated,
 }
 
 // A name: its bytes are not all there, or where they end.
 enum Name {
     Broken,
-    Ends(usize),
+    Ends(Position),
 }
 
 // A number of four bytes: they are not all there or negative, or what it is.
@@ -42,7 +53,7 @@ enum Count {
 // A walk over entries or columns: a field is broken, or where the walk ended and the place that it found.
 enum Walk {
     Broken,
-    Past { next: usize, place: Place },
+    Past { next: Position, place: Place },
 }
 
 // Whether the stored name is the asked one. Names are compared here and nowhere else.
@@ -53,7 +64,7 @@ fn same_name(asked: &[u8], stored: &[u8]) -> bool
 }
 
 // The place after one more entry.
-fn after_entry(hit: bool, start: usize, length: usize, place: Place) -> Place
+fn after_entry(hit: bool, start: Position, length: usize, place: Place) -> Place
     ensures { λ r. ⌜ r ≡ afterEntry hit start length place ⌝ }
 {
     if !hit {
@@ -83,141 +94,148 @@ fn after_column(hit: bool, seen: bool, new: Place, place: Place) -> Place
 }
 
 // The name at `at`.
-fn name_at(s: &[u8], at: usize) -> Name
-    requires { ⌜ at ≤ length (now s) ⌝ }
-    ensures { λ r. ⌜ named r at (now (s .entry)) ⌝ }
+fn name_at(s: &[u8], at: Position) -> Name
+    requires { ⌜ at .0 ≤ length (now s) ⌝ }
+    ensures { λ r. ⌜ nameAt r at (now (s .entry)) ⌝ }
 {
-    if s.len() - at < 2 {
+    let p = at.0;
+    if s.len() - p < 2 {
         return Name::Broken;
     }
-    let n = numbers::be16(s, Position(at)) as usize;
-    let from = at + 2;
+    let n = numbers::be16(s, Position(p)) as usize;
+    let from = p + 2;
     if s.len() - from < n {
         return Name::Broken;
     }
-    Name::Ends(from + n)
+    Name::Ends(Position(from + n))
 }
 
 // The number at `at`.
-fn count_at(s: &[u8], at: usize) -> Count
-    requires { ⌜ at ≤ length (now s) ⌝ }
-    ensures { λ r. ⌜ counted r at (now (s .entry)) ⌝ }
+fn count_at(s: &[u8], at: Position) -> Count
+    requires { ⌜ at .0 ≤ length (now s) ⌝ }
+    ensures { λ r. ⌜ countAt r at (now (s .entry)) ⌝ }
 {
-    if s.len() - at < 4 {
+    let p = at.0;
+    if s.len() - p < 4 {
         return Count::Broken;
     }
-    let v = numbers::be32(s, Position(at));
-    if 2147483648 <= v {
+    let v = numbers::be32(s, Position(p));
+    if numbers::SIGN_BIT <= v {
         return Count::Broken;
     }
     Count::Is(v)
 }
 
 // The n entries of one column, from `at` on.
-fn entries_at(s: &[u8], at: usize, n: u64, kind: &[u8]) -> Walk
-    requires { ⌜ at ≤ length (now s) ⌝ }
-    ensures { λ r. ⌜ walked r (now (s .entry)) (entries (now (kind .entry)) n Place.Nowhere (drop at (now (s .entry)))) ⌝ }
+fn entries_at(s: &[u8], at: Position, n: u64, kind: &[u8]) -> Walk
+    requires { ⌜ at .0 ≤ length (now s) ⌝ }
+    ensures { λ r. ⌜ walkAt r (now (s .entry)) (entries (now (kind .entry)) n Place.Nowhere (drop (at .0) (now (s .entry)))) ⌝ }
 {
     let mut place = Place::Nowhere;
-    let mut p = at;
+    let mut next = at;
     let mut i: u64 = 0;
     while i < n {
-        let f = name_at(s, p);
-        let Name::Ends(e) = f else {
+        let name = name_at(s, next);
+        let Name::Ends(end) = name else {
             return Walk::Broken;
         };
+        let e = end.0;
         if s.len() - e < 8 {
             return Walk::Broken;
         }
         let start = numbers::be32(s, Position(e)) as usize;
         let length = numbers::be32(s, Position(e + 4)) as usize;
-        let from = p + 2;
+        let from = next.0 + 2;
         let hit = same_name(kind, &s[from..e]);
-        place = after_entry(hit, start, length, place);
-        p = e + 8;
+        place = after_entry(hit, Position(start), length, place);
+        next = Position(e + 8);
         i = i + 1;
     }
-    Walk::Past { next: p, place }
+    Walk::Past { next, place }
 }
 
 // The n columns from `at` on.
-fn columns_at(s: &[u8], at: usize, n: u64, column: &[u8], kind: &[u8]) -> Walk
-    requires { ⌜ at ≤ length (now s) ⌝ }
-    ensures { λ r. ⌜ walked r (now (s .entry)) (columns (now (column .entry)) (now (kind .entry)) n false Place.Nowhere (drop at (now (s .entry)))) ⌝ }
+fn columns_at(s: &[u8], at: Position, n: u64, column: &[u8], kind: &[u8]) -> Walk
+    requires { ⌜ at .0 ≤ length (now s) ⌝ }
+    ensures { λ r. ⌜ walkAt r (now (s .entry)) (columns (now (column .entry)) (now (kind .entry)) n false Place.Nowhere (drop (at .0) (now (s .entry)))) ⌝ }
 {
     let mut place = Place::Nowhere;
     let mut seen = false;
-    let mut p = at;
+    let mut next = at;
     let mut i: u64 = 0;
     while i < n {
-        let f = name_at(s, p);
-        let Name::Ends(e) = f else {
+        let name = name_at(s, next);
+        let Name::Ends(end) = name else {
             return Walk::Broken;
         };
-        let g = count_at(s, e);
-        let Count::Is(m) = g else {
+        let count = count_at(s, end);
+        let Count::Is(m) = count else {
             return Walk::Broken;
         };
-        let from = p + 2;
+        let e = end.0;
+        let from = next.0 + 2;
         let hit = same_name(column, &s[from..e]);
-        let w = entries_at(s, e + 4, m, kind);
-        let Walk::Past { next, place: new } = w else {
+        let walk = entries_at(s, Position(e + 4), m, kind);
+        let Walk::Past {
+            next: past,
+            place: new,
+        } = walk
+        else {
             return Walk::Broken;
         };
         place = after_column(hit, seen, new, place);
         seen = seen | hit;
-        p = next;
+        next = past;
         i = i + 1;
     }
-    Walk::Past { next: p, place }
+    Walk::Past { next, place }
 }
 
 // What is answered of a place, in a head and a file so long.
-fn placed_at(place: Place, front: usize, total: usize) -> Located
-    ensures { λ r. ⌜ r ≡ placed front total place ⌝ }
+fn placed_at(place: Place, head: usize, total: usize) -> Located
+    ensures { λ r. ⌜ r ≡ locatedBy (placed head total place) ⌝ }
 {
     match place {
         Place::Nowhere => Located::Absent,
         Place::Repeated => Located::Refused(Refusal::Head),
         Place::At { start, length } => {
-            if 2147483648 <= start {
+            let s = start.0;
+            if numbers::SIGN_BIT <= s as u64 {
                 return Located::Refused(Refusal::Head);
             }
-            if start < front {
+            if s < head {
                 return Located::Refused(Refusal::Head);
             }
-            if 2147483648 <= length {
+            if numbers::SIGN_BIT <= length as u64 {
                 return Located::Refused(Refusal::Head);
             }
-            if total < start + length {
+            if total < s + length {
                 return Located::Refused(Refusal::Head);
             }
-            Located::Found {
-                start: Position(start),
-                length,
-            }
+            Located::Found { start, length }
         }
     }
 }
 
 // The whole head, of which the column number is the next field.
 fn read_head(s: &[u8], column: &[u8], kind: &[u8], total: usize) -> Located
-    requires { ⌜ 16 ≤ length (now s) ⌝ }
-    ensures { λ r. ⌜ r ≡ head (now (column .entry)) (now (kind .entry)) (length (now (s .entry))) total (drop 16 (now (s .entry))) ⌝ }
+    requires { ⌜ frontSize ≤ length (now s) ⌝ }
+    ensures { λ r. ⌜ r ≡ locatedBy (head (now (column .entry)) (now (kind .entry)) (length (now (s .entry))) total (drop frontSize (now (s .entry)))) ⌝ }
 {
-    let f = count_at(s, 16);
-    let Count::Is(n) = f else {
+    let number = count_at(s, Position(FRONT_SIZE));
+    let Count::Is(n) = number else {
         return Located::Refused(Refusal::Head);
     };
-    let w = columns_at(s, 20, n, column, kind);
-    let Walk::Past { next, place } = w else {
+    let walk = columns_at(s, Position(FRONT_SIZE + 4), n, column, kind);
+    let Walk::Past { next, place } = walk else {
         return Located::Refused(Refusal::Head);
     };
-    let g = count_at(s, next);
-    let Count::Is(redundant) = g else {
+    let count = count_at(s, next);
+    let Count::Is(redundant) = count else {
         return Located::Refused(Refusal::Head);
     };
-    if redundant as usize != s.len() - (next + 4) {
+    let p = next.0;
+    if redundant as usize != s.len() - (p + 4) {
         return Located::Refused(Refusal::Head);
     }
     placed_at(place, s.len(), total)
@@ -225,9 +243,9 @@ fn read_head(s: &[u8], column: &[u8], kind: &[u8], total: usize) -> Located
 
 // The file, whose length and whose asked names are within the limit.
 fn read_file(bytes: &[u8], column: &[u8], kind: &[u8]) -> Located
-    ensures { λ r. ⌜ r ≡ file (now (column .entry)) (now (kind .entry)) (now (bytes .entry)) ⌝ }
+    ensures { λ r. ⌜ r ≡ locatedBy (file (now (column .entry)) (now (kind .entry)) (now (bytes .entry))) ⌝ }
 {
-    if bytes.len() < 16 {
+    if bytes.len() < FRONT_SIZE {
         return Located::Refused(Refusal::Short);
     }
     let magic = numbers::be64(bytes, Position(0));
@@ -235,15 +253,15 @@ fn read_file(bytes: &[u8], column: &[u8], kind: &[u8]) -> Located
     if magic != MAGIC {
         return Located::Refused(Refusal::Magic);
     }
-    if version != 1 {
+    if version != VERSION {
         return Located::Refused(Refusal::Version);
     }
-    let f = count_at(bytes, 12);
-    let Count::Is(v) = f else {
+    let count = count_at(bytes, Position(12));
+    let Count::Is(v) = count else {
         return Located::Refused(Refusal::Head);
     };
     let n = v as usize;
-    if n < 24 {
+    if n < LEAST_HEAD {
         return Located::Refused(Refusal::Head);
     }
     if bytes.len() < n {
@@ -254,42 +272,16 @@ fn read_file(bytes: &[u8], column: &[u8], kind: &[u8]) -> Located
 
 // Where the body of the asked kind of the asked column lies in an index file.
 pub fn find(bytes: &[u8], column: &[u8], kind: &[u8]) -> Located
-    ensures { λ r. ⌜ (r ≡ find (now (bytes .entry)) (now (column .entry)) (now (kind .entry)))
-        × (locateOut r ≡ locateOut (find (now (bytes .entry)) (now (column .entry)) (now (kind .entry)))) ⌝ }
+    ensures { λ r. ⌜ FindPromise (now (bytes .entry)) (now (column .entry)) (now (kind .entry)) r ⌝ }
 {
-    if LIMIT < bytes.len() {
+    if refusal::LIMIT < bytes.len() as u64 {
         return Located::Refused(Refusal::Limit);
     }
-    if LIMIT < column.len() {
+    if refusal::LIMIT < column.len() as u64 {
         return Located::Refused(Refusal::Limit);
     }
-    if LIMIT < kind.len() {
+    if refusal::LIMIT < kind.len() as u64 {
         return Located::Refused(Refusal::Limit);
     }
     read_file(bytes, column, kind)
-}
-
-// The part that `find` finds, with the bytes' lifetime, and through `answer` 0 for found, 255 for ABSENT, or the refusal's number.
-pub fn part_of<'a>(bytes: &'a [u8], column: &[u8], kind: &[u8], answer: &mut u8) -> &'a [u8]
-    ensures { λ r. ⌜ (now (answer .exit) ≡ answerOf (find (now (bytes .entry)) (now (column .entry)) (now (kind .entry))))
-        × (now r ≡ partOf (find (now (bytes .entry)) (now (column .entry)) (now (kind .entry))) (now (bytes .entry)))
-        × HandedBack (find (now (bytes .entry)) (now (column .entry)) (now (kind .entry))) (bytes .entry .ptr) (r .ptr) ⌝ }
-{
-    let found = find(bytes, column, kind);
-    match found {
-        Located::Found { start, length } => {
-            *answer = 0;
-            let from = start.0;
-            let end = from + length;
-            &bytes[from..end]
-        }
-        Located::Absent => {
-            *answer = 255;
-            &bytes[0..0]
-        }
-        Located::Refused(r) => {
-            *answer = refusal::number(r);
-            &bytes[0..0]
-        }
-    }
 }

@@ -1,8 +1,8 @@
--- Parts of bytes are bytes, and so are bytes one after another.
+-- Parts of bytes are bytes, and so are bytes one after another, and bytes with one replaced.
 use Prim.Native.Nat.{ℕ, zero, suc, _+_, _/_, _%_, _<_}
 use mathlib.Core.List.{List, [], _∷_, _++_}
 use native.Mathlib.Omega.{arith}
-use lib.ListN.{take, drop, getD}
+use lib.ListN.{take, drop, set}
 use lib.Seq.{getD-drop}
 use Rattle.numbers.specs.Meaning.{Bytes, be, le}
 
@@ -26,6 +26,13 @@ pub bytes-append : (x y : List ℕ) → Bytes x → Bytes y → Bytes (x ++ y)
 bytes-append [] y b c i = c i
 bytes-append (a ∷ x) y b c zero = b 0
 bytes-append (a ∷ x) y b c (suc i) = bytes-append x y (λ j. b (suc j)) c i
+
+pub bytes-set : (s : List ℕ) (i v : ℕ) → Bytes s → v < 256 → Bytes (set s i v)
+bytes-set [] i v b h j = b j
+bytes-set (x ∷ s) zero v b h zero = h
+bytes-set (x ∷ s) zero v b h (suc j) = b (suc j)
+bytes-set (x ∷ s) (suc i) v b h zero = b 0
+bytes-set (x ∷ s) (suc i) v b h (suc j) = bytes-set s i v (λ k. b (suc k)) h j
 
 pub bytes-be : (w v : ℕ) → Bytes (be w v)
 bytes-be zero v = bytes-nil

@@ -1,2 +1,2 @@
--- What the contracts of `numbers` cite, and laws about it.
+-- What numbers of several bytes mean.
 pub mod Meaning

@@ -1,6 +1,6 @@
 // Integers of 1, 2, 4 and 8 bytes at a position of a slice, in both byte orders; and whether bytes are the same.
 ghost use mathlib.Core.Path.{_≡_};
-ghost use Prim.Native.Nat.{ℕ, _+_, _<_, _≤_};
+ghost use Prim.Native.Nat.{_+_, _<_, _≤_};
 ghost use lib.ListN.{length, getD};
 ghost use Rattle.numbers.specs.Meaning.{beAt, leAt, signed32};
 ghost use Rattle.numbers.specs.Meaning as meaning;
@@ -95,10 +95,10 @@ pub fn be64(s: &[u8], at: Position) -> u64
 pub fn to_signed(x: u32) -> i32
     ensures { λ r. ⌜ r ≡ signed32 x ⌝ }
 {
-    if x < 2147483648 {
+    if x < SIGN_BIT as u32 {
         x as i32
     } else {
-        -1 - ((4294967295 - x) as i32)
+        -1 - ((MINUS_ONE as u32 - x) as i32)
     }
 }
 

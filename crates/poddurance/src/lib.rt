@@ -1,16 +1,18 @@
 // The C interface (include/poddurance.h). Each function answers a number, 0 for accepted, 255 for Locate's ABSENT and else the refusal's number in
 // document 01, and writes counts through pointers; with ABSENT and a refusal the counts are 0.
 ghost use mathlib.Core.Path.{_≡_};
-ghost use Rattle.row_field.specs.Reading.{subtraction, fieldAfter, subtractOut};
-ghost use Rattle.deletion_file.specs.Reading.{outcome, answerOf, fieldThen, deletionsOut};
-ghost use Rattle.index_file.specs.Reading.{located, locateOut};
-ghost use Rattle.bitmap_index.specs.Reading.{auditBuffer, askBuffer, auditedBy, auditOut, answeredBy, askOut};
-ghost use Rattle.bitmap_index.specs.Reading as index;
+ghost use Rattle.bitmap_index.specs.Reading.{askOut};
+ghost use Rattle.file_to_answers.specs.Reading.{lookedAt};
+ghost use Rattle.file_to_answers.specs.Promises.{FileAsScan};
+ghost use Rattle.poddurance.specs.Promises.{ReadDeletions, Subtract, Locate, Audit, Ask, AskFile};
 use bitmap_index::Answered;
 use bitmap_index::Audited;
 use deletion_file::Deletions;
+use file_to_answers::FileAnswer;
 use index_file::Located;
-use row_field::Subtracted;
+use subtract::Subtracted;
+
+const ACCEPTED: u8 = 0;
 
 #[no_mangle]
 pub extern "C" fn poddurance_read_deletions(
@@ -20,9 +22,7 @@ pub extern "C" fn poddurance_read_deletions(
     field: &mut [u8],
     deleted: &mut u64,
 ) -> u8
-    ensures { λ r. ⌜ (r ≡ deletionsOut (answerOf rows (outcome (now (file .entry)) bin rows (now (field .entry)))) .0)
-        × (now (deleted .exit) ≡ deletionsOut (answerOf rows (outcome (now (file .entry)) bin rows (now (field .entry)))) .1)
-        × (now (field .exit) ≡ fieldThen rows (now (field .entry)) (outcome (now (file .entry)) bin rows (now (field .entry)))) ⌝ }
+    ensures { λ r. ⌜ ReadDeletions (now (file .entry)) bin rows (now (field .entry)) (now (field .exit)) r (now (deleted .exit)) ⌝ }
 {
     let answer = deletion_file::read_deletions(file, bin, rows, field);
     match answer {
@@ -32,7 +32,7 @@ pub extern "C" fn poddurance_read_deletions(
         }
         Deletions::Deleted(n) => {
             *deleted = n;
-            0
+            ACCEPTED
         }
     }
 }
@@ -45,12 +45,9 @@ pub extern "C" fn poddurance_subtract(
     left: &mut u64,
     removed: &mut u64,
 ) -> u8
-    ensures { λ r. ⌜ (r ≡ subtractOut (subtraction rows (now (first .entry)) (now (second .entry))) .0)
-        × (now (left .exit) ≡ subtractOut (subtraction rows (now (first .entry)) (now (second .entry))) .1)
-        × (now (removed .exit) ≡ subtractOut (subtraction rows (now (first .entry)) (now (second .entry))) .2)
-        × (now (first .exit) ≡ fieldAfter (subtraction rows (now (first .entry)) (now (second .entry))) rows (now (first .entry)) (now (second .entry))) ⌝ }
+    ensures { λ r. ⌜ Subtract (now (second .entry)) rows (now (first .entry)) (now (first .exit)) r (now (left .exit)) (now (removed .exit)) ⌝ }
 {
-    let answer = row_field::subtract(first, second, rows);
+    let answer = subtract::subtract(first, second, rows);
     match answer {
         Subtracted::Refused(r) => {
             *left = 0;
@@ -63,35 +60,24 @@ pub extern "C" fn poddurance_subtract(
         } => {
             *left = l;
             *removed = m;
-            0
+            ACCEPTED
         }
     }
 }
 
-// The answer on the buffer that is looked at.
-fn find(embedded: &[u8], file: &[u8], column: &[u8], kind: &[u8]) -> Located
-    ensures { λ r. ⌜ r ≡ located (now (embedded .entry)) (now (file .entry)) (now (column .entry)) (now (kind .entry)) ⌝ }
-{
-    if embedded.len() != 0 {
-        return index_file::find(embedded, column, kind);
-    }
-    index_file::find(file, column, kind)
-}
-
 #[no_mangle]
-pub extern "C" fn poddurance_locate(
-    embedded: &[u8],
-    file: &[u8],
+pub extern "C" fn poddurance_locate<'a>(
+    embedded: &'a [u8],
+    file: &'a [u8],
     column: &[u8],
     kind: &[u8],
     start: &mut u64,
     length: &mut u64,
 ) -> u8
-    ensures { λ r. ⌜ (r ≡ locateOut (located (now (embedded .entry)) (now (file .entry)) (now (column .entry)) (now (kind .entry))) .0)
-        × (now (start .exit) ≡ locateOut (located (now (embedded .entry)) (now (file .entry)) (now (column .entry)) (now (kind .entry))) .1)
-        × (now (length .exit) ≡ locateOut (located (now (embedded .entry)) (now (file .entry)) (now (column .entry)) (now (kind .entry))) .2) ⌝ }
+    ensures { λ r. ⌜ Locate (lookedAt (now (embedded .entry)) (now (file .entry))) (now (column .entry)) (now (kind .entry))
+        r (now (start .exit)) (now (length .exit)) ⌝ }
 {
-    let answer = find(embedded, file, column, kind);
+    let answer = file_to_answers::find(embedded, file, column, kind);
     match answer {
         Located::Found {
             start: at,
@@ -99,12 +85,12 @@ pub extern "C" fn poddurance_locate(
         } => {
             *start = at.0 as u64;
             *length = size as u64;
-            0
+            index_file::FOUND
         }
         Located::Absent => {
             *start = 0;
             *length = 0;
-            255
+            index_file::ABSENT
         }
         Located::Refused(r) => {
             *start = 0;
@@ -116,9 +102,7 @@ pub extern "C" fn poddurance_locate(
 
 #[no_mangle]
 pub extern "C" fn poddurance_audit(body: &[u8], t: u32, field: &mut [u8], rows: &mut u64) -> u8
-    ensures { λ r. ⌜ (r ≡ auditOut (auditedBy (index.audit t (now (body .entry)) (now (field .entry)))) .0)
-        × (now (rows .exit) ≡ auditOut (auditedBy (index.audit t (now (body .entry)) (now (field .entry)))) .1)
-        × (now (field .exit) ≡ auditBuffer t (now (body .entry)) (now (field .entry))) ⌝ }
+    ensures { λ r. ⌜ Audit (now (body .entry)) t (now (field .entry)) (now (field .exit)) r (now (rows .exit)) ⌝ }
 {
     let answer = bitmap_index::audit(body, t, field);
     match answer {
@@ -128,7 +112,27 @@ pub extern "C" fn poddurance_audit(body: &[u8], t: u32, field: &mut [u8], rows: 
         }
         Audited::Rows(n) => {
             *rows = n;
-            0
+            ACCEPTED
+        }
+    }
+}
+
+// The number of an answer to a question, and through `matched` its count.
+fn answered(answer: Answered, matched: &mut u64) -> u8
+    ensures { λ r. ⌜ (r, now (matched .exit)) ≡ askOut answer ⌝ }
+{
+    match answer {
+        Answered::Refused(r) => {
+            *matched = 0;
+            refusal::number(r)
+        }
+        Answered::Skip => {
+            *matched = 0;
+            ACCEPTED
+        }
+        Answered::Keep(n) => {
+            *matched = n;
+            ACCEPTED
         }
     }
 }
@@ -142,23 +146,47 @@ pub extern "C" fn poddurance_ask(
     field: &mut [u8],
     matched: &mut u64,
 ) -> u8
-    ensures { λ r. ⌜ (r ≡ askOut (answeredBy (index.ask t question (now (literals .entry)) (now (body .entry)) (now (field .entry)))) .0)
-        × (now (matched .exit) ≡ askOut (answeredBy (index.ask t question (now (literals .entry)) (now (body .entry)) (now (field .entry)))) .1)
-        × (now (field .exit) ≡ askBuffer t question (now (literals .entry)) (now (body .entry)) (now (field .entry))) ⌝ }
+    ensures { λ r. ⌜ Ask (now (body .entry)) t question (now (literals .entry)) (now (field .entry)) (now (field .exit)) r (now (matched .exit)) ⌝ }
 {
-    let answer = bitmap_index::ask(body, t, question, literals, field);
+    answered(
+        bitmap_index::ask(body, t, question, literals, field),
+        matched,
+    )
+}
+
+// Locate, then Ask on the part that it finds. The second promise is demand 3: of a column's file the answer, the count and the field are those of the scan.
+#[no_mangle]
+pub extern "C" fn poddurance_ask_file<'a>(
+    embedded: &'a [u8],
+    file: &'a [u8],
+    column: &[u8],
+    kind: &[u8],
+    t: u32,
+    question: u32,
+    literals: &[u8],
+    field: &mut [u8],
+    matched: &mut u64,
+) -> u8
+    ensures any_bytes { λ r. ⌜ AskFile (lookedAt (now (embedded .entry)) (now (file .entry))) (now (column .entry)) (now (kind .entry))
+        t question (now (literals .entry)) (now (field .entry)) (now (field .exit)) r (now (matched .exit)) ⌝ }
+    ensures demand_3 { λ r. ⌜ FileAsScan (lookedAt (now (embedded .entry)) (now (file .entry))) (now (column .entry)) (now (kind .entry))
+        t question (now (literals .entry)) (now (field .entry)) (λ a. (r ≡ 0) × (now (matched .exit) ≡ a .matched) × (now (field .exit) ≡ a .buffer)) ⌝ }
+{
+    let answer = file_to_answers::ask_file(
+        embedded,
+        file,
+        column,
+        kind,
+        t,
+        question,
+        literals,
+        field,
+    );
     match answer {
-        Answered::Refused(r) => {
+        FileAnswer::Absent => {
             *matched = 0;
-            refusal::number(r)
+            index_file::ABSENT
         }
-        Answered::Skip => {
-            *matched = 0;
-            0
-        }
-        Answered::Keep(n) => {
-            *matched = n;
-            0
-        }
+        FileAnswer::Answered(a) => answered(a, matched),
     }
 }

@@ -13,9 +13,11 @@ use lib.Seq.{getD-set-same, set-set, set-getD}
 use lib.Pow.{shr-shr, pow-add, pow-lt}
 use lib.Bits.{bitOr, bitAnd, or-step, or-zero-l, or-zero-r, or-comm, or-shifted, and-step, and-zero-r}
 use borrow.Author.Tests.{eq-eqb, ne-eqb}
-use Rattle.row_field.specs.Meaning.{markAll, anySet, rowsFrom}
-use Rattle.row_field.specs.Promises.{anySeen, byteRows}
-use Rattle.row_field.proofs.Marks.{bit-at, mark-at, Rising, anySeen-rising, rising-cond, rowsFrom-rising, rowsFrom-append}
+use Rattle.row_field.specs.Meaning.{markAll, anySet, Rising, rowsFrom}
+use Rattle.row_field.specs.Promises.{byteRows, MarkedInTurn}
+use Rattle.row_field.proofs.Laws.{bit-at, mark-at}
+use Rattle.row_field.proofs.RowLists.{rising-cond, rowsFrom-rising, rowsFrom-append}
+use Rattle.row_field.proofs.Marks.{Past, anySeen-rising, rising-past}
 
 or-assoc-bits : (a b c : ℕ) → bitOr (bitOr a b) c ≡ bitOr a (bitOr b c)
 or-assoc-bits a = bin-ind (λ (a : ℕ). (b c : ℕ) → bitOr (bitOr a b) c ≡ bitOr a (bitOr b c)) base step a
@@ -50,11 +52,11 @@ pub byteRows-even : (x a k : ℕ) → x % 2 ≡ 0 → byteRows x a (suc k) ≡ b
 unfolding byteRows
 byteRows-even x a k h = rw h
 
-pub byteRows-rising : (x lo a k : ℕ) → lo ≤ a → Rising lo (byteRows x a k)
+pub byteRows-rising : (x lo hi a k : ℕ) → lo ≤ a → a + k ≤ hi → Rising lo hi (byteRows x a k)
 unfolding byteRows
-byteRows-rising x lo a zero h = tt
-byteRows-rising x lo a (suc k) h =
-    rising-cond (eqb (x % 2) 1) lo a (byteRows (x / 2) (a + 1) k) h (byteRows-rising (x / 2) (a + 1) (a + 1) k (omega arith)) (byteRows-rising (x / 2) lo (a + 1) k (omega arith))
+byteRows-rising x lo hi a zero h l = tt
+byteRows-rising x lo hi a (suc k) h l =
+    rising-cond (eqb (x % 2) 1) lo hi a (byteRows (x / 2) (a + 1) k) h (omega arith) (byteRows-rising (x / 2) (a + 1) hi (a + 1) k (omega arith) (omega arith))
 
 any-byte-go : (f : List ℕ) (at x j k : ℕ) → j + suc k ≤ 8
     → anySet f (byteRows (x / 2) (at * 8 + (j + 1)) k) ≡ not (eqb (bitAnd (getD f at 0 / 2 ^ (j + 1)) (x / 2)) 0)
@@ -127,17 +129,14 @@ mark-byte f at x j (suc k) l h b =
 
 -- ---- what the code computes of a byte, said by the definitions
 
-pub byte-answer : (f : List ℕ) (at x : ℕ) → x < 256 → not (eqb (bitAnd (getD f at 0) x) 0) ≡ anySeen f (byteRows x (at * 8) 8)
-byte-answer f at x h =
+pub byte-marked : (f : List ℕ) (at x : ℕ) → at < length f → x < 256
+    → MarkedInTurn f (set f at (bitOr (getD f at 0) x)) (byteRows x (at * 8) 8) (not (eqb (bitAnd (getD f at 0) x) 0))
+byte-marked f at x l h =
     let g : at * 8 + 0 ≡ at * 8 = omega arith in
     let d : getD f at 0 / 1 ≡ getD f at 0 = omega arith in
-    sym (anySeen-rising f 0 (byteRows x (at * 8) 8) (byteRows-rising x 0 (at * 8) 8 (omega arith)) ∙ (rw (g, d) at (any-byte f at x 0 8 (omega arith) h)))
-
-pub byte-store : (f : List ℕ) (at x : ℕ) → at < length f → x < 256 → set f at (bitOr (getD f at 0) x) ≡ markAll f (byteRows x (at * 8) 8)
-byte-store f at x l h =
-    let g : at * 8 + 0 ≡ at * 8 = omega arith in
-    let d : x * 1 ≡ x = omega arith in
-    sym (rw (g, d) at (mark-byte f at x 0 8 l (omega arith) h))
+    let y : x * 1 ≡ x = omega arith in
+    let s = anySeen-rising f 0 (at * 8 + 8) (byteRows x (at * 8) 8) (byteRows-rising x 0 (at * 8 + 8) (at * 8) 8 (omega arith) (omega arith)) in
+    record { seen = sym (s ∙ (rw (g, d) at (any-byte f at x 0 8 (omega arith) h))); marked = sym (rw (g, y) at (mark-byte f at x 0 8 l (omega arith) h)) }
 
 -- ---- the rows of a field, byte by byte
 
@@ -160,12 +159,14 @@ rows-next g n i h =
     rw (e, rowsFrom-append g (i * 8) 8 ((n - (i + 1)) * 8), d, b)
 
 -- nothing is left that the field has
-rows-left : (f g : List ℕ) (i : ℕ) → min (length f) (length g) ≤ i → Dec (length f ≤ i) → Rising (length f * 8) (rowsFrom g (i * 8) ((length g - i) * 8))
+rows-left : (f g : List ℕ) (i : ℕ) → min (length f) (length g) ≤ i → Dec (length f ≤ i) → Past f (rowsFrom g (i * 8) ((length g - i) * 8))
 unfolding rowsFrom
-rows-left f g i h (yes l) = rowsFrom-rising g (length f * 8) (i * 8) ((length g - i) * 8) (omega arith)
+rows-left f g i h (yes l) =
+    let n = i * 8 + (length g - i) * 8 in
+    rising-past f (i * 8) n (rowsFrom g (i * 8) ((length g - i) * 8)) (omega arith) (rowsFrom-rising g (i * 8) n (i * 8) ((length g - i) * 8) (omega arith) (omega arith))
 rows-left f g i h (no l) =
     let e : (length g - i) * 8 ≡ 0 = omega arith in
     rw e tt
 
-pub rows-done : (f g : List ℕ) (i : ℕ) → min (length f) (length g) ≤ i → Rising (length f * 8) (rowsFrom g (i * 8) ((length g - i) * 8))
+pub rows-done : (f g : List ℕ) (i : ℕ) → min (length f) (length g) ≤ i → Past f (rowsFrom g (i * 8) ((length g - i) * 8))
 rows-done f g i h = rows-left f g i h (decLe (length f) i)

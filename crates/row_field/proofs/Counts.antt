@@ -5,23 +5,19 @@ use mathlib.Core.Bool.{Bool, true, false, cond}
 use mathlib.Core.List.{List, [], _∷_, _++_}
 use native.Mathlib.Nat.{mod-eq-of-lt, zero-div, pow-suc}
 use native.Mathlib.Decide.{decLt, ℕ-discrete}
-use native.Mathlib.Numerals.{add-one, one-add}
+use native.Mathlib.Numerals.{add-one}
 use native.Mathlib.Omega.{arith}
 use lib.Count.{ones, ones-step, ones-le, ones-cat}
 use lib.Dec.{eqb}
-use lib.Pow.{pow-add, shr-shr, field, mod-mod-pow}
-use lib.ListN.{length, getD, drop, replicate, length-replicate, getD-replicate}
+use lib.Pow.{pow-add, field, mod-mod-pow}
+use lib.ListN.{length, getD, drop, replicate, length-replicate}
 use borrow.Author.Tests.{eq-eqb, ne-eqb}
 use Rattle.numbers.specs.Meaning.{Bytes, leAt}
 use Rattle.numbers.proofs.Laws.{leAt-lt}
-use Rattle.row_field.specs.Meaning.{size, bit, mark, markAll, fieldOf, zeroed, rowsFrom, count}
-use Rattle.row_field.proofs.Laws.{digit, bit-out, length-mark, bit-mark-same, bit-mark-other}
+use Rattle.row_field.specs.Meaning.{size, bit, mark, markAll, fieldOf, zeroed, Rising, rowsFrom, count}
+use Rattle.row_field.proofs.Laws.{digit, digit-suc, tick, tick-digit, bit-at, bit-out, length-mark, bit-mark-same, bit-mark-other, bit-zeros}
 
 -- ---- tallies
-
-abbrev pub tick : Bool → ℕ
-tick true = 1
-tick false = 0
 
 -- for how many of the k numbers from a on p holds
 unfoldable pub tally : (ℕ → Bool) → ℕ → ℕ → ℕ
@@ -87,14 +83,6 @@ unfolding tally
 tally-one r a zero h l = absurd (omega arith)
 tally-one r a (suc k) h l = one-go r a k h l (λ m. tally-one r (a + 1) k m (omega arith)) (ℕ-discrete a r)
 
-pub digit-suc : (b k : ℕ) → digit b (suc k) ≡ digit (b / 2) k
-digit-suc b k = rw (shr-shr b 1 k, one-add)
-
-pub tick-digit : (x : ℕ) → x < 2 → tick (eqb x 1) ≡ x
-tick-digit zero h = refl
-tick-digit (suc zero) h = refl
-tick-digit (suc (suc x)) h = absurd (let z : ⊥ = omega arith in z)
-
 pub low-half : (x k : ℕ) → x % 2 ^ suc k / 2 ≡ x / 2 % 2 ^ k
 low-half x k = rw (← add-one k) (field x k 1)
 
@@ -120,14 +108,14 @@ tally-ones p a x (suc k) h =
 
 -- ---- counts
 
-picked : (b : Bool) (a : ℕ) (rs : List ℕ) → length (cond b (a ∷ rs) rs) ≡ tick b + length rs
-picked true a rs = omega arith
-picked false a rs = omega arith
+pub length-cond : (b : Bool) (a : ℕ) (rs : List ℕ) → length (cond b (a ∷ rs) rs) ≡ tick b + length rs
+length-cond true a rs = omega arith
+length-cond false a rs = omega arith
 
 pub rows-tally : (f : List ℕ) (a k : ℕ) → length (rowsFrom f a k) ≡ tally (bit f) a k
 unfolding tally rowsFrom
 rows-tally f a zero = refl
-rows-tally f a (suc k) = rw (picked (bit f a) a (rowsFrom f (a + 1) k)) (omega (arith, rows-tally f (a + 1) k))
+rows-tally f a (suc k) = rw (length-cond (bit f a) a (rowsFrom f (a + 1) k)) (omega (arith, rows-tally f (a + 1) k))
 
 pub count-le : (f : List ℕ) (n : ℕ) → count f n ≤ n
 count-le f n = rw rows-tally (tally-le (bit f) 0 n)
@@ -135,20 +123,12 @@ count-le f n = rw rows-tally (tally-le (bit f) 0 n)
 pub count-none : (f : List ℕ) → count f 0 ≡ 0
 count-none f = rw rows-tally (tally-none (bit f) 0 0 (λ r l m. absurd (omega arith)))
 
--- a byte's rows go by its digits
-pub byte-row : (f : List ℕ) (i j : ℕ) → j < 8 → bit f (i * 8 + j) ≡ eqb (digit (getD f i 0) j) 1
-unfolding bit
-byte-row f i j h =
-    let d : (i * 8 + j) / 8 ≡ i = omega arith in
-    let m : (i * 8 + j) % 8 ≡ j = omega arith in
-    rw (d, m)
-
 -- k rows more, of one byte: the ones of its k lowest bits
 pub count-part : (f : List ℕ) (i k : ℕ) → k ≤ 8 → count f (i * 8 + k) ≡ count f (i * 8) + ones (getD f i 0 % 2 ^ k)
 count-part f i k h =
     let e : 0 + i * 8 ≡ i * 8 = omega arith in
     let t = rw e at (tally-add (bit f) 0 (i * 8) k) in
-    let o = tally-ones (bit f) (i * 8) (getD f i 0) k (λ j l. byte-row f i j (omega arith)) in
+    let o = tally-ones (bit f) (i * 8) (getD f i 0) k (λ j l. bit-at f i j (omega arith)) in
     omega (arith, rows-tally f 0 (i * 8 + k), rows-tally f 0 (i * 8))
 
 pub count-byte : (f : List ℕ) (i : ℕ) → getD f i 0 < 256 → count f ((i + 1) * 8) ≡ count f (i * 8) + ones (getD f i 0)
@@ -214,13 +194,8 @@ count-mark f r n h l e =
     let t = tally-split (bit (mark f r)) (bit f) (λ q. eqb q r) 0 n (λ q a b. mark-tick-go f r q l e (ℕ-discrete q r)) in
     omega (arith, rows-tally (mark f r) 0 n, rows-tally f 0 n, tally-one r 0 n (omega arith) (omega arith))
 
--- rs rises strictly, from lo on, and stays below hi
-abbrev pub Rises : ℕ → ℕ → List ℕ → Type 0
-Rises lo hi [] = Unit {0}
-Rises lo hi (r ∷ rs) = (lo ≤ r) × (r < hi) × Rises (r + 1) hi rs
-
 -- rows that were not set add as many as they are
-pub count-marks : (f : List ℕ) (lo hi n : ℕ) (rs : List ℕ) → Rises lo hi rs → hi ≤ n → hi ≤ 8 * length f → ((q : ℕ) → lo ≤ q → bit f q ≡ false)
+pub count-marks : (f : List ℕ) (lo hi n : ℕ) (rs : List ℕ) → Rising lo hi rs → hi ≤ n → hi ≤ 8 * length f → ((q : ℕ) → lo ≤ q → bit f q ≡ false)
     → count (markAll f rs) n ≡ count f n + length rs
 unfolding markAll
 count-marks f lo hi n [] h k l free = omega arith
@@ -228,25 +203,16 @@ count-marks f lo hi n (r ∷ rs) h k l free =
     let m = count-mark f r n (omega arith) (omega arith) (free r (h .0)) in
     omega (arith, count-marks (mark f r) (r + 1) hi n rs (h .2) k (rw length-mark l) (λ q a. bit-mark-other f r q (λ e. omega arith) ∙ free q (omega arith)))
 
-bit-zeros-go : (m r : ℕ) → Dec (r / 8 < m) → bit (replicate m 0) r ≡ false
-unfolding bit
-bit-zeros-go m r (yes h) = rw (getD-replicate {A = ℕ} m (r / 8) 0 0 h, zero-div (2 ^ (r % 8)))
-bit-zeros-go m r (no h) = bit-out (replicate m 0) r (rw length-replicate (omega arith))
-
--- no row of a field of zeros is set
-zeros-free : (m r : ℕ) → bit (replicate m 0) r ≡ false
-zeros-free m r = bit-zeros-go m r (decLt (r / 8) m)
-
 pub count-zeros : (m n : ℕ) → count (replicate m 0) n ≡ 0
-count-zeros m n = rows-tally (replicate m 0) 0 n ∙ tally-none (bit (replicate m 0)) 0 n (λ r a b. zeros-free m r)
+count-zeros m n = rows-tally (replicate m 0) 0 n ∙ tally-none (bit (replicate m 0)) 0 n (λ r a b. bit-zeros m r)
 
 -- 01: counts are counts of ones in the field, and they are the number of chosen rows
-pub count-marked : (m hi n : ℕ) (rs : List ℕ) → Rises 0 hi rs → hi ≤ n → hi ≤ 8 * m → count (markAll (replicate m 0) rs) n ≡ length rs
+pub count-marked : (m hi n : ℕ) (rs : List ℕ) → Rising 0 hi rs → hi ≤ n → hi ≤ 8 * m → count (markAll (replicate m 0) rs) n ≡ length rs
 count-marked m hi n rs h k l =
-    let z = count-marks (replicate m 0) 0 hi n rs h k (rw length-replicate l) (λ q a. zeros-free m q) in
+    let z = count-marks (replicate m 0) 0 hi n rs h k (rw length-replicate l) (λ q a. bit-zeros m q) in
     omega (arith, count-zeros m n)
 
-pub count-field : (n : ℕ) (rs : List ℕ) → Rises 0 n rs → count (fieldOf n rs) n ≡ length rs
+pub count-field : (n : ℕ) (rs : List ℕ) → Rising 0 n rs → count (fieldOf n rs) n ≡ length rs
 count-field n rs h = count-marked (size n) n n rs h (omega arith) (omega arith)
 
 -- ---- a zeroed field
@@ -310,6 +276,3 @@ unfolding bit
 bit-zeroed k f r h =
     let i : r / 8 < k = omega arith in
     rw (zeroed-at k f (r / 8) i, zero-div (2 ^ (r % 8)))
-
-pub count-zeroed : (k n : ℕ) (f : List ℕ) → n ≤ 8 * k → count (zeroed k f) n ≡ 0
-count-zeroed k n f h = rows-tally (zeroed k f) 0 n ∙ tally-none (bit (zeroed k f)) 0 n (λ r a b. bit-zeroed k f r (omega arith))

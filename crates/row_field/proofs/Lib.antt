@@ -1,7 +1,9 @@
--- Laws that only the proofs of `row_field` need.
+-- Laws of rows and row fields.
+pub mod Laws
+pub mod RowLists
+pub mod Marks
+pub mod Loops
+pub mod Counts
+pub mod Fronts
 pub mod ByteRows
 pub mod RunRows
-pub mod Laws
-pub mod Counts
-pub mod Marks
-pub mod Subtracts

@@ -1,7 +1,7 @@
 -- The rows of a run, byte by byte.
 use Prim.Native.Nat.{ℕ, zero, suc, _+_, _-_, _*_, _/_, _%_, _^_, _<_, _≤_, min}
 use mathlib.Core.Path.{_≡_, refl, sym, _∙_, subst}
-use mathlib.Core.Bool.{Bool, false, _||_, or-assoc}
+use mathlib.Core.Bool.{Bool, false}
 use mathlib.Core.List.{List, [], _++_}
 use native.Mathlib.Nat.{pow-suc, zero-add, add-zero, suc-add, mul-one, sub-zero}
 use native.Mathlib.Decide.{decLe}
@@ -10,8 +10,10 @@ use lib.ListN.{length}
 use lib.Pow.{pow-pos, high-ones}
 use lib.Bits.{shifted-half, shifted-even}
 use Rattle.row_field.specs.Meaning.{markAll, anySet, upTo}
-use Rattle.row_field.specs.Promises.{anySeen, byteRows}
-use Rattle.row_field.proofs.Marks.{Rising, upTo-rising, upTo-append, anySeen-rising, anySeen-append, markAll-append, anySet-out, markAll-out, seen-done}
+use Rattle.row_field.specs.Promises.{byteRows, MarkedRows, MarkedInTurn}
+use Rattle.row_field.proofs.RowLists.{upTo-rising, upTo-append}
+use Rattle.row_field.proofs.Marks.{Past, rising-past, anySet-past, markAll-past}
+use Rattle.row_field.proofs.Loops.{at-once}
 use Rattle.row_field.proofs.ByteRows.{byteRows-odd, byteRows-even, byteRows-rising}
 
 -- ---- the rows of bits in a row
@@ -54,28 +56,43 @@ bytes-next to i h =
     let d : i * 8 + 8 ≡ (i + 1) * 8 = omega arith in
     rw (e, upTo-append (i * 8) 8 ((to - (i + 1)) * 8), d, all-rows (i * 8) 8 0)
 
+-- rows from one past the end on
+upTo-past : (f : List ℕ) (a k : ℕ) → length f * 8 ≤ a → Past f (upTo a k)
+upTo-past f a k h = rising-past f a (a + k) (upTo a k) h (upTo-rising a (a + k) a k (omega arith) (omega arith))
+
 -- nothing is left that the field has
-bytes-left : (f : List ℕ) (to i : ℕ) → min (length f) to ≤ i → Dec (length f ≤ i) → Rising (length f * 8) (upTo (i * 8) ((to - i) * 8))
+bytes-left : (f : List ℕ) (to i : ℕ) → min (length f) to ≤ i → Dec (length f ≤ i) → Past f (upTo (i * 8) ((to - i) * 8))
 unfolding upTo
-bytes-left f to i h (yes l) = upTo-rising (length f * 8) (i * 8) ((to - i) * 8) (omega arith)
+bytes-left f to i h (yes l) = upTo-past f (i * 8) ((to - i) * 8) (omega arith)
 bytes-left f to i h (no l) =
     let e : (to - i) * 8 ≡ 0 = omega arith in
     rw e tt
 
-pub bytes-done : (f : List ℕ) (to i : ℕ) → min (length f) to ≤ i → Rising (length f * 8) (upTo (i * 8) ((to - i) * 8))
+pub bytes-done : (f : List ℕ) (to i : ℕ) → min (length f) to ≤ i → Past f (upTo (i * 8) ((to - i) * 8))
 bytes-done f to i h = bytes-left f to i h (decLe (length f) i)
 
 -- ---- a run: within one byte, or in a first byte, whole bytes and a last byte
 
+abbrev pub run : ℕ → ℕ → List ℕ
+run a z = upTo a (z + 1 - a)
+
+abbrev pub head : ℕ → List ℕ
+head a = byteRows (2 ^ 8 - 2 ^ (a % 8)) (a / 8 * 8) 8
+
+abbrev pub middle : ℕ → ℕ → List ℕ
+middle a z = upTo ((a / 8 + 1) * 8) ((z / 8 - (a / 8 + 1)) * 8)
+
+abbrev pub tail : ℕ → List ℕ
+tail z = byteRows (2 ^ (z % 8 + 1) - 2 ^ 0) (z / 8 * 8) 8
+
 module _ (a z : ℕ) (h : a ≤ z) where
-  pub run-one : a / 8 ≡ z / 8 → upTo a (z + 1 - a) ≡ byteRows (2 ^ (z % 8 + 1) - 2 ^ (a % 8)) (a / 8 * 8) 8
+  pub run-one : a / 8 ≡ z / 8 → run a z ≡ byteRows (2 ^ (z % 8 + 1) - 2 ^ (a % 8)) (a / 8 * 8) 8
   run-one e =
       let s : a / 8 * 8 + a % 8 ≡ a = omega arith in
       let n : z % 8 + 1 - a % 8 ≡ z + 1 - a = omega arith in
       sym (between-rows (a / 8 * 8) (a % 8) (z % 8) (omega arith) (omega arith) ∙ rw (s, n))
 
-  pub run-parts : a / 8 < z / 8
-      → upTo a (z + 1 - a) ≡ byteRows (2 ^ 8 - 2 ^ (a % 8)) (a / 8 * 8) 8 ++ (upTo ((a / 8 + 1) * 8) ((z / 8 - (a / 8 + 1)) * 8) ++ byteRows (2 ^ (z % 8 + 1) - 2 ^ 0) (z / 8 * 8) 8)
+  pub run-parts : a / 8 < z / 8 → run a z ≡ head a ++ (middle a z ++ tail z)
   run-parts l =
       let m = (z / 8 - (a / 8 + 1)) * 8 in
       let s : a / 8 * 8 + a % 8 ≡ a = omega arith in
@@ -88,57 +105,28 @@ module _ (a z : ℕ) (h : a ≤ z) where
 
 -- ---- what the code computes of a run, said by the definitions
 
-abbrev run : ℕ → ℕ → List ℕ
-run a z = upTo a (z + 1 - a)
-
 module _ (f : List ℕ) (a z : ℕ) where
-  run-rising : anySet f (run a z) ≡ anySeen f (run a z)
-  run-rising = sym (anySeen-rising f 0 (run a z) (upTo-rising 0 a (z + 1 - a) (omega arith)))
-
-  pub run-none : z < a → (false ≡ anySet f (run a z)) × (f ≡ markAll f (run a z))
+  pub run-none : z < a → MarkedRows f f (run a z) false
   unfolding upTo anySet markAll
   run-none l =
       let e : z + 1 - a ≡ 0 = omega arith in
-      (rw e, rw e)
+      record { seen = rw e; marked = rw e }
 
-  pub run-out : length f ≤ a / 8 → (false ≡ anySet f (run a z)) × (f ≡ markAll f (run a z))
+  pub run-out : length f ≤ a / 8 → MarkedRows f f (run a z) false
   run-out l =
-      let r = upTo-rising (length f * 8) a (z + 1 - a) (omega arith) in
-      (sym (anySet-out f (length f * 8) (run a z) (omega arith) r), sym (markAll-out f (length f * 8) (run a z) (omega arith) r))
+      let r = upTo-past f a (z + 1 - a) (omega arith) in
+      record { seen = sym (anySet-past f (run a z) r); marked = sym (markAll-past f (run a z) r) }
 
-  pub run-one-seen : a ≤ z → a / 8 ≡ z / 8 → anySet f (run a z) ≡ anySeen f (byteRows (2 ^ (z % 8 + 1) - 2 ^ (a % 8)) (a / 8 * 8) 8)
-  run-one-seen h e = run-rising ∙ rw (run-one a z h e)
+module _ {f g : List ℕ} {r : Bool} (a z : ℕ) where
+  pub run-at-once : MarkedInTurn f g (run a z) r → MarkedRows f g (run a z) r
+  run-at-once m = at-once a (a + (z + 1 - a)) (upTo-rising a (a + (z + 1 - a)) a (z + 1 - a) (omega arith) (omega arith)) m
 
-  pub run-one-marked : a ≤ z → a / 8 ≡ z / 8 → markAll f (run a z) ≡ markAll f (byteRows (2 ^ (z % 8 + 1) - 2 ^ (a % 8)) (a / 8 * 8) 8)
-  run-one-marked h e = rw (run-one a z h e)
-
-abbrev head : ℕ → List ℕ
-head a = byteRows (2 ^ 8 - 2 ^ (a % 8)) (a / 8 * 8) 8
-
-abbrev middle : ℕ → ℕ → List ℕ
-middle a z = upTo ((a / 8 + 1) * 8) ((z / 8 - (a / 8 + 1)) * 8)
-
-abbrev tail : ℕ → List ℕ
-tail z = byteRows (2 ^ (z % 8 + 1) - 2 ^ 0) (z / 8 * 8) 8
-
-module _ (f : List ℕ) (a z : ℕ) (h : a ≤ z) (l : a / 8 < z / 8) where
-  pub run-seen : anySet f (run a z)
-      ≡ (anySeen f (head a) || anySeen (markAll f (head a)) (middle a z)) || anySeen (markAll (markAll f (head a)) (middle a z)) (tail z)
-  run-seen =
-      run-rising f a z
-      ∙ rw (run-parts a z h l, anySeen-append f (head a) (middle a z ++ tail z), anySeen-append (markAll f (head a)) (middle a z) (tail z))
-      (sym (or-assoc (anySeen f (head a)) (anySeen (markAll f (head a)) (middle a z)) (anySeen (markAll (markAll f (head a)) (middle a z)) (tail z))))
-
-  pub run-marked : markAll f (run a z) ≡ markAll (markAll (markAll f (head a)) (middle a z)) (tail z)
-  run-marked = rw (run-parts a z h l, markAll-append f (head a) (middle a z ++ tail z), markAll-append (markAll f (head a)) (middle a z) (tail z))
+-- a byte's bits by another name
+pub bits-as : {f g : List ℕ} {r : Bool} {x y : ℕ} (a : ℕ) → x ≡ y → MarkedInTurn f g (byteRows x a 8) r → MarkedInTurn f g (byteRows y a 8) r
+bits-as a e m = rw (← e) m
 
 -- a last byte past the end
-module _ (g : List ℕ) (z : ℕ) (l : length g ≤ z / 8) where
-  tail-rising : Rising (length g * 8) (tail z)
-  tail-rising = byteRows-rising (2 ^ (z % 8 + 1) - 2 ^ 0) (length g * 8) (z / 8 * 8) 8 (omega arith)
-
-  pub tail-seen : (b : Bool) → b || anySeen g (tail z) ≡ b
-  tail-seen b = seen-done g (length g * 8) (tail z) b (omega arith) tail-rising
-
-  pub tail-marked : markAll g (tail z) ≡ g
-  tail-marked = markAll-out g (length g * 8) (tail z) (omega arith) tail-rising
+pub tail-past : (g : List ℕ) (z : ℕ) → length g ≤ z / 8 → Past g (tail z)
+tail-past g z l =
+    let n = z / 8 * 8 + 8 in
+    rising-past g (z / 8 * 8) n (tail z) (omega arith) (byteRows-rising (2 ^ (z % 8 + 1) - 2 ^ 0) (z / 8 * 8) n (z / 8 * 8) 8 (omega arith) (omega arith))

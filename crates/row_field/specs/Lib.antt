@@ -1,4 +1,3 @@
--- What the contracts of `row_field` cite, and laws about it.
+-- What a row field means, and what contracts between functions cite.
 pub mod Meaning
-pub mod Reading
 pub mod Promises

@@ -1,10 +1,11 @@
 -- What a row field means (01, "What the library offers"): a list of bytes, in which row r is the bit of weight 2 ^ (r % 8) in the byte r / 8.
-use Prim.Native.Nat.{ℕ, zero, suc, _+_, _-_, _*_, _/_, _%_, _^_}
+use Prim.Native.Nat.{ℕ, zero, suc, _+_, _*_, _/_, _%_, _^_, _<_, _≤_}
 use mathlib.Core.Bool.{Bool, false, _||_, cond}
 use mathlib.Core.List.{List, [], _∷_}
-use lib.Bits.{bitAnd, bitOr}
+use lib.Bits.{bitOr}
 use lib.Dec.{eqb}
 use lib.ListN.{length, getD, set, replicate}
+use Rattle.numbers.specs.Meaning.{All}
 
 -- the bytes of a field for n rows: ceil(n / 8)
 abbrev pub size : ℕ → ℕ
@@ -47,6 +48,20 @@ unfoldable pub upTo : ℕ → ℕ → List ℕ
 upTo a zero = []
 upTo a (suc k) = a ∷ upTo (a + 1) k
 
+-- the rows that vs counts from `base` on
+abbrev pub above : ℕ → List ℕ → List ℕ
+above base [] = []
+above base (v ∷ vs) = (base + v) ∷ above base vs
+
+-- rows that rise strictly, each at least lo and below hi
+abbrev pub Rising : ℕ → ℕ → List ℕ → Type 0
+Rising lo hi [] = Unit {0}
+Rising lo hi (r ∷ rs) = (lo ≤ r) × (r < hi) × Rising (r + 1) hi rs
+
+-- rows below n, in any order
+abbrev pub Below : ℕ → List ℕ → Type 0
+Below n rs = All (λ r. r < n) rs
+
 -- those of the k rows from a on that are set in f
 unfoldable pub rowsFrom : List ℕ → ℕ → ℕ → List ℕ
 rowsFrom f a zero = []
@@ -59,25 +74,3 @@ rowsOf f = rowsFrom f 0 (length f * 8)
 -- how many rows below n are set in f
 abbrev pub count : List ℕ → ℕ → ℕ
 count f n = length (rowsFrom f 0 n)
-
--- f with row r not set; a row past the end changes nothing
-unfoldable pub unmark : List ℕ → ℕ → List ℕ
-unmark f r = set f (r / 8) (bitAnd (getD f (r / 8) 0) (255 - 2 ^ (r % 8)))
-
--- f with no row of rs set
-unfoldable pub without : List ℕ → List ℕ → List ℕ
-without f [] = f
-without f (r ∷ rs) = without (unmark f r) rs
-
--- those of the rows rs that are set in f
-unfoldable pub setIn : List ℕ → List ℕ → List ℕ
-setIn f [] = []
-setIn f (r ∷ rs) = cond (bit f r) (r ∷ setIn f rs) (setIn f rs)
-
--- 01, Subtract: f without the rows below n that are set in g; a bit that stands for no row below n stays
-abbrev pub subtracted : ℕ → List ℕ → List ℕ → List ℕ
-subtracted n f g = without f (rowsFrom g 0 n)
-
--- 01, Subtract: how many rows are removed: those below n that are set in both
-abbrev pub removed : ℕ → List ℕ → List ℕ → ℕ
-removed n f g = length (setIn f (rowsFrom g 0 n))

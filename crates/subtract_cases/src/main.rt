@@ -1,6 +1,6 @@
 // Runs Subtract on fields of four bytes, dirty spare bits and dirty bytes behind among them: a line each, with the answer and the first field's bytes.
 use libc::STDOUT_FILENO;
-use row_field::Subtracted;
+use subtract::Subtracted;
 
 fn wide(x: u8) -> u64 {
     x as u64
@@ -13,7 +13,7 @@ fn say(text: &[u8], n: u64) {
 
 fn case(name: &[u8], bytes: [u8; 4], second: [u8; 4], rows: u64) {
     let mut first = bytes;
-    let answer = row_field::subtract(&mut first, &second, rows);
+    let answer = subtract::subtract(&mut first, &second, rows);
     io::write_all(STDOUT_FILENO, name);
     match answer {
         Subtracted::Refused(r) => {

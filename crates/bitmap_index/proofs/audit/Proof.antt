@@ -1,26 +1,26 @@
 -- `audit` meets its contract: a refusal before the field is written leaves it, and all else is `audit_field`'s.
-use Rattle.bitmap_index.specs.Reading.{audit}
-use Rattle.bitmap_index.proofs.Auditing.{sound, audit-numbers, audit-refused, audit-found}
+use Rattle.bitmap_index.proofs.Auditing.{is-dictionary, audit-refused, audit-found}
 use borrow.Author.Needs.{needs}
 use Rattle.bitmap_index.proofs.audit.Statement.{statement}
 use Rattle.bitmap_index.proofs.audit.Tie as tie
 
 audit-field-requires : tie.Need-audit-field-requires
 audit-field-requires c κs =
-    let a = c .before .before .before .before .before .before .before .before .args in
-    sound (a .t) (a .body .now) (a .field .now) (c .before .before .prepared2 .given .1) (c .before .before .before .before .prepare .ensures)
+    let at-prepare = c .before .before .before .before in
+    let a = at-prepare .before .before .before .before .args in
+    is-dictionary (a .t) (a .body .now) (a .field .now) (c .before .before .prepared2 .given .1) (at-prepare .prepare .ensures)
 
 returns : tie.Need-returns
 returns c =
     let a = c .before .before .before .before .before .before .before .args in
-    let w = audit-refused (a .t) (a .body .now) (a .field .now) (c .before .prepared .given .1) (c .before .before .before .prepare .ensures) in
-    (w .0, w .1, audit-numbers (audit (a .t) (a .body .now) (a .field .now)) (w .0))
+    audit-refused (a .t) (a .body .now) (a .field .now) (c .before .prepared .given .1) (c .before .before .before .prepare .ensures)
 
 returns-2 : tie.Need-returns-2
 returns-2 c =
-    let a = c .before .before .before .before .before .before .before .before .before .before .before .args in
-    let w = audit-found (a .t) (a .body .now) (a .field .now) (c .before .before .before .before .before .prepared2 .given .1) (c .before .before .before .before .before .before .before .prepare .ensures) (c .before .before .audit-field .ensures) in
-    (w .0, w .1, audit-numbers (audit (a .t) (a .body .now) (a .field .now)) (w .0))
+    let at-prepared = c .before .before .before .before .before in
+    let at-prepare = at-prepared .before .before in
+    let a = at-prepare .before .before .before .before .args in
+    audit-found (a .t) (a .body .now) (a .field .now) (at-prepared .prepared2 .given .1) (at-prepare .prepare .ensures) (c .before .before .audit-field .ensures)
 
 pub audit-spec : {M : Type 1} → statement M
 audit-spec =

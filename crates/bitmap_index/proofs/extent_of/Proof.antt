@@ -1,5 +1,5 @@
 -- `extent_of` meets its contract by its two cases.
-use Rattle.bitmap_index.proofs.Placing.{as-long, exactly}
+use Rattle.bitmap_index.proofs.PlacingRows.{as-long, exactly}
 use Rattle.bitmap_index.proofs.extent_of.Statement.{statement}
 use Rattle.bitmap_index.proofs.extent_of.Tie as tie
 

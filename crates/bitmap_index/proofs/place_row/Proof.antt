@@ -1,5 +1,5 @@
 -- `place_row` meets its contract: RANGE by the first test, TWICE by what `row_field::mark` says of the row.
-use Rattle.bitmap_index.proofs.Placing.{row-range, row-twice, row-done}
+use Rattle.bitmap_index.proofs.PlacingRows.{row-range, row-twice, row-done}
 use borrow.Author.Needs.{needs}
 use Rattle.bitmap_index.proofs.place_row.Statement.{statement}
 use Rattle.bitmap_index.proofs.place_row.Tie as tie

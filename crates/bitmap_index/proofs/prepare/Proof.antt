@@ -17,18 +17,29 @@ returns-2 c =
 
 returns-3 : tie.Need-returns-3
 returns-3 c =
-    let a = c .before .before .before .before .before .before .before .before .before .before .args in
-    no-room (a .t) (a .body .now) (a .field .now) (c .before .before .before .before .before .before .before .if1 .left) (c .before .before .before .before .before .before .if2 .left) (c .before .before .before .checked2 .given .1) (c .before .before .before .before .before .read .ensures) (c .before .has-room .ensures) (not-true _ (c .if3 .taken))
+    let at-checked = c .before .before .before in
+    let at-read = at-checked .before .before in
+    let at-if2 = at-read .before in
+    let at-if1 = at-if2 .before in
+    let a = at-if1 .before .before .before .args in
+    no-room (a .t) (a .body .now) (a .field .now) (at-if1 .if1 .left) (at-if2 .if2 .left) (at-checked .checked2 .given .1) (at-read .read .ensures) (c .before .has-room .ensures) (not-true _ (c .if3 .taken))
 
 returns-4 : tie.Need-returns-4
 returns-4 c =
-    let a = c .before .before .before .before .before .before .before .before .args in
-    no-dictionary (a .t) (a .body .now) (a .field .now) (c .before .before .before .before .before .if1 .left) (c .before .before .before .before .if2 .left) (c .before .checked .given .1) (c .before .before .before .read .ensures)
+    let at-read = c .before .before .before in
+    let at-if2 = at-read .before in
+    let at-if1 = at-if2 .before in
+    let a = at-if1 .before .before .before .args in
+    no-dictionary (a .t) (a .body .now) (a .field .now) (at-if1 .if1 .left) (at-if2 .if2 .left) (c .before .checked .given .1) (at-read .read .ensures)
 
 returns-5 : tie.Need-returns-5
 returns-5 c =
-    let a = c .before .before .before .before .before .before .before .before .before .before .args in
-    ready (a .t) (a .body .now) (a .field .now) (c .before .before .before .before .before .before .before .if1 .left) (c .before .before .before .before .before .before .if2 .left) (c .before .before .before .checked2 .given .1) (c .before .before .before .before .before .read .ensures) (c .before .has-room .ensures) (not-false _ (c .if3 .left))
+    let at-checked = c .before .before .before in
+    let at-read = at-checked .before .before in
+    let at-if2 = at-read .before in
+    let at-if1 = at-if2 .before in
+    let a = at-if1 .before .before .before .args in
+    ready (a .t) (a .body .now) (a .field .now) (at-if1 .if1 .left) (at-if2 .if2 .left) (at-checked .checked2 .given .1) (at-read .read .ensures) (c .before .has-room .ensures) (not-false _ (c .if3 .left))
 
 pub prepare-spec : {M : Type 1} → statement M
 prepare-spec =

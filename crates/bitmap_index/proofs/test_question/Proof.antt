@@ -27,18 +27,35 @@ returns-4 c =
 
 returns-5 : tie.Need-returns-5
 returns-5 c =
-    let a = c .before .before .before .before .before .before .before .before .before .before .before .before .args in
-    wrong-number (a .t) (a .question) (a .literals .now) (a .body .now) (c .before .before .before .before .before .before .before .before .before .if1 .left) (c .before .before .before .before .before .before .before .before .if2 .left) (c .before .before .before .before .before .before .before .if3 .left) (c .before .before .before .before .before .before .if4 .left) (c .before .before .before .before .before .literals .ensures) (c .before .before .before .counted2 .given .1) (c .before .takes .ensures) (not-true _ (c .if5 .taken))
+    let at-counted = c .before .before .before in
+    let at-literals = at-counted .before .before in
+    let at-if4 = at-literals .before in
+    let at-if3 = at-if4 .before in
+    let at-if2 = at-if3 .before in
+    let at-if1 = at-if2 .before in
+    let a = at-if1 .before .before .before .args in
+    wrong-number (a .t) (a .question) (a .literals .now) (a .body .now) (at-if1 .if1 .left) (at-if2 .if2 .left) (at-if3 .if3 .left) (at-if4 .if4 .left) (at-literals .literals .ensures) (at-counted .counted2 .given .1) (c .before .takes .ensures) (not-true _ (c .if5 .taken))
 
 returns-6 : tie.Need-returns-6
 returns-6 c =
-    let a = c .before .before .before .before .before .before .before .before .before .before .args in
-    misfit (a .t) (a .question) (a .literals .now) (a .body .now) (c .before .before .before .before .before .before .before .if1 .left) (c .before .before .before .before .before .before .if2 .left) (c .before .before .before .before .before .if3 .left) (c .before .before .before .before .if4 .left) (c .before .before .before .literals .ensures) (c .before .counted .given .1)
+    let at-literals = c .before .before .before in
+    let at-if4 = at-literals .before in
+    let at-if3 = at-if4 .before in
+    let at-if2 = at-if3 .before in
+    let at-if1 = at-if2 .before in
+    let a = at-if1 .before .before .before .args in
+    misfit (a .t) (a .question) (a .literals .now) (a .body .now) (at-if1 .if1 .left) (at-if2 .if2 .left) (at-if3 .if3 .left) (at-if4 .if4 .left) (at-literals .literals .ensures) (c .before .counted .given .1)
 
 returns-7 : tie.Need-returns-7
 returns-7 c =
-    let a = c .before .before .before .before .before .before .before .before .before .before .before .before .args in
-    fits-question (a .t) (a .question) (a .literals .now) (a .body .now) (c .before .before .before .before .before .before .before .before .before .if1 .left) (c .before .before .before .before .before .before .before .before .if2 .left) (c .before .before .before .before .before .before .before .if3 .left) (c .before .before .before .before .before .before .if4 .left) (c .before .before .before .before .before .literals .ensures) (c .before .before .before .counted2 .given .1) (c .before .takes .ensures) (not-false _ (c .if5 .left))
+    let at-counted = c .before .before .before in
+    let at-literals = at-counted .before .before in
+    let at-if4 = at-literals .before in
+    let at-if3 = at-if4 .before in
+    let at-if2 = at-if3 .before in
+    let at-if1 = at-if2 .before in
+    let a = at-if1 .before .before .before .args in
+    fits-question (a .t) (a .question) (a .literals .now) (a .body .now) (at-if1 .if1 .left) (at-if2 .if2 .left) (at-if3 .if3 .left) (at-if4 .if4 .left) (at-literals .literals .ensures) (at-counted .counted2 .given .1) (c .before .takes .ensures) (not-false _ (c .if5 .left))
 
 pub test-question-spec : {M : Type 1} → statement M
 test-question-spec =

@@ -1,7 +1,6 @@
 -- `crc32::checksum` meets its contract. The loop's invariant: the table keeps its rule, and the register, taken through the bytes that are
 -- left, gives what the whole gives. The rule is a test that antt computes at all 256 entries. A turn is `by-entry`: the table's entry with
 -- the upper bytes is the register after one byte more.
---
 use mathlib.Core.Path.{_≡_, refl, sym, ap, _∙_}
 use Prim.Native.Nat.{ℕ, _+_, _-_, _/_, _≤_, _<_}
 use native.Mathlib.Omega.{arith}
@@ -22,7 +21,7 @@ abbrev μ-loop : tie.MeasureT-loop
 
 loop-holds : tie.Need-loop-holds Inv-loop μ-loop
 unfolding right steps shifted afterBit
-loop-holds c = (entries _ tt refl, omega arith, refl)
+loop-holds c = (entries _ refl refl, omega arith, refl)
 
 cast-low : tie.Need-cast-low Inv-loop μ-loop
 cast-low c = omega (arith, c .shared-slice-known .given (c .before .before .loop .i))

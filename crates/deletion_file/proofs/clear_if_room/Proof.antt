@@ -5,10 +5,10 @@ use Rattle.deletion_file.proofs.clear_if_room.Statement.{statement}
 use Rattle.deletion_file.proofs.clear_if_room.Tie as tie
 
 returns : tie.Need-returns
-returns c = (cc, cc)
+returns c = record { room = cc; field = cc }
 
 returns-2 : tie.Need-returns-2
-returns-2 c = (cc, refl)
+returns-2 c = record { room = cc; field = refl }
 
 pub clear-if-room-spec : {M : Type 1} → statement M
 clear-if-room-spec =

@@ -1,54 +1,55 @@
--- The walk over the sizes. What carries it is `Walked`: what the reading makes of the bytes that are left, with the bins passed and the place of the asked
--- one, is what it makes of the whole.
+-- The walk over the sizes. What carries it is `WalkState`: what the reading makes of the bytes that are left, with the bins passed and the place of the one
+-- sought, is what it makes of the whole.
 use Prim.Native.Nat.{_-_, _≤_}
-use mathlib.Core.Path.{sym}
 use mathlib.Core.Logic.{⊎-elim}
 use native.Mathlib.Omega.{arith}
-use lib.ListN.{length, drop}
-use Rattle.refusal.specs.Reading.{andThen}
-use Rattle.deletion_file.specs.Reading.{bins, asked}
-use Rattle.deletion_file.specs.Promises.{binAt}
-use Rattle.deletion_file.proofs.Walk.{Walked, walked-first, walked-cut, walked-small, walked-long, walked-this, walked-other, walked-found, walked-none}
+use lib.ListN.{length}
+use Rattle.deletion_file.specs.Reading.{binIn}
+use Rattle.deletion_file.proofs.WalkSteps.{WalkState, walk-first, walk-cut, walk-small, walk-long, walk-this, walk-other, walk-found, walk-none}
 use Rattle.deletion_file.proofs.find_bin.Statement.{statement}
 use Rattle.deletion_file.proofs.find_bin.Tie as tie
 
 abbrev Inv-loop : tie.InvT-loop
 Inv-loop file bin next₀ passed₀ start₀ end₀ next passed start end =
-    (next ≤ length file) × (passed ≤ next) × Walked (andThen (bins (length file) (drop 1 file)) (asked bin)) file bin next passed start end
+    (next ≤ length file) × (passed ≤ next) × WalkState (binIn bin file) file bin next passed start end
 
 abbrev μ-loop : tie.MeasureT-loop
 μ-loop file bin next₀ passed₀ start₀ end₀ next passed start end = length file - next
 
 loop-holds : tie.Need-loop-holds Inv-loop μ-loop
-loop-holds c = (omega arith, omega arith, walked-first _ _ _ _)
+loop-holds c = (omega arith, omega arith, walk-first _ _ _ _)
 
 returns : tie.Need-returns Inv-loop μ-loop
-unfolding binAt
-returns c = (sym (walked-cut (c .before .before .loop .inv .2) (omega arith) (omega arith)), tt)
+returns c = walk-cut (c .before .before .loop .inv .2) (omega arith) (omega arith)
 
 returns-2 : tie.Need-returns-2 Inv-loop μ-loop
-unfolding binAt
-returns-2 c = (sym (walked-small (c .before .before .before .before .loop .inv .2) (omega arith) (omega arith) (c .before .be32 .ensures .0) (omega arith)), tt)
+returns-2 c =
+    let state = c .before .before .before .before .loop .inv .2 in
+    walk-small state (omega arith) (omega arith) (c .before .be32 .ensures .0) (omega arith)
 
 returns-3 : tie.Need-returns-3 Inv-loop μ-loop
-unfolding binAt
-returns-3 c = (sym (walked-long (c .before .before .before .before .before .loop .inv .2) (omega arith) (omega arith) (c .before .before .be32 .ensures .0) (omega arith) (omega arith)), tt)
+returns-3 c =
+    let state = c .before .before .before .before .before .loop .inv .2 in
+    walk-long state (omega arith) (omega arith) (c .before .before .be32 .ensures .0) (omega arith) (omega arith)
 
 loop-again : tie.Need-loop-again Inv-loop μ-loop
-loop-again c = (
-  omega arith,
-  omega arith,
-  ⊎-elim (λ w. rw (w .1, w .2) (walked-this (c .before .before .before .before .before .before .loop .inv .2) (omega arith) (omega arith) (c .before .before .before .be32 .ensures .0) (omega arith) (omega arith) (w .0 .taken)))
-      (λ w. rw (w .1, w .2) (walked-other (c .before .before .before .before .before .before .loop .inv .2) (omega arith) (omega arith) (c .before .before .before .be32 .ensures .0) (omega arith) (omega arith) (w .0 .left))) (c .if4 .came),
-)
+loop-again c =
+    let read = c .before .before .before in
+    let state = read .before .before .before .loop .inv .2 in
+    let size = read .be32 .ensures .0 in (
+      omega arith,
+      omega arith,
+      ⊎-elim (λ w. rw (w .1, w .2) (walk-this state (omega arith) (omega arith) size (omega arith) (omega arith) (w .0 .taken)))
+          (λ w. rw (w .1, w .2) (walk-other state (omega arith) (omega arith) size (omega arith) (omega arith) (w .0 .left))) (c .if4 .came),
+    )
 
 returns-4 : tie.Need-returns-4 Inv-loop μ-loop
-unfolding binAt
-returns-4 c = (sym (walked-found (c .before .before .loop .inv .2) (omega arith) (omega arith)), c .before .before .loop .inv .2 .inside (omega arith))
+returns-4 c =
+    let state = c .before .before .loop .inv .2 in
+    (walk-found state (omega arith) (omega arith), state .inside (omega arith))
 
 returns-5 : tie.Need-returns-5 Inv-loop μ-loop
-unfolding binAt
-returns-5 c = (sym (walked-none (c .before .before .loop .inv .2) (omega arith) (omega arith)), tt)
+returns-5 c = walk-none (c .before .before .loop .inv .2) (omega arith) (omega arith)
 
 pub find-bin-spec : {M : Type 1} → statement M
 find-bin-spec =
@@ -63,7 +64,6 @@ find-bin-spec =
     returns-2
     (λ c. omega arith)
     returns-3
-    (λ c. omega arith)
     (λ c. omega arith)
     (λ c. omega arith)
     (λ c. omega arith)

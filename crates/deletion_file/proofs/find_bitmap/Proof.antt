@@ -1,29 +1,32 @@
 -- The stages before the bitmap, in the reading's order: what `find_bin` and `open_bin` ensure is put into it.
 use borrow.Author.Needs.{needs}
-use mathlib.Core.Path.{sym, _∙_}
 use native.Mathlib.Omega.{arith}
-use Rattle.deletion_file.specs.Promises.{bytesAt}
-use Rattle.deletion_file.proofs.Open.{bitmap-empty, bitmap-version, bitmap-refused, bitmap-opened}
+use Rattle.deletion_file.proofs.BinSteps.{empty-file, wrong-version, no-bin, the-bin}
 use Rattle.deletion_file.proofs.find_bitmap.Statement.{statement}
 use Rattle.deletion_file.proofs.find_bitmap.Tie as tie
 
 returns : tie.Need-returns
-unfolding bytesAt
-returns c = (sym (bitmap-empty _ _ (c .if1 .taken)), tt)
+returns c = empty-file _ _ (c .if1 .taken)
 
 returns-2 : tie.Need-returns-2
-unfolding bytesAt
-returns-2 c = (sym (bitmap-version _ _ (omega arith) (c .before .byte .ensures .0) (c .if2 .taken)), tt)
+returns-2 c = wrong-version _ _ (omega arith) (c .before .byte .ensures .0) (c .if2 .taken)
 
 open-bin-requires : tie.Need-open-bin-requires
-open-bin-requires c κs = rw (c .before .place2 .given .1) at (c .before .before .before .find-bin .ensures .1)
+open-bin-requires c κs =
+    let bin = rw (c .before .place2 .given .1) at (c .before .before .before .find-bin .ensures) in
+    bin .1
 
 returns-3 : tie.Need-returns-3
-unfolding bytesAt
-returns-3 c = (sym (bitmap-refused _ _ (omega arith) (c .before .before .before .before .before .byte .ensures .0) (c .before .before .before .before .if2 .left) (c .before .before .before .find-bin .ensures .0) (c .before .place .given .1)), tt)
+returns-3 c =
+    let found = c .before .before .before in
+    let bin = rw (c .before .place .given .1) at (found .find-bin .ensures) in
+    no-bin _ _ (omega arith) (found .before .before .byte .ensures .0) (found .before .if2 .left) bin
 
 returns-4 : tie.Need-returns-4
-returns-4 c = (c .open-bin .ensures .0 ∙ sym (bitmap-opened _ _ (omega arith) (c .before .before .before .before .before .before .byte .ensures .0) (c .before .before .before .before .before .if2 .left) (c .before .before .before .before .find-bin .ensures .0) (c .before .before .place2 .given .1)), c .open-bin .ensures .1)
+returns-4 c =
+    let found = c .before .before .before .before in
+    let bin = rw (c .before .before .place2 .given .1) at (found .find-bin .ensures) in
+    rw (the-bin _ _ (omega arith) (found .before .before .byte .ensures .0) (found .before .if2 .left) (bin .0)) (c .open-bin .ensures)
 
 pub find-bitmap-spec : {M : Type 1} → statement M
 find-bitmap-spec =

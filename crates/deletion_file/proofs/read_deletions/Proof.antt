@@ -1,7 +1,7 @@
 -- The reading's stages one by one: LIMIT and ROOM leave the field untouched, and what follows starts from the cleared field.
 use borrow.Author.Needs.{needs}
 use borrow.Author.Tests.{not-true, not-false}
-use Rattle.deletion_file.proofs.Mark.{long-file, many-rows, no-room, with-room}
+use Rattle.deletion_file.proofs.CallSteps.{long-file, many-rows, no-room, with-room}
 use Rattle.deletion_file.proofs.read_deletions.Statement.{statement}
 use Rattle.deletion_file.proofs.read_deletions.Tie as tie
 
@@ -12,11 +12,17 @@ returns-2 : tie.Need-returns-2
 returns-2 c = many-rows _ _ _ _ (c .before .if1 .left) (c .if2 .taken)
 
 returns-3 : tie.Need-returns-3
-returns-3 c = no-room _ _ _ _ (c .before .before .before .before .before .before .if1 .left) (c .before .before .before .before .before .if2 .left) (c .before .before .before .clear-if-room .ensures) (not-true _ (c .if3 .taken))
+returns-3 c =
+    let cleared = c .before .before .before in
+    let limits = cleared .before .before in
+    no-room _ _ _ _ (limits .before .if1 .left) (limits .if2 .left) (cleared .clear-if-room .ensures) (not-true _ (c .if3 .taken))
 
 returns-4 : tie.Need-returns-4
 returns-4 c =
-    with-room _ _ _ _ (c .before .before .before .before .before .before .before .before .before .before .if1 .left) (c .before .before .before .before .before .before .before .before .before .if2 .left) (c .before .before .before .before .before .before .before .clear-if-room .ensures) (not-false _ (c .before .before .before .before .if3 .left)) (c .before .before .mark-bin .ensures)
+    let room = c .before .before .before .before in
+    let cleared = room .before .before .before in
+    let limits = cleared .before .before in
+    with-room _ _ _ _ (limits .before .if1 .left) (limits .if2 .left) (cleared .clear-if-room .ensures) (not-false _ (room .if3 .left)) (c .before .before .mark-bin .ensures)
 
 pub read-deletions-spec : {M : Type 1} → statement M
 read-deletions-spec =

@@ -1,14 +1,14 @@
 -- `entries` meets its contract, by the version.
 use borrow.Author.Needs.{needs}
-use Rattle.dictionary.proofs.Whole.{walked-two, walked-one}
+use Rattle.dictionary.proofs.Fields.{by-two, by-one}
 use Rattle.dictionary.proofs.entries.Statement.{statement}
 use Rattle.dictionary.proofs.entries.Tie as tie
 
 returns : tie.Need-returns
-returns c = let a = c .before .before .before .args in walked-two (a .t) (a .n) (a .body .now) (a .at) (a .two) (c .entries-two .result) (c .before .if1 .taken) (c .entries-two .ensures)
+returns c = let a = c .before .before .before .args in by-two (a .t) (a .n) (a .body .now) (a .at .0) (a .version2) (c .entries-two .result) (c .before .if1 .taken) (c .entries-two .ensures)
 
 returns-2 : tie.Need-returns-2
-returns-2 c = let a = c .before .before .before .args in walked-one (a .t) (a .n) (a .body .now) (a .at) (a .two) (c .entries-one .result) (c .before .if1 .left) (c .entries-one .ensures)
+returns-2 c = let a = c .before .before .before .args in by-one (a .t) (a .n) (a .body .now) (a .at .0) (a .version2) (c .entries-one .result) (c .before .if1 .left) (c .entries-one .ensures)
 
 pub entries-spec : {M : Type 1} → statement M
 entries-spec =

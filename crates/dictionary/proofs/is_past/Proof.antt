@@ -1,17 +1,24 @@
 -- `is_past` meets its contract, by whether the span has bytes.
-use Prim.Native.Nat.{_-_}
-use mathlib.Core.Path.{_∙_}
-use lib.ListN.{take, drop}
+use mathlib.Core.Path.{refl, _∙_}
 use borrow.Author.Needs.{needs}
-use Rattle.dictionary.proofs.VersionTwo.{past-none, past-some}
+use Rattle.stored_value.specs.Meaning.{Cell}
+use Rattle.dictionary.specs.Reading.{past}
+use Rattle.dictionary.specs.Promises.{bytesAt}
+use Rattle.dictionary.proofs.VersionTwo.{span-none, span-some}
 use Rattle.dictionary.proofs.is_past.Statement.{statement}
 use Rattle.dictionary.proofs.is_past.Tie as tie
 
 returns : tie.Need-returns
-returns c = let a = c .before .before .before .before .before .args in c .less .ensures ∙ past-some (a .body .now) (a .before) (take (a .e - a .p) (drop (a .p) (a .body .now))) (a .t) (c .before .before .before .if1 .taken)
+unfolding past
+returns c =
+    let a = c .before .before .before .before .before .args in
+    c .less .ensures ∙ span-some (a .body .now) (a .before) (λ (v : Cell). past (a .t) v (bytesAt (a .body .now) (a .value))) (c .before .before .before .if1 .taken)
 
 returns-2 : tie.Need-returns-2
-returns-2 c = let a = c .before .before .args in past-none (a .body .now) (a .before) (take (a .e - a .p) (drop (a .p) (a .body .now))) (a .t) (c .if1 .left)
+unfolding past
+returns-2 c =
+    let a = c .before .before .args in
+    span-none (a .body .now) (a .before) (λ (v : Cell). past (a .t) v (bytesAt (a .body .now) (a .value))) refl (c .if1 .left)
 
 pub is-past-spec : {M : Type 1} → statement M
 is-past-spec =

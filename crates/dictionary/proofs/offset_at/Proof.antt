@@ -11,8 +11,8 @@ returns : tie.Need-returns
 returns c =
     let a = c .before .before .before .args in
     let n = c .before .be32 .ensures in
-    let h : beAt 4 (a .body .now) (a .at) < 4294967296 = rw (n .0) at (n .1) in
-    (signed-passed (beAt 4 (a .body .now) (a .at)) (c .to-signed .ensures ∙ rw (n .0)) h, h)
+    let h : beAt 4 (a .body .now) (a .at .0) < 4294967296 = rw (n .0) at (n .1) in
+    (signed-passed (beAt 4 (a .body .now) (a .at .0)) (c .to-signed .ensures ∙ rw (n .0)) h, h)
 
 pub offset-at-spec : {M : Type 1} → statement M
 offset-at-spec =

@@ -6,13 +6,13 @@ use Rattle.dictionary.proofs.value_end.Statement.{statement}
 use Rattle.dictionary.proofs.value_end.Tie as tie
 
 returns : tie.Need-returns
-returns c = let a = c .before .before .before .before .before .args in value-none (a .t) (a .body .now) (a .at) (c .before .before .before .size .ensures) (c .before .r .given .1)
+returns c = let a = c .before .before .before .before .before .args in value-none (a .t) (a .body .now) (a .at .0) (c .before .before .before .size .ensures) (c .before .r .given .1)
 
-add-t10 : tie.Need-add-t10
-add-t10 c = let a = c .before .before .before .before .before .args in omega (arith, value-to (a .t) (a .body .now) (a .at) (c .before .before .before .size .ensures) (c .before .n .given .1))
+add-t9 : tie.Need-add-t9
+add-t9 c = let a = c .before .before .before .before .before .before .args in omega (arith, value-to (a .t) (a .body .now) (a .at .0) (c .before .before .before .before .size .ensures) (c .before .before .n .given .1))
 
 returns-2 : tie.Need-returns-2
-returns-2 c = let a = c .before .before .before .before .before .args in value-to (a .t) (a .body .now) (a .at) (c .before .before .before .size .ensures) (c .before .n .given .1)
+returns-2 c = let a = c .before .before .before .before .before .before .args in value-to (a .t) (a .body .now) (a .at .0) (c .before .before .before .before .size .ensures) (c .before .before .n .given .1)
 
 pub value-end-spec : {M : Type 1} → statement M
 value-end-spec =
@@ -22,5 +22,5 @@ value-end-spec =
     (λ c. search needs)
     returns
     (λ c. search needs)
-    add-t10
+    add-t9
     returns-2)

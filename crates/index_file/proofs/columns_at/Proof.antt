@@ -5,23 +5,23 @@ use borrow.Author.Needs.{needs}
 use lib.ListN.{length}
 use Rattle.index_file.specs.declared.Count.{Count}
 use Rattle.index_file.specs.declared.Name.{Name}
-use Rattle.index_file.specs.Promises.{named, counted}
+use Rattle.index_file.specs.Promises.{nameAt, countAt}
 use Rattle.index_file.proofs.Positions.{Columns, columns-first, columns-done, columns-name, columns-count, columns-entries, columns-next}
 use Rattle.index_file.proofs.columns_at.Statement.{statement}
 use Rattle.index_file.proofs.columns_at.Tie as tie
 
 abbrev Inv-loop : tie.InvT-loop
-Inv-loop s at n column kind place₀ seen₀ p₀ i₀ place seen p i = (p ≤ length s) × Columns column kind s n at place seen p i
+Inv-loop s n column kind place₀ seen₀ at i₀ place seen next i = (next .0 ≤ length s) × Columns column kind s n at place seen next i
 
 abbrev μ-loop : tie.MeasureT-loop
-μ-loop s at n column kind place₀ seen₀ p₀ i₀ place seen p i = n - i
+μ-loop s n column kind place₀ seen₀ at i₀ place seen next i = n - i
 
 -- the name ends within the bytes, and the number behind it too
-ends : (c : tie.After-known-told Inv-loop μ-loop) → named (Name.Ends (c .before .f .given .0 .0)) (c .before .before .before .before .before .loop .p) (c .before .before .before .before .before .before .before .before .before .args .s .now)
-ends c = rw (c .before .f .given .1) at (c .before .before .before .name-at .ensures)
+ends : (c : tie.After-known-told Inv-loop μ-loop) → nameAt (Name.Ends (c .before .name .given .0 .0)) (c .before .before .before .before .before .loop .next) (c .before .before .before .before .before .before .before .before .before .args .s .now)
+ends c = rw (c .before .name .given .1) at (c .before .before .before .name-at .ensures)
 
-room : (c : tie.After-known-told2 Inv-loop μ-loop) → counted (Count.Is (c .before .g .given .0 .0)) (c .before .before .before .before .before .f .given .0 .0) (c .before .before .before .before .before .before .before .before .before .before .before .before .before .args .s .now)
-room c = rw (c .before .g .given .1) at (c .before .before .before .count-at .ensures)
+room : (c : tie.After-known-told2 Inv-loop μ-loop) → countAt (Count.Is (c .before .count .given .0 .0)) (c .before .before .before .before .before .name .given .0 .0) (c .before .before .before .before .before .before .before .before .before .before .before .before .before .args .s .now)
+room c = rw (c .before .count .given .1) at (c .before .before .before .count-at .ensures)
 
 loop-holds : tie.Need-loop-holds Inv-loop μ-loop
 loop-holds c = let a = c .before .before .before .args in (omega arith, columns-first (a .column .now) (a .kind .now) (a .s .now) (a .n) (a .at))
@@ -41,46 +41,52 @@ returns-2 c =
     let f = m .before .before in
     let n = f .before .before in
     let l = n .before .before .loop in
-    columns-count (l .inv .1) (n .before .loop-test .taken) (n .name-at .ensures) (f .f .given .1) (m .count-at .ensures) (c .enum-told2 .given .1)
+    columns-count (l .inv .1) (n .before .loop-test .taken) (n .name-at .ensures) (f .name .given .1) (m .count-at .ensures) (c .enum-told2 .given .1)
 
 sub-same-name : tie.Need-sub-same-name Inv-loop μ-loop
-sub-same-name c = omega (arith, ends (c .before .before .before .before) .0)
+sub-same-name c = omega (arith, ends (c .before .before .before .before .before) .0)
 
 part-same-name-start : tie.Need-part-same-name-start Inv-loop μ-loop
-part-same-name-start c = omega (arith, ends (c .before .before .before .before) .0)
+part-same-name-start c = omega (arith, ends (c .before .before .before .before .before) .0)
 
 part-same-name-end : tie.Need-part-same-name-end Inv-loop μ-loop
-part-same-name-end c = omega (arith, ends (c .before .before .before .before) .1)
+part-same-name-end c = omega (arith, ends (c .before .before .before .before .before) .1)
 
-add-entries-at : tie.Need-add-entries-at Inv-loop μ-loop
-add-entries-at c = omega (arith, room (c .before .before) .0)
+add-t22 : tie.Need-add-t22 Inv-loop μ-loop
+add-t22 c = omega (arith, room (c .before .before .before) .0)
 
 entries-at-requires : tie.Need-entries-at-requires Inv-loop μ-loop
-entries-at-requires c κs = omega (arith, room (c .before .before) .0)
+entries-at-requires c κs = omega (arith, room (c .before .before .before) .0)
 
 returns-3 : tie.Need-returns-3 Inv-loop μ-loop
 returns-3 c =
     let w = c .before .before in
-    let g = w .before .before .before .before in
+    let g = w .before .before .before .before .before in
     let m = g .before .before in
     let f = m .before .before in
     let n = f .before .before in
     let l = n .before .before .loop in
-    columns-entries (l .inv .1) (n .before .loop-test .taken) (n .name-at .ensures) (f .f .given .1) (m .count-at .ensures) (g .g .given .1)
+    columns-entries (l .inv .1) (n .before .loop-test .taken) (n .name-at .ensures) (f .name .given .1) (m .count-at .ensures) (g .count .given .1)
     (w .entries-at .ensures) (c .enum-told3 .given .1)
+
+add-i : tie.Need-add-i Inv-loop μ-loop
+add-i c =
+    let g = c .before .before .before .before .before .before .before .before .before in
+    let n = g .before .before .before .before .before .before in
+    omega (arith, n .before .loop-test .taken)
 
 loop-again : tie.Need-loop-again Inv-loop μ-loop
 loop-again c =
     let v = c .before .before in
     let w = v .before .before in
-    let g = w .before .before .before .before in
+    let g = w .before .before .before .before .before in
     let m = g .before .before in
     let f = m .before .before in
     let n = f .before .before in
     let l = n .before .before .loop in (
-      (rw (v .w .given .1) at (w .entries-at .ensures)) .0,
-      columns-next (l .inv .1) (n .before .loop-test .taken) (n .name-at .ensures) (f .f .given .1) (m .count-at .ensures) (g .g .given .1)
-          (w .entries-at .ensures) (v .w .given .1) (w .before .same-name .ensures) (c .after-column .ensures),
+      (rw (v .walk .given .1) at (w .entries-at .ensures)) .0,
+      columns-next (l .inv .1) (n .before .loop-test .taken) (n .name-at .ensures) (f .name .given .1) (m .count-at .ensures) (g .count .given .1)
+          (w .entries-at .ensures) (v .walk .given .1) (w .before .same-name .ensures) (c .after-column .ensures),
     )
 
 returns-4 : tie.Need-returns-4 Inv-loop μ-loop
@@ -106,13 +112,13 @@ columns-at-spec =
     part-same-name-start
     part-same-name-end
     (λ c κs. search needs)
-    add-entries-at
+    add-t22
     entries-at-requires
     (λ c. search needs)
     (λ c. search needs)
     returns-3
     (λ c κs. search needs)
-    (λ c. search needs)
+    add-i
     (λ c. search needs)
     loop-again
     returns-4)

@@ -4,20 +4,20 @@ use native.Mathlib.Omega.{arith}
 use borrow.Author.Needs.{needs}
 use lib.ListN.{length}
 use Rattle.index_file.specs.declared.Name.{Name}
-use Rattle.index_file.specs.Promises.{named}
+use Rattle.index_file.specs.Promises.{nameAt}
 use Rattle.index_file.proofs.Positions.{Entries, entries-first, entries-done, entries-name, entries-short, entries-next}
 use Rattle.index_file.proofs.entries_at.Statement.{statement}
 use Rattle.index_file.proofs.entries_at.Tie as tie
 
 abbrev Inv-loop : tie.InvT-loop
-Inv-loop s at n kind place₀ p₀ i₀ place p i = (p ≤ length s) × Entries kind s n at place p i
+Inv-loop s n kind place₀ at i₀ place next i = (next .0 ≤ length s) × Entries kind s n at place next i
 
 abbrev μ-loop : tie.MeasureT-loop
-μ-loop s at n kind place₀ p₀ i₀ place p i = n - i
+μ-loop s n kind place₀ at i₀ place next i = n - i
 
 -- the name ends within the bytes
-ends : (c : tie.After-known-told Inv-loop μ-loop) → named (Name.Ends (c .before .f .given .0 .0)) (c .before .before .before .before .before .loop .p) (c .before .before .before .before .before .before .before .before .args .s .now)
-ends c = rw (c .before .f .given .1) at (c .before .before .before .name-at .ensures)
+ends : (c : tie.After-known-told Inv-loop μ-loop) → nameAt (Name.Ends (c .before .name .given .0 .0)) (c .before .before .before .before .before .loop .next) (c .before .before .before .before .before .before .before .before .args .s .now)
+ends c = rw (c .before .name .given .1) at (c .before .before .before .name-at .ensures)
 
 loop-holds : tie.Need-loop-holds Inv-loop μ-loop
 loop-holds c = let a = c .before .before .args in (omega arith, entries-first (a .kind .now) (a .s .now) (a .n) (a .at))
@@ -36,25 +36,25 @@ returns-2 c =
     let f = c .before .before in
     let n = f .before .before in
     let l = n .before .before .loop in
-    entries-short (l .inv .1) (n .before .loop-test .taken) (n .name-at .ensures) (f .f .given .1) (c .if1 .taken)
+    entries-short (l .inv .1) (n .before .loop-test .taken) (n .name-at .ensures) (f .name .given .1) (c .if1 .taken)
 
 sub-same-name : tie.Need-sub-same-name Inv-loop μ-loop
-sub-same-name c = omega (arith, ends (c .before .before .before) .0)
+sub-same-name c = omega (arith, ends (c .before .before .before .before) .0)
 
 part-same-name-start : tie.Need-part-same-name-start Inv-loop μ-loop
-part-same-name-start c = omega (arith, ends (c .before .before .before) .0)
+part-same-name-start c = omega (arith, ends (c .before .before .before .before) .0)
 
 part-same-name-end : tie.Need-part-same-name-end Inv-loop μ-loop
-part-same-name-end c = omega (arith, ends (c .before .before .before) .1)
+part-same-name-end c = omega (arith, ends (c .before .before .before .before) .1)
 
 loop-again : tie.Need-loop-again Inv-loop μ-loop
 loop-again c =
-    let f = c .before .before .before .before .before .before .before in
+    let f = c .before .before .before .before .before .before .before .before in
     let n = f .before .before in
     let l = n .before .before .loop in
-    let b = c .before .before .before in (
+    let b = c .before .before .before .before in (
       omega (arith, ends (b .before .before .before) .1),
-      entries-next (l .inv .1) (n .before .loop-test .taken) (n .name-at .ensures) (f .f .given .1) (omega (arith, ends (b .before .before .before) .1))
+      entries-next (l .inv .1) (n .before .loop-test .taken) (n .name-at .ensures) (f .name .given .1) (omega (arith, ends (b .before .before .before) .1))
           (b .before .be32 .ensures .0) (b .be322 .ensures .0) (c .before .same-name .ensures) (c .after-entry .ensures),
     )
 

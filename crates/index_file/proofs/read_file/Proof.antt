@@ -1,30 +1,31 @@
 -- Each return is one case of the reading of the fields in front of the columns, in their order.
-use mathlib.Core.Path.{sym}
+use mathlib.Core.Path.{sym, ap, _∙_}
 use native.Mathlib.Omega.{arith}
 use borrow.Author.Needs.{needs}
+use Rattle.index_file.specs.Reading.{locatedBy}
 use lib.Seq.{length-take-le}
 use Rattle.index_file.proofs.Laws.{file-short, file-magic, file-version}
-use Rattle.index_file.proofs.Positions.{file-count, file-low, file-past, file-head}
+use Rattle.index_file.proofs.Positions.{refused, file-count, file-low, file-past, file-head}
 use Rattle.index_file.proofs.read_file.Statement.{statement}
 use Rattle.index_file.proofs.read_file.Tie as tie
 
 returns : tie.Need-returns
 returns c =
     let a = c .before .before .before .before .args in
-    sym (file-short (a .column .now) (a .kind .now) (a .bytes .now) (c .if1 .taken))
+    refused (file-short (a .column .now) (a .kind .now) (a .bytes .now) (c .if1 .taken))
 
 returns-2 : tie.Need-returns-2
 returns-2 c =
     let b = c .before .before in
     let a = b .before .before .before .before .before .args in
-    sym (file-magic (a .column .now) (a .kind .now) (a .bytes .now) (omega arith) (b .be64 .ensures) (c .if2 .taken))
+    refused (file-magic (a .column .now) (a .kind .now) (a .bytes .now) (omega arith) (b .be64 .ensures) (c .if2 .taken))
 
 returns-3 : tie.Need-returns-3
 returns-3 c =
     let v = c .before .before in
     let b = v .before in
     let a = b .before .before .before .before .before .args in
-    sym (file-version (a .column .now) (a .kind .now) (a .bytes .now) (omega arith) (b .be64 .ensures) (c .before .if2 .left) (v .be32 .ensures .0) (c .if3 .taken))
+    refused (file-version (a .column .now) (a .kind .now) (a .bytes .now) (omega arith) (b .be64 .ensures) (c .before .if2 .left) (v .be32 .ensures .0) (c .if3 .taken))
 
 returns-4 : tie.Need-returns-4
 returns-4 c =
@@ -32,7 +33,7 @@ returns-4 c =
     let v = m .before .before .before in
     let b = v .before in
     let a = b .before .before .before .before .before .args in
-    file-count (a .column .now) (a .kind .now) (a .bytes .now) (omega arith) (b .be64 .ensures) (m .before .before .if2 .left) (v .be32 .ensures .0) (m .before .if3 .left) (m .count-at .ensures) (c .enum-told .given .1)
+    refused (file-count (a .column .now) (a .kind .now) (a .bytes .now) (omega arith) (b .be64 .ensures) (m .before .before .if2 .left) (v .be32 .ensures .0) (m .before .if3 .left) (m .count-at .ensures) (c .enum-told .given .1))
 
 returns-5 : tie.Need-returns-5
 returns-5 c =
@@ -41,7 +42,7 @@ returns-5 c =
     let v = m .before .before .before in
     let b = v .before in
     let a = b .before .before .before .before .before .args in
-    file-low (a .column .now) (a .kind .now) (a .bytes .now) (omega arith) (b .be64 .ensures) (m .before .before .if2 .left) (v .be32 .ensures .0) (m .before .if3 .left) (m .count-at .ensures) (f .f .given .1) (omega arith)
+    refused (file-low (a .column .now) (a .kind .now) (a .bytes .now) (omega arith) (b .be64 .ensures) (m .before .before .if2 .left) (v .be32 .ensures .0) (m .before .if3 .left) (m .count-at .ensures) (f .count .given .1) (omega arith))
 
 returns-6 : tie.Need-returns-6
 returns-6 c =
@@ -50,7 +51,7 @@ returns-6 c =
     let v = m .before .before .before in
     let b = v .before in
     let a = b .before .before .before .before .before .args in
-    file-past (a .column .now) (a .kind .now) (a .bytes .now) (omega arith) (b .be64 .ensures) (m .before .before .if2 .left) (v .be32 .ensures .0) (m .before .if3 .left) (m .count-at .ensures) (f .f .given .1) (omega arith) (omega arith)
+    refused (file-past (a .column .now) (a .kind .now) (a .bytes .now) (omega arith) (b .be64 .ensures) (m .before .before .if2 .left) (v .be32 .ensures .0) (m .before .if3 .left) (m .count-at .ensures) (f .count .given .1) (omega arith) (omega arith))
 
 slice-aggregate-read-head : tie.Need-slice-aggregate-read-head
 slice-aggregate-read-head c =
@@ -58,7 +59,7 @@ slice-aggregate-read-head c =
     let m = f .before .before in
     let b = m .before .before .before .before in
     let a = b .before .before .before .before .before .args in
-    sym (length-take-le (f .f .given .0 .0) (a .bytes .now) (omega arith))
+    sym (length-take-le (f .count .given .0 .0) (a .bytes .now) (omega arith))
 
 read-head-requires : tie.Need-read-head-requires
 read-head-requires c κs =
@@ -66,7 +67,7 @@ read-head-requires c κs =
     let m = f .before .before in
     let b = m .before .before .before .before in
     let a = b .before .before .before .before .before .args in
-    omega (arith, length-take-le (f .f .given .0 .0) (a .bytes .now) (omega arith))
+    omega (arith, length-take-le (f .count .given .0 .0) (a .bytes .now) (omega arith))
 
 returns-7 : tie.Need-returns-7
 returns-7 c =
@@ -75,7 +76,7 @@ returns-7 c =
     let v = m .before .before .before in
     let b = v .before in
     let a = b .before .before .before .before .before .args in
-    file-head (a .column .now) (a .kind .now) (a .bytes .now) (omega arith) (b .be64 .ensures) (m .before .before .if2 .left) (v .be32 .ensures .0) (m .before .if3 .left) (m .count-at .ensures) (f .f .given .1) (omega arith) (omega arith) (c .read-head .ensures)
+    c .read-head .ensures ∙ sym (ap locatedBy (file-head (a .column .now) (a .kind .now) (a .bytes .now) (omega arith) (b .be64 .ensures) (m .before .before .if2 .left) (v .be32 .ensures .0) (m .before .if3 .left) (m .count-at .ensures) (f .count .given .1) (omega arith) (omega arith)))
 
 pub read-file-spec : {M : Type 1} → statement M
 read-file-spec =

@@ -1,6 +1,7 @@
--- `poddurance_audit` meets its contract: the answer of the call it wraps, case by case.
-use mathlib.Core.Path.{refl, sym, _∙_}
+-- `poddurance_audit` meets its contract: the answer of the call that it wraps, case by case.
+use mathlib.Core.Path.{refl}
 use Rattle.bitmap_index.specs.Reading.{auditOut}
+use Rattle.poddurance.proofs.Laws.{in-case}
 use borrow.Author.Needs.{needs}
 use Rattle.poddurance.proofs.poddurance_audit.Statement.{statement}
 use Rattle.poddurance.proofs.poddurance_audit.Tie as tie
@@ -8,16 +9,16 @@ use Rattle.poddurance.proofs.poddurance_audit.Tie as tie
 returns : tie.Need-returns
 unfolding auditOut
 returns c =
-    let a = c .before .before .before .before .before .before .audit in
-    let e = sym (a .ensures .0) ∙ c .before .before .answer .given .1 in
-    (rw e (c .number .ensures), rw e refl, a .ensures .1)
+    let g = c .before .before in
+    let a = g .before .before .before .before .audit .ensures in
+    record { numbers = in-case auditOut (a .numbers) (g .answer .given .1) (rw (c .number .ensures)); buffer = a .buffer }
 
 returns-2 : tie.Need-returns-2
 unfolding auditOut
 returns-2 c =
-    let a = c .before .before .before .before .before .audit in
-    let e = sym (a .ensures .0) ∙ c .before .answer2 .given .1 in
-    (rw e refl, rw e refl, a .ensures .1)
+    let g = c .before in
+    let a = g .before .before .before .before .audit .ensures in
+    record { numbers = in-case auditOut (a .numbers) (g .answer2 .given .1) refl; buffer = a .buffer }
 
 pub poddurance-audit-spec : {M : Type 1} → statement M
 poddurance-audit-spec =

@@ -1,5 +1,4 @@
 -- `row_field::clear` meets its contract. The loop's invariant: the bytes passed are 0, the others as they were (`fill-more`); the end is `zeroed-as-far`.
---
 use Prim.Native.Nat.{_≤_, _-_, min}
 use mathlib.Core.Path.{_≡_, refl, sym, _∙_}
 use mathlib.Core.List.{_++_}

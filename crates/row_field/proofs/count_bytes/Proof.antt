@@ -10,17 +10,17 @@ use Rattle.row_field.proofs.count_bytes.Statement.{statement}
 use Rattle.row_field.proofs.count_bytes.Tie as tie
 
 abbrev Inv-loop : tie.InvT-loop
-Inv-loop field end words total₀ i₀ total i = (i ≤ end) × (total ≡ count field (i * 8))
+Inv-loop field e words total₀ i₀ total i = (i ≤ e) × (total ≡ count field (i * 8))
 
 abbrev μ-loop : tie.MeasureT-loop
-μ-loop field end words total₀ i₀ total i = end - i
+μ-loop field e words total₀ i₀ total i = e - i
 
 count-words-requires : tie.Need-count-words-requires Inv-loop μ-loop
 count-words-requires c κs = (omega arith, omega arith)
 
 loop-holds : tie.Need-loop-holds Inv-loop μ-loop
 loop-holds c =
-    let n = c .before .before .args .end / 8 in
+    let n = c .before .before .args .end .0 / 8 in
     let e : n * 64 ≡ n * 8 * 8 = omega arith in
     (omega arith, c .count-words .ensures ∙ ap (λ (k : ℕ). count (c .before .before .args .field .now) k) e)
 
@@ -43,7 +43,7 @@ loop-again c =
 
 returns : tie.Need-returns Inv-loop μ-loop
 returns c =
-    let e : c .before .loop .i ≡ c .before .before .before .before .args .end = omega arith in
+    let e : c .before .loop .i ≡ c .before .before .before .before .args .end .0 = omega arith in
     cc
 
 pub count-bytes-spec : {M : Type 1} → statement M

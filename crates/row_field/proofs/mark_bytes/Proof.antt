@@ -1,52 +1,35 @@
--- `mark_bytes` meets its contract. The loop's invariant: the rows of the bytes that are left, marked and asked about from here, give the whole (`bytes-next`, `bytes-done`).
-use Prim.Native.Nat.{_+_, _-_, _*_}
+-- `mark_bytes` meets its contract. The loop's invariant: the rows of the bytes that are left, marked from here, give the whole (`bytes-next`, `bytes-done`).
+use Prim.Native.Nat.{_-_, _*_}
 use mathlib.Core.Path.{_≡_, refl}
-use mathlib.Core.Bool.{_||_}
 use native.Mathlib.Omega.{arith}
 use borrow.Author.Needs.{needs}
 use lib.ListN.{length}
-use Rattle.row_field.specs.Meaning.{markAll, upTo}
-use Rattle.row_field.specs.Promises.{anySeen, byteRows}
-use Rattle.row_field.proofs.Marks.{seen-next, marked-next, seen-done, markAll-out}
+use Rattle.row_field.specs.Meaning.{upTo}
+use Rattle.row_field.proofs.Loops.{Marks, marks-first, marks-part, marks-past}
 use Rattle.row_field.proofs.RunRows.{bytes-next, bytes-done}
 use Rattle.row_field.proofs.mark_bytes.Statement.{statement}
 use Rattle.row_field.proofs.mark_bytes.Tie as tie
 
 abbrev Inv-loop : tie.InvT-loop
-Inv-loop field₀ from to end seen₀ i₀ field seen i =
-    (length field ≡ length field₀)
-    × (seen || anySeen field (upTo (i * 8) ((to - i) * 8)) ≡ anySeen field₀ (upTo (from * 8) ((to - from) * 8)))
-    × (markAll field (upTo (i * 8) ((to - i) * 8)) ≡ markAll field₀ (upTo (from * 8) ((to - from) * 8)))
+Inv-loop field₀ stop end seen₀ i₀ field seen i =
+    (length field ≡ length field₀) × Marks (upTo (i₀ * 8) ((stop - i₀) * 8)) field₀ (upTo (i * 8) ((stop - i) * 8)) field seen
 
 abbrev μ-loop : tie.MeasureT-loop
-μ-loop field₀ from to end seen₀ i₀ field seen i = end - i
+μ-loop field₀ stop end seen₀ i₀ field seen i = end - i
 
 loop-holds : tie.Need-loop-holds Inv-loop μ-loop
-loop-holds c = (refl, refl, refl)
+loop-holds c = (refl, marks-first _ _)
 
 loop-again : tie.Need-loop-again Inv-loop μ-loop
 loop-again c =
-    let t = c .before .before .before .before in
-    let l = t .before .loop in
-    let to = t .before .before .before .before .args .to in
-    let whole = upTo (l .i * 8) ((to - l .i) * 8) in
-    let part = byteRows 255 (l .i * 8) 8 in
-    let rest = upTo ((l .i + 1) * 8) ((to - (l .i + 1)) * 8) in
-    let e = bytes-next to (l .i) (omega arith) in (
-      omega arith,
-      cc (seen-next (l .field) whole part rest (l .seen) e),
-      cc (marked-next (l .field) whole part rest e),
-    )
+    let called = c .before .before in
+    let at = called .before .before .before in
+    (omega arith, marks-part (at .loop .inv .1) (bytes-next (at .before .before .before .args .to .0) (at .loop .i) (omega arith)) (called .mark-byte .ensures))
 
 returns : tie.Need-returns Inv-loop μ-loop
 returns c =
     let l = c .before .loop in
-    let to = c .before .before .before .before .args .to in
-    let rest = upTo (l .i * 8) ((to - l .i) * 8) in
-    let d = bytes-done (l .field) to (l .i) (omega arith) in (
-      cc (seen-done (l .field) (length (l .field) * 8) rest (l .seen) (omega arith) d),
-      cc (markAll-out (l .field) (length (l .field) * 8) rest (omega arith) d),
-    )
+    marks-past (l .inv .1) (bytes-done (l .field) (c .before .before .before .before .args .to .0) (l .i) (omega arith))
 
 pub mark-bytes-spec : {M : Type 1} → statement M
 mark-bytes-spec =

@@ -1,0 +1,212 @@
+-- What Audit and Ask accepted, taken apart: each test was passed, and at the place of each entry there are rows, in order, below the row count, none of them
+-- set before.
+use Prim.Native.Nat.{ℕ, _-_, _<_, _≤_}
+use mathlib.Core.Path.{_≡_, refl, sym, ap, _∙_}
+use mathlib.Core.Logic.{_⊎_, inl, inr}
+use mathlib.Core.Bool.{Bool, true, false, cond}
+use mathlib.Core.List.{List, [], _∷_, _++_}
+use native.Mathlib.Omega.{arith}
+use borrow.Author.Tests.{ltb-true, ltb-false, eqb-true, leb-true}
+use lib.Dec.{eqb, ltb}
+use lib.IntN.{ℤ, pos, negsuc}
+use lib.ListN.{length, take, drop, length-append, length-drop, take-append-drop}
+use lib.Seq.{length-take-le}
+use Rattle.numbers.specs.Meaning.{signed32, Bytes, minusOne, signBit}
+use Rattle.numbers.proofs.Booleans.{and-both, not-true}
+use Rattle.numbers.proofs.ByteLists.{bytes-drop}
+use Rattle.refusal.specs.Meaning.{limit}
+use Rattle.refusal.specs.declared.Refusal.the-variants.{Bitmap}
+use Rattle.row_field.specs.Meaning.{bit, mark, markAll, anySet, size, cleared, count, Rising}
+use Rattle.row_field.proofs.RowLists.{rising-within}
+use Rattle.roaring.specs.declared.Extent.{Extent}
+use Rattle.roaring.specs.declared.Extent.the-variants.{AsLong, Exactly}
+use Rattle.roaring.specs.Layout as roaring
+use Rattle.roaring.specs.Layout.{fourBytes}
+use Rattle.roaring.specs.Reading.{Unsound, Parsed, read, lengthIs, measured}
+use Rattle.roaring.proofs.Measured.{measured-back}
+use Rattle.roaring.proofs.Theorems.{read-was-laid-out, bitmap-rising}
+use Rattle.refusal.proofs.Laws.{check-ok, then-ok}
+use Rattle.refusal.specs.Reading.{Out, refuse, ok, andThen}
+use Rattle.stored_value.specs.Reading.{literals}
+use Rattle.dictionary.specs.Layout.{Entry}
+use Rattle.dictionary.specs.Reading.{Dictionary, dictionary}
+use Rattle.bitmap_index.specs.Meaning.{questions, takes}
+use Rattle.bitmap_index.specs.Layout.{EntryRows, single, bitmap}
+use Rattle.bitmap_index.specs.Reading.{extentOf, placeBitmap, placeAt, placeEntry, placeEntries, roomFor, prepared, audited, audit, wellFormed, Answer, auditedAnswer, ask}
+
+-- ---- an entry's rows, read at its place: the single row of a negative offset, or those of the bitmap there
+
+unfoldable pub rowsGot : Out Unsound Parsed → List ℕ
+rowsGot (refuse why) = []
+rowsGot (ok b) = b .rows
+
+unfoldable pub rowsFor : ℤ → List ℕ → List ℕ
+rowsFor (negsuc r) region = r ∷ []
+rowsFor (pos o) region = rowsGot (read (drop o region))
+
+unfoldable pub rowsAt : List ℕ → Entry → List ℕ
+rowsAt region e = rowsFor (signed32 (e .offset)) region
+
+-- ---- a place that was accepted
+
+-- the rows of an entry that was placed in the field f
+pub record EntryPlaced (n : ℕ) (region f rows : List ℕ) (e : Entry) : Type 0 where
+  pub placed : EntryRows region rows e
+  pub rising : Rising 0 n rows
+  pub free : anySet f rows ≡ false
+
+signed-negative : (x r : ℕ) → x < fourBytes → signed32 x ≡ negsuc r → (r < signBit) × (x ≡ minusOne - r)
+signed-negative x r h e = go (ltb x signBit) refl e
+  where
+    go : (b : Bool) → ltb x signBit ≡ b → cond b (pos x) (negsuc (minusOne - x)) ≡ negsuc r → (r < signBit) × (x ≡ minusOne - r)
+    go true l q = absurd (let z : _≡_ {A = ℕ} 0 1 = cc in omega arith)
+    go false l q =
+        let i : minusOne - x ≡ r = cc in
+        omega (arith, ltb-false x signBit l)
+
+signed-positive : (x o : ℕ) → signed32 x ≡ pos o → x ≡ o
+signed-positive x o e = go (ltb x signBit) e
+  where
+    go : (b : Bool) → cond b (pos x) (negsuc (minusOne - x)) ≡ pos o → x ≡ o
+    go true q = cc
+    go false q = absurd (let z : _≡_ {A = ℕ} 0 1 = cc in omega arith)
+
+extent-back : (extent long : ℕ) → lengthIs (extentOf extent) long ≡ true → (extent ≡ minusOne) ⊎ (extent ≡ long)
+unfolding extentOf lengthIs
+extent-back extent long e = go (eqb extent minusOne) refl e
+  where
+    go : (b : Bool) → eqb extent minusOne ≡ b → lengthIs (cond b AsLong (Exactly extent)) long ≡ true → (extent ≡ minusOne) ⊎ (extent ≡ long)
+    go true q f = inl (eqb-true extent minusOne q)
+    go false q f = inr (sym (eqb-true long extent f))
+
+bitmap-some : {rows bytes : List ℕ} → roaring.Bitmap rows bytes → 1 ≤ length bytes
+bitmap-some (roaring.plain-bitmap cs h e f) = omega arith
+bitmap-some (roaring.flagged-bitmap cs h h′ f) = omega arith
+
+-- a bitmap that was placed: it was measured, none of its rows was set, and they are marked
+bitmap-back : (extent : Extent) (n : ℕ) (bytes f f′ : List ℕ) → placeBitmap extent n bytes f ≡ ok f′
+    → (b : Parsed) × (measured extent n bytes ≡ ok b) × (anySet f (b .rows) ≡ false) × (f′ ≡ markAll f (b .rows))
+unfolding placeBitmap
+bitmap-back extent n bytes f f′ e =
+    let (b, found, rest) = then-ok (measured extent n bytes) _ f′ e in
+    let (free, last) = check-ok _ _ _ f′ rest in
+    (b, found, not-true _ free, cc)
+
+module _ (n : ℕ) (region f f′ : List ℕ) (e : Entry) (b : Bytes region) (p : e .offset < fourBytes) (x : e .extent < fourBytes) where
+  single-is-placed : (r : ℕ) → signed32 (e .offset) ≡ negsuc r → placeAt (negsuc r) (e .extent) n region f ≡ ok f′ → EntryPlaced n region f (r ∷ []) e × (f′ ≡ markAll f (r ∷ []))
+  unfolding placeAt anySet markAll
+  single-is-placed r s q =
+      let h = check-ok _ _ _ f′ q in
+      let k = check-ok _ _ _ f′ (h .1) in
+      let m = signed-negative (e .offset) r p s in
+      let g : f′ ≡ mark f r = cc in (
+        record {
+          placed = single r refl (m .0) (m .1) x;
+          rising = (omega arith, ltb-true r n (h .0), tt);
+          free = rw (not-true (bit f r) (k .0));
+        },
+        g,
+      )
+
+  bitmap-placed : (o : ℕ) (rows bytes rest : List ℕ) → e .offset ≡ o → drop o region ≡ bytes ++ rest → roaring.Bitmap rows bytes
+      → lengthIs (extentOf (e .extent)) (length bytes) ≡ true → EntryRows region rows e
+  bitmap-placed o rows bytes rest s d m g =
+      let k = simp (length-drop, length-append) at (ap length d) in
+      let i : o ≤ length region = omega (arith, bitmap-some m) in
+      bitmap (take o region) bytes rest (sym (take-append-drop o region) ∙ ap (λ (y : List ℕ). take o region ++ y) d) m
+      (s ∙ sym (length-take-le o region i)) (extent-back (e .extent) (length bytes) g)
+
+  bitmap-is-placed : (o : ℕ) → signed32 (e .offset) ≡ pos o → placeAt (pos o) (e .extent) n region f ≡ ok f′ → EntryPlaced n region f (rowsFor (pos o) region) e × (f′ ≡ markAll f (rowsFor (pos o) region))
+  unfolding placeAt rowsFor rowsGot
+  bitmap-is-placed o s q =
+      let (b′, measured, free, marked) = bitmap-back (extentOf (e .extent)) n (drop o region) f f′ q in
+      let (found, fit, below) = measured-back (extentOf (e .extent)) n (drop o region) b′ measured in
+      let (bytes, m, l, d) = read-was-laid-out (drop o region) b′ (bytes-drop o region b) found in
+      rw found (
+        record {
+          placed = bitmap-placed o (b′ .rows) bytes (b′ .behind) (signed-positive (e .offset) o s) d m (rw l at fit);
+          rising = rising-within 0 fourBytes n (b′ .rows) (bitmap-rising m) below;
+          free = free;
+        },
+        marked,
+      )
+
+  placed-at : (z : ℤ) → signed32 (e .offset) ≡ z → placeAt z (e .extent) n region f ≡ ok f′ → EntryPlaced n region f (rowsFor z region) e × (f′ ≡ markAll f (rowsFor z region))
+  unfolding rowsFor
+  placed-at (negsuc r) s q = single-is-placed r s q
+  placed-at (pos o) s q = bitmap-is-placed o s q
+
+  pub entry-placed : placeEntry n region f e ≡ ok f′ → EntryPlaced n region f (rowsAt region e) e × (f′ ≡ markAll f (rowsAt region e))
+  unfolding placeEntry rowsAt
+  entry-placed q = placed-at (signed32 (e .offset)) refl q
+
+-- ---- the audit, taken apart
+
+-- what is said of entries that were read and placed, with every row of n set in the end
+pub record AllRowsPlaced (field : List ℕ) (d : Dictionary) : Type 0 where
+  pub room : size (d .rows) ≤ length field
+  pub full : List ℕ
+  pub placed : placeEntries (d .rows) (d .region) (d .entries) (cleared (d .rows) field) ≡ ok full
+  pub counted : count full (d .rows) ≡ d .rows
+
+pub record AuditPassed (t : ℕ) (body field : List ℕ) (n : ℕ) : Type 0 where
+  pub known : t < 12
+  pub short : length body ≤ limit
+  pub read : Dictionary
+  pub is : dictionary t body ≡ ok read
+  pub filled : AllRowsPlaced field read
+  pub rows : read .rows ≡ n
+
+audited-back : (field : List ℕ) (d : Dictionary) (n : ℕ) → audited d (cleared (d .rows) field) ≡ ok n → size (d .rows) ≤ length field → AllRowsPlaced field d × (d .rows ≡ n)
+unfolding audited
+audited-back field d n e h =
+    let (full, placed, rest) = then-ok _ _ n e in
+    let (counted, last) = check-ok _ _ _ n rest in
+    (record { room = h; full = full; placed = placed; counted = eqb-true _ _ counted }, cc)
+
+prepared-back : (t : ℕ) (body field : List ℕ) (d : Dictionary) → prepared t body field ≡ ok d
+    → (t < 12) × (length body ≤ limit) × (dictionary t body ≡ ok d) × (size (d .rows) ≤ length field)
+unfolding prepared roomFor
+prepared-back t body field d e =
+    let (short, typed) = check-ok _ _ _ d e in
+    let (known, both) = check-ok _ _ _ d typed in
+    let (x, is, room) = then-ok (dictionary t body) (roomFor field) d both in
+    let (fits, same) = check-ok _ _ _ d room in
+    let q : x ≡ d = cc in
+    (ltb-true t 12 known, leb-true (length body) limit short, is ∙ ap ok q, rw q at (leb-true (size (x .rows)) (length field) fits))
+
+pub audit-passed : (t : ℕ) (body field : List ℕ) (n : ℕ) → audit t body field ≡ ok n → AuditPassed t body field n
+unfolding audit
+audit-passed t body field n e =
+    let (d, first, last) = then-ok (prepared t body field) (λ d. audited d (cleared (d .rows) field)) n e in
+    let (known, short, is, room) = prepared-back t body field d first in
+    let (filled, rows) = audited-back field d n last room in
+    record { known = known; short = short; read = d; is = is; filled = filled; rows = rows }
+
+-- ---- a question that was answered, taken apart
+
+pub asked-back : (t q : ℕ) (literal body : List ℕ) (ls : List (List ℕ)) → wellFormed t q literal body ≡ ok ls
+    → (length body ≤ limit) × (t < 12) × (q < questions) × (literals t 1024 [] literal ≡ ok ls) × (takes q (length ls) ≡ true)
+unfolding wellFormed
+asked-back t q literal body ls e =
+    let (short, names) = check-ok _ _ _ ls e in
+    let (known, both) = check-ok _ _ _ ls names in
+    let (ls′, read, number) = then-ok _ _ ls both in
+    let (takes, same) = check-ok _ _ _ ls number in
+    let i : ls′ ≡ ls = cc in
+    let s = and-both _ _ short in
+    let k = and-both _ _ known in
+    (leb-true (length body) limit (s .0), ltb-true t 12 (k .0), ltb-true q questions (k .1), read ∙ ap ok i, rw i at takes)
+
+audit-joined : (t : ℕ) (body field : List ℕ) (d : Dictionary) (n : ℕ) → prepared t body field ≡ ok d → audited d (cleared (d .rows) field) ≡ ok n → audit t body field ≡ ok n
+unfolding audit andThen
+audit-joined t body field d n x y = rw x y
+
+pub ask-parts : (t q : ℕ) (literal body field : List ℕ) (a : Answer) → ask t q literal body field ≡ ok a
+    → (ls : List (List ℕ)) × (n : ℕ) × (wellFormed t q literal body ≡ ok ls) × (audit t body field ≡ ok n)
+unfolding ask auditedAnswer
+ask-parts t q literal body field a e =
+    let (ls, first, rest) = then-ok (wellFormed t q literal body) _ a e in
+    let (d, second, more) = then-ok (prepared t body field) _ a rest in
+    let (n, third, last) = then-ok (audited d (cleared (d .rows) field)) _ a more in
+    (ls, n, first, audit-joined t body field d n second third)

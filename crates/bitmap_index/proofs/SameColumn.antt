@@ -1,0 +1,103 @@
+-- Questions tell columns apart: IS NULL chooses null rows alone, and EQUAL the rows of one value alone. So two columns of which the scan answers every
+-- well-formed question alike are the same.
+use Prim.Native.Nat.{ℕ, zero, suc, _<_}
+use mathlib.Core.Path.{_≡_, refl, sym, ap, _∙_}
+use mathlib.Core.Bool.{Bool, true, false, _||_}
+use mathlib.Core.List.{List, [], _∷_, _++_}
+use native.Mathlib.Omega.{arith}
+use lib.ListN.{length, getD, replicate, length-replicate, drop, take}
+use lib.Seq.{ext-getD, take-at}
+use Rattle.row_field.specs.Meaning.{size, bit}
+use Rattle.row_field.proofs.Marks.{length-markAll, bit-markAll}
+use Rattle.row_field.proofs.Laws.{bit-zeros}
+use Rattle.numbers.specs.Meaning.{same}
+use Rattle.stored_value.specs.Meaning.{Cell, null, value, Value, listed}
+use Rattle.refusal.specs.declared.Refusal.{Refusal}
+use Rattle.refusal.specs.Reading.{Out, ok}
+use Rattle.numbers.proofs.SameBytes.{same-refl, same→eq}
+use Rattle.bitmap_index.specs.Meaning.{Cells, Column, chosen, takes, Question, scan}
+use Rattle.bitmap_index.specs.Claims.{AnswersAsScan}
+use Rattle.bitmap_index.proofs.Rows.{rowsWhere, passes, member-rows}
+use Rattle.bitmap_index.proofs.ScanAnswers.{scanned}
+
+-- the cell of row r; null past the end
+abbrev pub cellAt : List Cell → ℕ → Cell
+cellAt cells r = getD cells r null
+
+pub passes-at : (p : Cell → Bool) (r : ℕ) (cells : List Cell) → r < length cells → passes p r cells ≡ p (cellAt cells r)
+passes-at p r [] h = absurd (omega arith)
+passes-at p zero (c ∷ cells) h = refl
+passes-at p (suc r) (c ∷ cells) h = passes-at p r cells (omega arith)
+
+module _ (q : ℕ) (ls : List (List ℕ)) (cells : List Cell) where
+  scan-length : length (scan q ls cells .field) ≡ size (length cells)
+  scan-length = rw (scanned q ls cells) (length-markAll (replicate (size (length cells)) 0) (rowsWhere (chosen q ls) 0 cells) ∙ length-replicate (size (length cells)) 0)
+
+  -- the scan sets the bit of a row whose cell the question chooses
+  scan-row : (r : ℕ) → r < length cells → bit (scan q ls cells .field) r ≡ chosen q ls (cellAt cells r)
+  scan-row r h =
+      let l = length-replicate {A = ℕ} (size (length cells)) 0 in
+      rw (scanned q ls cells)
+      (bit-markAll (replicate (size (length cells)) 0) (rowsWhere (chosen q ls) 0 cells) r (omega arith)
+      ∙ rw (bit-zeros (size (length cells)) r) (member-rows (chosen q ls) r cells ∙ passes-at (chosen q ls) r cells h))
+
+-- null, or a value of type t
+abbrev pub Typed : ℕ → Cell → Type 0
+Typed t null = Unit {0}
+Typed t (value v) = Value t v
+
+cell-typed : (t r : ℕ) (cells : List Cell) → Cells t cells → Typed t (cellAt cells r)
+cell-typed t r [] h = tt
+cell-typed t zero (null ∷ cells) h = tt
+cell-typed t zero (value v ∷ cells) h = h .0
+cell-typed t (suc r) (null ∷ cells) h = cell-typed t r cells h
+cell-typed t (suc r) (value v ∷ cells) h = cell-typed t r cells (h .1)
+
+or-first : (a : Bool) → a || false ≡ true → a ≡ true
+or-first true e = refl
+or-first false e = e
+
+-- the cells that every question chooses, or does not, as it does c, are c
+cell-told : (t : ℕ) (c d : Cell) → t < 12 → Typed t c → ((q : ℕ) (ls : List (List ℕ)) → Question t q ls → chosen q ls c ≡ chosen q ls d) → c ≡ d
+unfolding chosen listed takes
+cell-told t null null k v h = refl
+cell-told t null (value w) k v h =
+    let e : _≡_ {A = Bool} true false = h 4 [] (k, omega arith, omega arith, tt, refl) in
+    cc
+cell-told t (value v) null k p h =
+    let e : same v v || false ≡ false = h 0 (v ∷ []) (k, omega arith, omega arith, (p, tt), refl) in
+    let g : _≡_ {A = Bool} true false = rw (same-refl v) at e in
+    cc
+cell-told t (value v) (value w) k p h =
+    let e : same v v || false ≡ same w v || false = h 0 (v ∷ []) (k, omega arith, omega arith, (p, tt), refl) in
+    let g : true ≡ same w v || false = rw (same-refl v) at e in
+    sym (ap value (same→eq w v (or-first (same w v) (sym g))))
+
+alike-is-same : (t : ℕ) (cells cells′ : List Cell) → Column t cells → length cells ≡ length cells′
+    → ((q : ℕ) (ls : List (List ℕ)) → Question t q ls → scan q ls cells .field ≡ scan q ls cells′ .field) → cells ≡ cells′
+alike-is-same t cells cells′ c l h =
+    ext-getD null cells cells′ l (λ r i.
+    cell-told t (cellAt cells r) (cellAt cells′ r) (c .0) (cell-typed t r cells (c .1)) (λ q ls g.
+    sym (scan-row q ls cells r i) ∙ ap (λ (f : List ℕ). bit f r) (h q ls g) ∙ scan-row q ls cells′ r (omega arith)))
+
+-- ---- two columns of which one body is answered
+
+-- fronts of one length before the same bytes
+same-front : (xs ys zs : List ℕ) → length xs ≡ length ys → xs ++ zs ≡ ys ++ zs → xs ≡ ys
+same-front xs ys zs l e = sym (take-at xs zs (length xs) refl) ∙ ap (take (length xs)) e ∙ take-at ys zs (length xs) (sym l)
+
+module _ (t : ℕ) (cells cells′ : List Cell) (body field : List ℕ) (a : AnswersAsScan t cells body field) (a′ : AnswersAsScan t cells′ body field) where
+  same-length : length cells ≡ length cells′
+  same-length =
+      let e : _≡_ {A = Out Refusal ℕ} (ok (length cells)) (ok (length cells′)) = sym (a .audited) ∙ a′ .audited in
+      cc
+
+  same-scan : (q : ℕ) (ls : List (List ℕ)) → Question t q ls → scan q ls cells .field ≡ scan q ls cells′ .field
+  same-scan q ls g =
+      let e : scan q ls cells .field ++ drop (size (length cells)) field ≡ scan q ls cells′ .field ++ drop (size (length cells′)) field =
+      sym (a .asked-buffer q ls g) ∙ a′ .asked-buffer q ls g in
+      same-front (scan q ls cells .field) (scan q ls cells′ .field) (drop (size (length cells)) field)
+      (scan-length q ls cells ∙ ap (λ (m : ℕ). size m) same-length ∙ sym (scan-length q ls cells′)) (rw (← same-length) at e)
+
+  pub same-column : Column t cells → cells ≡ cells′
+  same-column c = alike-is-same t cells cells′ c same-length same-scan

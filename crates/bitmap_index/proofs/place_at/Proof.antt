@@ -1,0 +1,39 @@
+-- `place_at` meets its contract: a negative offset's row is -1 less the offset, which fits at the least value too; any other offset is a place.
+use Rattle.bitmap_index.proofs.Offsets.{row-fits, row-cast, place-cast}
+use Rattle.bitmap_index.proofs.PlacingRows.{as-row, as-place}
+use borrow.Author.Needs.{needs}
+use Rattle.bitmap_index.proofs.place_at.Statement.{statement}
+use Rattle.bitmap_index.proofs.place_at.Tie as tie
+
+sub-t9 : tie.Need-sub-t9
+sub-t9 c = row-fits (c .before .before .before .before .args .offset) (c .before .before .before .before .fits .offset) (c .before .if1 .taken)
+
+cast-t10 : tie.Need-cast-t10
+cast-t10 c = row-cast (c .before .before .before .before .args .offset) (c .before .before .before .before .fits .offset) (c .before .if1 .taken)
+
+returns : tie.Need-returns
+returns c =
+    let a = c .before .before .before .before .before .before .before .args in
+    as-row (a .offset) (a .extent) (a .rows) (a .region .now) (a .field .now) (c .before .before .before .before .before .before .before .fits .offset) (c .before .before .before .before .if1 .taken) (c .before .before .place-row .ensures)
+
+cast-t14 : tie.Need-cast-t14
+cast-t14 c = place-cast (c .before .before .before .before .args .offset) (c .before .before .before .before .fits .offset) (c .before .if1 .left)
+
+returns-2 : tie.Need-returns-2
+returns-2 c =
+    let a = c .before .before .before .before .before .before .before .args in
+    as-place (a .offset) (a .extent) (a .rows) (a .region .now) (a .field .now) (c .before .before .before .before .before .before .before .fits .offset) (c .before .before .before .before .if1 .left) (c .before .before .place-bitmap .ensures)
+
+pub place-at-spec : {M : Type 1} → statement M
+place-at-spec =
+    tie.close
+    (tie.spec
+    sub-t9
+    cast-t10
+    (λ c κs. search needs)
+    (λ c. search needs)
+    returns
+    cast-t14
+    (λ c κs. search needs)
+    (λ c. search needs)
+    returns-2)

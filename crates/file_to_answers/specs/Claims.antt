@@ -1,0 +1,40 @@
+-- Demand 3, one claim from file to answers: all versions, cuts and forms at once, and over the scan. A reading that refuses everything does not have it.
+use Prim.Native.Nat.{ℕ, _≤_}
+use mathlib.Core.Path.{_≡_}
+use mathlib.Core.List.{List, []}
+use lib.ListN.{length}
+use Rattle.numbers.specs.Meaning.{beAt, Bytes, joined}
+use Rattle.refusal.specs.Reading.{ok}
+use Rattle.row_field.specs.Meaning.{size}
+use Rattle.stored_value.specs.Meaning.{Cell}
+use Rattle.index_file.specs.Layout.{fileVersion}
+use Rattle.index_file.specs.Reading.{Part, found, find}
+use Rattle.bitmap_index.specs.Meaning.{Question}
+use Rattle.bitmap_index.specs.Claims.{scanAnswer, AnswersAsScan}
+use Rattle.file_to_answers.specs.Layout.{ColumnFile}
+use Rattle.file_to_answers.specs.Reading.{lookedAt, partOf, askFile, askFileBuffer}
+
+-- what is claimed of a column's file: Locate finds a body in it, and of the part that it hands back, with any field that has room, Audit answers the row count
+-- and leaves the field zero, and Ask answers every well-formed question of the type as the scan does, bytes behind the field kept
+pub record FromFileToAnswers (t : ℕ) (cells : List Cell) (column kind bytes : List ℕ) : Type 0 where
+  pub part : Part
+  pub is-found : find bytes column kind ≡ ok (found part)
+  pub answers : (field : List ℕ) → Bytes field → size (length cells) ≤ length field → AnswersAsScan t cells (partOf (find bytes column kind) bytes) field
+
+-- lent as embedded or as file
+abbrev pub Demand3 : Type 0
+Demand3 =
+    (t : ℕ) (cells : List Cell) (column kind embedded file : List ℕ) → ColumnFile t cells column kind (lookedAt embedded file)
+    → FromFileToAnswers t cells column kind (lookedAt embedded file)
+
+-- the same of Locate and Ask in one call
+abbrev pub FileIsAnswered : Type 0
+FileIsAnswered =
+    (t : ℕ) (cells : List Cell) (column kind bytes : List ℕ) → ColumnFile t cells column kind bytes → (field : List ℕ) → Bytes field
+    → size (length cells) ≤ length field → (q : ℕ) (ls : List (List ℕ)) → Question t q ls
+    → (askFile bytes column kind t q (joined ls) field ≡ ok (found (scanAnswer q ls cells field)))
+    × (askFileBuffer bytes column kind t q (joined ls) field ≡ scanAnswer q ls cells field .buffer)
+
+-- of a file with a version other than 1 no part is handed back
+abbrev pub OtherVersionHasNoPart : Type 0
+OtherVersionHasNoPart = (bytes column kind : List ℕ) → (beAt 4 bytes 8 ≡ fileVersion → ⊥) → partOf (find bytes column kind) bytes ≡ []

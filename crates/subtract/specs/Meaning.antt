@@ -1,0 +1,29 @@
+-- A row field without the rows of another (01, "What the library offers", Subtract: "Clears in the first each row set in the second").
+use Prim.Native.Nat.{ℕ, _-_, _/_, _%_, _^_}
+use mathlib.Core.Bool.{cond}
+use mathlib.Core.List.{List, [], _∷_}
+use lib.Bits.{bitAnd}
+use lib.ListN.{length, getD, set}
+use Rattle.row_field.specs.Meaning.{bit, rowsFrom}
+
+-- f with row r not set; a row past the end changes nothing
+unfoldable pub unmark : List ℕ → ℕ → List ℕ
+unmark f r = set f (r / 8) (bitAnd (getD f (r / 8) 0) (255 - 2 ^ (r % 8)))
+
+-- f with no row of rs set
+unfoldable pub without : List ℕ → List ℕ → List ℕ
+without f [] = f
+without f (r ∷ rs) = without (unmark f r) rs
+
+-- those of the rows rs that are set in f
+unfoldable pub setIn : List ℕ → List ℕ → List ℕ
+setIn f [] = []
+setIn f (r ∷ rs) = cond (bit f r) (r ∷ setIn f rs) (setIn f rs)
+
+-- f without the rows below n that are set in g; a bit that stands for no row below n stays
+abbrev pub subtracted : ℕ → List ℕ → List ℕ → List ℕ
+subtracted n f g = without f (rowsFrom g 0 n)
+
+-- how many rows are removed: those below n that are set in both
+abbrev pub removed : ℕ → List ℕ → List ℕ → ℕ
+removed n f g = length (setIn f (rowsFrom g 0 n))
