@@ -1,6 +1,6 @@
 -- Laws of lines, words and numbers, as the loops over them go.
 use Prim.Native.Nat.{ℕ, zero, suc, _+_, _-_, _*_, _%_, _^_, _<_, _≤_}
-use mathlib.Core.Path.{_≡_, refl, ap, sym, _∙_}
+use mathlib.Core.Path.{_≡_, refl, ap, sym}
 use mathlib.Core.Bool.{Bool, true, false, cond}
 use mathlib.Core.List.{List, [], _∷_}
 use native.Mathlib.Numerals.{add-one}
@@ -9,7 +9,7 @@ use lib.Dec.{eqb}
 use lib.ListN.{length, take, drop, getD, length-take, length-drop, drop-of-length-le}
 use lib.Seq.{drop-cons, take-all}
 use borrow.Author.Tests.{eq-eqb, ne-eqb}
-use Rattle.case_lines.specs.Meaning.{upTo, past, fromWord, decimalFrom}
+use Rattle.case_lines.specs.Meaning.{upTo, past, fromWord, tenth, decimalFrom}
 
 -- as many bytes as stand before the first `stop` are those, and are no more than all
 pub take-upTo : (stop : ℕ) (s : List ℕ) → take (length (upTo stop s)) s ≡ upTo stop s
@@ -59,7 +59,7 @@ module _ (s : List ℕ) (i : ℕ) where
   pub fromWord-done : (k : ℕ) → length s ≤ i → drop i s ≡ fromWord k (drop i s)
   fromWord-done k h = rw (drop-of-length-le s h) (sym (past-none k))
 
-  pub decimal-next : (n : ℕ) → i < length s → decimalFrom ((n % 1844674407370955162 * 10 + getD s i 0 % 16) % 2 ^ 64) (drop (i + 1) s) ≡ decimalFrom n (drop i s)
+  pub decimal-next : (n : ℕ) → i < length s → decimalFrom ((n % tenth * 10 + getD s i 0 % 16) % 2 ^ 64) (drop (i + 1) s) ≡ decimalFrom n (drop i s)
   unfolding decimalFrom
   decimal-next n h = rw (add-one, drop-cons s i 0 h) refl
 

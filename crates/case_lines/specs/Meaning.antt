@@ -22,10 +22,14 @@ fromWord (suc k) line = fromWord k (past 32 line)
 unfoldable pub wordOf : ℕ → List ℕ → List ℕ
 wordOf k line = upTo 32 (fromWord k line)
 
+-- ten times a number below this fits 64 bits
+abbrev pub tenth : ℕ
+tenth = 1844674407370955162
+
 -- the number that decimal digits say behind those of n. One that 64 bits don't hold is some other
 unfoldable pub decimalFrom : ℕ → List ℕ → ℕ
 decimalFrom n [] = n
-decimalFrom n (b ∷ s) = decimalFrom ((n % 1844674407370955162 * 10 + b % 16) % 2 ^ 64) s
+decimalFrom n (b ∷ s) = decimalFrom ((n % tenth * 10 + b % 16) % 2 ^ 64) s
 
 -- the number that word k of a line is
 unfoldable pub numberOf : ℕ → List ℕ → ℕ

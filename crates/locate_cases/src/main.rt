@@ -1,10 +1,11 @@
 // Asks for a column and a kind in the index files that the file `cases` lays out (see `case_lines`), with the given bytes as the embedded ones:
-//   find   COLUMN KIND: prints what `find` says of the file, the number that Locate answers, and the part that it hands back
+//   find   COLUMN KIND: prints what `find` says, the number that Locate answers, and the part that it hands back
 //   cuts   COLUMN KIND: the same of each proper prefix of the file
 //   each   COLUMN KIND AT COUNT: the same of the file with each number below COUNT as its byte AT
 //   ask    COLUMN KIND TYPE QUESTION LITERALS: asks the file in a buffer of two bytes A5, and prints the answer and the buffer
 // A name is a word: `find  k` asks for the empty column, `find s` for the empty kind.
-use file_to_answers::Told;
+use bitmap_index::Answered;
+use file_to_answers::FileAnswer;
 use index_file::Located;
 use numbers::Position;
 
@@ -20,7 +21,7 @@ fn say_found(found: Located) {
 }
 
 fn find<'a>(embedded: &'a [u8], file: &'a [u8], column: &[u8], kind: &[u8]) {
-    say_found(index_file::find(file, column, kind));
+    say_found(file_to_answers::find(embedded, file, column, kind));
     let mut answer = 99u8;
     let part = file_to_answers::locate(embedded, file, column, kind, &mut answer);
     case_lines::say_number(b"; answer ", answer as u64);
@@ -47,12 +48,18 @@ fn each<'a>(embedded: &'a [u8], file: &'a [u8], column: &[u8], kind: &[u8], line
     }
 }
 
-fn say_told(told: Told) {
-    match told {
-        Told::Absent => case_lines::say(b": absent"),
-        Told::Refused(number) => case_lines::say_number(b": refused ", number as u64),
-        Told::Skip => case_lines::say(b": skip"),
-        Told::Keep(n) => case_lines::say_number(b": keep ", n),
+fn say_answered(answer: Answered) {
+    match answer {
+        Answered::Refused(why) => case_lines::say_refused(why),
+        Answered::Skip => case_lines::say(b": skip"),
+        Answered::Keep(n) => case_lines::say_number(b": keep ", n),
+    }
+}
+
+fn say_answer(answer: FileAnswer) {
+    match answer {
+        FileAnswer::Absent => case_lines::say(b": absent"),
+        FileAnswer::Answered(a) => say_answered(a),
     }
 }
 
@@ -63,7 +70,7 @@ fn ask<'a>(embedded: &'a [u8], file: &'a [u8], column: &[u8], kind: &[u8], line:
     let t = case_lines::number32(line, 3);
     let question = case_lines::number32(line, 4);
     let mut field = [0xA5u8; 2];
-    say_told(file_to_answers::ask_file(
+    say_answer(file_to_answers::ask_file(
         embedded,
         file,
         column,

@@ -1,5 +1,5 @@
 -- `push_all` meets its contract. The measure is what is left of the bytes.
-use Prim.Native.Nat.{_+_, _-_, _≤_}
+use Prim.Native.Nat.{_-_, _≤_, max}
 use mathlib.Core.Path.{_≡_}
 use native.Mathlib.Omega.{arith}
 use lib.ListN.{length}
@@ -7,7 +7,7 @@ use Rattle.case_lines.proofs.push_all.Statement.{statement}
 use Rattle.case_lines.proofs.push_all.Tie as tie
 
 abbrev Inv-loop : tie.InvT-loop
-Inv-loop bytes₀ n more n₀ i₀ i-end bytes n' i = (i ≤ i-end) × (i-end ≡ length more) × (length bytes ≡ length bytes₀) × (n' ≤ n + (length bytes₀ - n))
+Inv-loop bytes₀ n more n₀ i₀ i-end bytes n' i = (i ≤ i-end) × (i-end ≡ length more) × (length bytes ≡ length bytes₀) × (n' ≤ max n (length bytes₀))
 
 abbrev μ-loop : tie.MeasureT-loop
 μ-loop bytes₀ n more n₀ i₀ i-end bytes n' i = i-end - i
