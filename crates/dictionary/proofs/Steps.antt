@@ -8,7 +8,7 @@ use lib.Dec.{eqb}
 use lib.ListN.{length, take, drop, length-append, length-drop}
 use lib.Seq.{drop-drop}
 use borrow.Author.Tests.{ne-eqb}
-use Rattle.numbers.specs.Meaning.{big, beAt, number, same, minusOne}
+use Rattle.numbers.specs.Meaning.{big, beAt, number, same, minusOne, position}
 use Rattle.numbers.proofs.Laws.{number-at, number-short, numberAt-drop}
 use Rattle.refusal.specs.declared.Refusal.{Refusal}
 use Rattle.refusal.specs.declared.Refusal.the-variants.{Short, Dict}
@@ -23,7 +23,7 @@ use Rattle.stored_value.specs.Reading.{valueSize, valueOf}
 use Rattle.dictionary.specs.declared.ValueEnd.{ValueEnd}
 use Rattle.dictionary.specs.Layout.{Entry, someHas}
 use Rattle.dictionary.specs.Reading.{entriesOne}
-use Rattle.dictionary.specs.Promises.{AfterCount, tail, entryOf, position, EntriesFrom}
+use Rattle.dictionary.specs.Promises.{AfterCount, tail, entryOf, EntriesFrom}
 use Rattle.dictionary.specs.Promises.{ValueAt}
 
 -- ---- a value, as `size` answers it

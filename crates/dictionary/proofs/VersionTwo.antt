@@ -8,7 +8,7 @@ use lib.Dec.{eqb, ltb, leb}
 use lib.ListN.{length, take, drop, length-append, length-drop}
 use lib.Seq.{drop-drop}
 use borrow.Author.Tests.{leb-true, leb-false, le-leb, lt-leb, lt-ltb, le-ltb, eq-eqb, ne-eqb}
-use Rattle.numbers.specs.Meaning.{big, beAt, number, signBit}
+use Rattle.numbers.specs.Meaning.{big, beAt, number, signBit, position}
 use Rattle.numbers.proofs.Laws.{numberAt-drop}
 use Rattle.refusal.specs.declared.Refusal.{Refusal}
 use Rattle.refusal.specs.declared.Refusal.the-variants.{Short, Dict}
@@ -26,7 +26,7 @@ use Rattle.dictionary.specs.declared.AllEntries.{AllEntries}
 use Rattle.dictionary.specs.declared.ValueEnd.{ValueEnd}
 use Rattle.dictionary.specs.Layout.{Entry, mostBlocks}
 use Rattle.dictionary.specs.Reading.{Dictionary, Listing, listings, past, isDue, entriesTwo, behind, blocksOf, blocked}
-use Rattle.dictionary.specs.Promises.{AfterBlock, AfterListings, AfterEntries, entryOf, position, cursor, EntriesFrom, ValueAt, CountAt, ListingsFrom, DirectoryAt, bytesAt, cellAt, BlockEntriesAt, BlockAt, BlocksAt, AllEntriesAt}
+use Rattle.dictionary.specs.Promises.{AfterBlock, AfterListings, AfterEntries, entryOf, cursor, EntriesFrom, ValueAt, CountAt, ListingsFrom, DirectoryAt, bytesAt, cellAt, BlockEntriesAt, BlockAt, BlocksAt, AllEntriesAt}
 use Rattle.dictionary.proofs.Steps.{offset-behind, drop-past, value-ok, value-refused, word-at, word-short, stand-cons, stand-opening}
 
 -- ---- the directory: i of the n listings from `start` on are read, and `rest` is left

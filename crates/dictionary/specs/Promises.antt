@@ -9,7 +9,7 @@ use lib.ListN.{length, take, drop, getD}
 use mir.Syntax.{w32}
 use mir.Val.{ofZ}
 use Rattle.numbers.specs.declared.Position.{Position}
-use Rattle.numbers.specs.Meaning.{beAt, signed32, signBit, minusOne}
+use Rattle.numbers.specs.Meaning.{beAt, signed32, signBit, minusOne, fourBytes, position}
 use Rattle.refusal.specs.Meaning.{numberOf}
 use Rattle.refusal.specs.Reading.{Out, refuse, ok, numbersOf}
 use Rattle.refusal.specs.declared.Refusal.{Refusal}
@@ -119,9 +119,6 @@ pub record ReadsDictionary (t : ℕ) (s : List ℕ) (r : Checked) : Type 0 where
 
 -- ---- `next`: the entry at a cursor of any bytes
 
-abbrev pub position : ℕ → Position
-position p = record { 0 = p }
-
 abbrev pub cursor : ℕ → ℕ → Cursor
 cursor p left = record { at = position p; left = left }
 
@@ -196,7 +193,7 @@ CountAt most s at (Count.Is n) =
 
 -- an offset at a position
 abbrev pub OffsetAt : List ℕ → ℕ → ℤ → Type 0
-OffsetAt s at z = (z ≡ signed32 (beAt 4 s at)) × (beAt 4 s at < 4294967296)
+OffsetAt s at z = (z ≡ signed32 (beAt 4 s at)) × (beAt 4 s at < fourBytes)
 
 -- null's entry, if there is one, at a position
 abbrev pub NullAt : Bool → Bool → List ℕ → ℕ → Null → Type 0
