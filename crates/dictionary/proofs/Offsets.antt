@@ -8,27 +8,27 @@ use mir.Syntax.{w32}
 use mir.Val.{SFits, toZ, ofZ}
 use mir.Facts.{toZ-ofZ, ofZ-toZ}
 use borrow.Author.Tests.{lt-ltb, le-ltb}
-use Rattle.numbers.specs.Meaning.{signed32}
+use Rattle.numbers.specs.Meaning.{signed32, signBit, minusOne}
 use Rattle.dictionary.specs.Promises.{pattern}
 
 pub signed-fits : (x : ℕ) → x < 4294967296 → SFits w32 (signed32 x)
-signed-fits x h = go (decLt x 2147483648)
+signed-fits x h = go (decLt x signBit)
   where
-    go : Dec (x < 2147483648) → SFits w32 (signed32 x)
-    go (yes l) = rw (lt-ltb x 2147483648 l) (record { sfits = l })
+    go : Dec (x < signBit) → SFits w32 (signed32 x)
+    go (yes l) = rw (lt-ltb x signBit l) (record { sfits = l })
     go (no l) =
-        let g : 4294967295 - x < 2147483648 = omega arith in
-        rw (le-ltb x 2147483648 (omega arith)) (record { sfits = g })
+        let g : minusOne - x < signBit = omega arith in
+        rw (le-ltb x signBit (omega arith)) (record { sfits = g })
 
 -- the language's own reading of 32 bits is this one
 pub read-signed : (x : ℕ) → toZ w32 x ≡ signed32 x
-read-signed x = go (decLt x 2147483648)
+read-signed x = go (decLt x signBit)
   where
-    go : Dec (x < 2147483648) → toZ w32 x ≡ signed32 x
-    go (yes l) = rw (lt-ltb x 2147483648 l)
+    go : Dec (x < signBit) → toZ w32 x ≡ signed32 x
+    go (yes l) = rw (lt-ltb x signBit l)
     go (no l) =
-        let e : 4294967296 - suc x ≡ 4294967295 - x = omega arith in
-        rw (le-ltb x 2147483648 (omega arith)) (ap negsuc e)
+        let e : 4294967296 - suc x ≡ minusOne - x = omega arith in
+        rw (le-ltb x signBit (omega arith)) (ap negsuc e)
 
 pub pattern-signed : (x : ℕ) → x < 4294967296 → pattern (signed32 x) ≡ x
 pattern-signed x h = ap (ofZ w32) (sym (read-signed x)) ∙ ofZ-toZ {w = w32} {n = x} (record { fits = h })

@@ -20,19 +20,19 @@ use Rattle.stored_value.proofs.Steps.{size-refused, size-bytes}
 use Rattle.refusal.specs.Reading.{Out, refuse, ok, check, andThen}
 use Rattle.stored_value.specs.Promises.{SizePromise}
 use Rattle.stored_value.specs.Reading.{valueSize, valueOf}
-use Rattle.dictionary.specs.declared.Value.{Value}
+use Rattle.dictionary.specs.declared.ValueEnd.{ValueEnd}
 use Rattle.dictionary.specs.Layout.{Entry, someHas}
-use Rattle.dictionary.specs.Reading.{Dictionary, entriesOne}
-use Rattle.dictionary.specs.Promises.{tail, entryOf, position, EntriesFrom}
+use Rattle.dictionary.specs.Reading.{entriesOne}
+use Rattle.dictionary.specs.Promises.{AfterCount, tail, entryOf, position, EntriesFrom}
 use Rattle.dictionary.specs.Promises.{ValueAt}
 
 -- ---- a value, as `size` answers it
 
 module _ (t : ℕ) (s : List ℕ) (at : ℕ) {x : Sized} (e : SizePromise (valueSize Short Dict t (drop at s)) x) where
-  pub value-none : {r : Refusal} → x ≡ Sized.Refused r → ValueAt t s at (Value.Refused r)
+  pub value-none : {r : Refusal} → x ≡ Sized.Refused r → ValueAt t s at (ValueEnd.Refused r)
   value-none {r} b = size-refused (valueSize Short Dict t (drop at s)) x r e b
 
-  pub value-to : {n : ℕ} → x ≡ Bytes n → ValueAt t s at (Value.To (position (at + n)))
+  pub value-to : {n : ℕ} → x ≡ Bytes n → ValueAt t s at (ValueEnd.To (position (at + n)))
   value-to {n} b =
       let o = size-bytes (valueSize Short Dict t (drop at s)) x n e b in
       let w = value-read Short Dict t (drop at s) n o in
@@ -51,7 +51,7 @@ module _ {A : Type 0} (t : ℕ) (s : List ℕ) (f : List ℕ → List ℕ → Ou
 
 -- ---- a number of w bytes behind k others
 
-module _ (w : ℕ) (s : List ℕ) (k : ℕ) (f : ℕ → List ℕ → Out Refusal Dictionary) where
+module _ (w : ℕ) (s : List ℕ) (k : ℕ) (f : AfterCount) where
   pub word-at : k + w ≤ length s → number big w (refuse Short) (drop k s) f ≡ f (beAt w s k) (drop (k + w) s)
   word-at h = number-at big w (refuse Short) s k f h
 

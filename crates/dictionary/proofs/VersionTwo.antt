@@ -23,10 +23,10 @@ use Rattle.dictionary.specs.declared.Directory.{Directory}
 use Rattle.dictionary.specs.declared.Block.{Block}
 use Rattle.dictionary.specs.declared.Blocks.{Blocks}
 use Rattle.dictionary.specs.declared.AllEntries.{AllEntries}
-use Rattle.dictionary.specs.declared.Value.{Value}
+use Rattle.dictionary.specs.declared.ValueEnd.{ValueEnd}
 use Rattle.dictionary.specs.Layout.{Entry, mostBlocks}
 use Rattle.dictionary.specs.Reading.{Dictionary, Listing, listings, past, isDue, entriesTwo, behind, blocksOf, blocked}
-use Rattle.dictionary.specs.Promises.{entryOf, position, cursor, EntriesFrom, ValueAt, CountAt, Listed, DirectoryAt, bytesAt, cellAt, BlockEntriesAt, BlockAt, BlocksAt, AllEntriesAt}
+use Rattle.dictionary.specs.Promises.{AfterBlock, AfterListings, AfterEntries, entryOf, position, cursor, EntriesFrom, ValueAt, CountAt, ListingsFrom, DirectoryAt, bytesAt, cellAt, BlockEntriesAt, BlockAt, BlocksAt, AllEntriesAt}
 use Rattle.dictionary.proofs.Steps.{offset-behind, drop-past, value-ok, value-refused, word-at, word-short, stand-cons, stand-opening}
 
 -- ---- the directory: i of the n listings from `start` on are read, and `rest` is left
@@ -36,48 +36,48 @@ listing k s = record { first = take k s; at = beAt 4 s k }
 
 pub record Listings (t n : ℕ) (start : List ℕ) (i : ℕ) (rest : List ℕ) : Type 0 where
   pub ds : List Listing
-  pub so : (f : List Listing → List ℕ → Out Refusal Dictionary) → listings t n [] start f ≡ listings t (n - i) ds rest f
+  pub so : (f : AfterListings) → listings t n [] start f ≡ listings t (n - i) ds rest f
   pub count : length ds ≡ i
-  pub stand : (more : List Listing) → Listed t rest more → Listed t start (ds ++ more)
+  pub stand : (more : List Listing) → ListingsFrom t rest more → ListingsFrom t start (ds ++ more)
 
 pub listings-first : (t n : ℕ) (s : List ℕ) → Listings t n s 0 s
 listings-first t n s = let z : n - 0 ≡ n = omega arith in record { ds = []; so = λ f. rw z; count = refl; stand = λ more h. h }
 
-listings-turn : (t m : ℕ) (ds : List Listing) (s : List ℕ) (f : List Listing → List ℕ → Out Refusal Dictionary) (k : ℕ) → 0 < m → valueSize Short Dict t s ≡ ok k
+listings-turn : (t m : ℕ) (ds : List Listing) (s : List ℕ) (f : AfterListings) (k : ℕ) → 0 < m → valueSize Short Dict t s ≡ ok k
     → listings t m ds s f ≡ number big 4 (refuse Short) (drop k s) (λ at s'. listings t (m - 1) (ds ++ (record { first = take k s; at = at } ∷ [])) s' f)
 unfolding listings
 listings-turn t zero ds s f k z e = absurd (omega arith)
 listings-turn t (suc m) ds s f k z e = let c : suc m - 1 ≡ m = omega arith in simp c (value-ok t s _ k e)
 
-listings-broken : (t m : ℕ) (ds : List Listing) (s : List ℕ) (f : List Listing → List ℕ → Out Refusal Dictionary) (r : Refusal) → 0 < m → valueSize Short Dict t s ≡ refuse r
+listings-broken : (t m : ℕ) (ds : List Listing) (s : List ℕ) (f : AfterListings) (r : Refusal) → 0 < m → valueSize Short Dict t s ≡ refuse r
     → listings t m ds s f ≡ refuse r
 unfolding listings
 listings-broken t zero ds s f r z e = absurd (omega arith)
 listings-broken t (suc m) ds s f r z e = value-refused t s _ r e
 
 module _ {t n : ℕ} {start : List ℕ} {i : ℕ} {rest : List ℕ} (st : Listings t n start i rest) where
-  pub listings-done : n ≤ i → (f : List Listing → List ℕ → Out Refusal Dictionary) → listings t n [] start f ≡ f (st .ds) rest
+  pub listings-done : n ≤ i → (f : AfterListings) → listings t n [] start f ≡ f (st .ds) rest
   unfolding listings
   listings-done e f = let z : n - i ≡ 0 = omega arith in st .so f ∙ simp z
 
-  pub listings-stand : Listed t start (st .ds)
-  unfolding Listed
+  pub listings-stand : ListingsFrom t start (st .ds)
+  unfolding ListingsFrom
   listings-stand = rw append-nil at (st .stand [] tt)
 
   module _ (lt : i < n) where
-    pub listings-refused : {r : Refusal} → valueSize Short Dict t rest ≡ refuse r → (f : List Listing → List ℕ → Out Refusal Dictionary) → listings t n [] start f ≡ refuse r
+    pub listings-refused : {r : Refusal} → valueSize Short Dict t rest ≡ refuse r → (f : AfterListings) → listings t n [] start f ≡ refuse r
     listings-refused {r} e f = st .so f ∙ listings-broken t (n - i) (st .ds) rest f r (omega arith) e
 
     module _ {k : ℕ} (e : valueSize Short Dict t rest ≡ ok k) where
-      listings-unrolled : (f : List Listing → List ℕ → Out Refusal Dictionary) → listings t n [] start f
+      listings-unrolled : (f : AfterListings) → listings t n [] start f
           ≡ number big 4 (refuse Short) (drop k rest) (λ at s'. listings t (n - i - 1) (st .ds ++ (record { first = take k rest; at = at } ∷ [])) s' f)
       listings-unrolled f = st .so f ∙ listings-turn t (n - i) (st .ds) rest f k (omega arith) e
 
-      pub listings-short : length rest - k < 4 → (f : List Listing → List ℕ → Out Refusal Dictionary) → listings t n [] start f ≡ refuse Short
+      pub listings-short : length rest - k < 4 → (f : AfterListings) → listings t n [] start f ≡ refuse Short
       listings-short h f = listings-unrolled f ∙ word-short 4 rest k _ h
 
       pub listings-next : k + 4 ≤ length rest → Listings t n start (i + 1) (drop (k + 4) rest)
-      unfolding Listed
+      unfolding ListingsFrom
       listings-next h =
           let c : n - i - 1 ≡ n - (i + 1) = omega arith in
           record {
@@ -106,7 +106,7 @@ cell-some s c h = rw (lt-ltb (c .start .0) (c .end .0) h)
 
 pub record InBlock (t n : ℕ) (before due : Cell) (start : List ℕ) (i : ℕ) (b h : Cell) (rest : List ℕ) : Type 0 where
   pub new : List Entry
-  pub so : (es : List Entry) (f : Cell → List Entry → List ℕ → Out Refusal Dictionary) → entriesTwo t n before due es start f ≡ entriesTwo t (n - i) b h (es ++ new) rest f
+  pub so : (es : List Entry) (f : AfterBlock) → entriesTwo t n before due es start f ≡ entriesTwo t (n - i) b h (es ++ new) rest f
   pub count : length new ≡ i
   pub stand : (more : List Entry) → EntriesFrom t true (n - i) rest more → EntriesFrom t true n start (new ++ more)
 
@@ -115,25 +115,25 @@ in-block-first t n before due s =
     let z : n - 0 ≡ n = omega arith in
     record { new = []; so = λ es f. rw (z, append-nil); count = refl; stand = λ more g. rw z at g }
 
-abbrev numbers : (t m k : ℕ) (es : List Entry) (s : List ℕ) (f : Cell → List Entry → List ℕ → Out Refusal Dictionary) → Out Refusal Dictionary
+abbrev numbers : (t m k : ℕ) (es : List Entry) (s : List ℕ) (f : AfterBlock) → Out Refusal Dictionary
 numbers t m k es s f =
     number big 4 (refuse Short) (drop k s) (λ offset s'. number big 4 (refuse Short) s' (λ extent s'.
     entriesTwo t m (value (take k s)) null (es ++ (record { cell = value (take k s); offset = offset; extent = extent } ∷ [])) s' f))
 
-in-block-turn : (t m : ℕ) (b h : Cell) (es : List Entry) (s : List ℕ) (f : Cell → List Entry → List ℕ → Out Refusal Dictionary) (k : ℕ) → 0 < m → valueSize Short Dict t s ≡ ok k
+in-block-turn : (t m : ℕ) (b h : Cell) (es : List Entry) (s : List ℕ) (f : AfterBlock) (k : ℕ) → 0 < m → valueSize Short Dict t s ≡ ok k
     → entriesTwo t m b h es s f ≡ check (past t b (take k s) && isDue h (take k s)) Dict (numbers t (m - 1) k es s f)
 unfolding entriesTwo
 in-block-turn t zero b h es s f k z e = absurd (omega arith)
 in-block-turn t (suc m) b h es s f k z e = let c : suc m - 1 ≡ m = omega arith in simp c (value-ok t s _ k e)
 
-in-block-broken : (t m : ℕ) (b h : Cell) (es : List Entry) (s : List ℕ) (f : Cell → List Entry → List ℕ → Out Refusal Dictionary) (r : Refusal) → 0 < m → valueSize Short Dict t s ≡ refuse r
+in-block-broken : (t m : ℕ) (b h : Cell) (es : List Entry) (s : List ℕ) (f : AfterBlock) (r : Refusal) → 0 < m → valueSize Short Dict t s ≡ refuse r
     → entriesTwo t m b h es s f ≡ refuse r
 unfolding entriesTwo
 in-block-broken t zero b h es s f r z e = absurd (omega arith)
 in-block-broken t (suc m) b h es s f r z e = value-refused t s _ r e
 
 module _ {t n : ℕ} {before due : Cell} {start : List ℕ} {i : ℕ} {b h : Cell} {rest : List ℕ} (st : InBlock t n before due start i b h rest) where
-  pub in-block-done : n ≤ i → (es : List Entry) (f : Cell → List Entry → List ℕ → Out Refusal Dictionary) → entriesTwo t n before due es start f ≡ f b (es ++ st .new) rest
+  pub in-block-done : n ≤ i → (es : List Entry) (f : AfterBlock) → entriesTwo t n before due es start f ≡ f b (es ++ st .new) rest
   unfolding entriesTwo
   in-block-done l es f = let z : n - i ≡ 0 = omega arith in st .so es f ∙ simp z
 
@@ -142,30 +142,30 @@ module _ {t n : ℕ} {before due : Cell} {start : List ℕ} {i : ℕ} {b h : Cel
 
   module _ (lt : i < n) where
     pub in-block-refused : {r : Refusal} → valueSize Short Dict t rest ≡ refuse r
-        → (es : List Entry) (f : Cell → List Entry → List ℕ → Out Refusal Dictionary) → entriesTwo t n before due es start f ≡ refuse r
+        → (es : List Entry) (f : AfterBlock) → entriesTwo t n before due es start f ≡ refuse r
     in-block-refused {r} e es f = st .so es f ∙ in-block-broken t (n - i) b h (es ++ st .new) rest f r (omega arith) e
 
     module _ {k : ℕ} (e : valueSize Short Dict t rest ≡ ok k) where
-      in-block-unrolled : (es : List Entry) (f : Cell → List Entry → List ℕ → Out Refusal Dictionary) → entriesTwo t n before due es start f
+      in-block-unrolled : (es : List Entry) (f : AfterBlock) → entriesTwo t n before due es start f
           ≡ check (past t b (take k rest) && isDue h (take k rest)) Dict (numbers t (n - i - 1) k (es ++ st .new) rest f)
       in-block-unrolled es f = st .so es f ∙ in-block-turn t (n - i) b h (es ++ st .new) rest f k (omega arith) e
 
       pub in-block-low : {x : Bool} → x ≡ past t b (take k rest) → x ≡ false
-          → (es : List Entry) (f : Cell → List Entry → List ℕ → Out Refusal Dictionary) → entriesTwo t n before due es start f ≡ refuse Dict
+          → (es : List Entry) (f : AfterBlock) → entriesTwo t n before due es start f ≡ refuse Dict
       unfolding check
       in-block-low g c es f = in-block-unrolled es f ∙ simp (← g, c)
 
       pub in-block-other : {x y : Bool} → x ≡ past t b (take k rest) → x ≡ true → y ≡ isDue h (take k rest) → y ≡ false
-          → (es : List Entry) (f : Cell → List Entry → List ℕ → Out Refusal Dictionary) → entriesTwo t n before due es start f ≡ refuse Dict
+          → (es : List Entry) (f : AfterBlock) → entriesTwo t n before due es start f ≡ refuse Dict
       unfolding check
       in-block-other g c d m es f = in-block-unrolled es f ∙ simp (← g, c, ← d, m)
 
       module _ {x y : Bool} (g : x ≡ past t b (take k rest)) (higher : x ≡ true) (d : y ≡ isDue h (take k rest)) (listed : y ≡ true) where
-        in-block-admitted : (es : List Entry) (f : Cell → List Entry → List ℕ → Out Refusal Dictionary) → entriesTwo t n before due es start f ≡ numbers t (n - i - 1) k (es ++ st .new) rest f
+        in-block-admitted : (es : List Entry) (f : AfterBlock) → entriesTwo t n before due es start f ≡ numbers t (n - i - 1) k (es ++ st .new) rest f
         unfolding check
         in-block-admitted es f = in-block-unrolled es f ∙ simp (← g, higher, ← d, listed)
 
-        pub in-block-short : length rest - k < 8 → (es : List Entry) (f : Cell → List Entry → List ℕ → Out Refusal Dictionary) → entriesTwo t n before due es start f ≡ refuse Short
+        pub in-block-short : length rest - k < 8 → (es : List Entry) (f : AfterBlock) → entriesTwo t n before due es start f ≡ refuse Short
         in-block-short l es f = in-block-admitted es f ∙ numbers-short (leb (k + 4) (length rest)) refl
           where
             numbers-short : (w : Bool) → leb (k + 4) (length rest) ≡ w → numbers t (n - i - 1) k (es ++ st .new) rest f ≡ refuse Short
@@ -185,7 +185,7 @@ module _ {t n : ℕ} {before due : Cell} {start : List ℕ} {i : ℕ} {b h : Cel
 
 -- the same at the code's positions: the value stands from p to e
 pub in-block-on : {t n : ℕ} {before due : Cell} {start : List ℕ} {i : ℕ} {b h : Cell} (s : List ℕ) (p e : ℕ) → InBlock t n before due start i b h (drop p s) → i < n
-    → ValueAt t s p (Value.To (position e)) → {x y : Bool} → x ≡ past t b (take (e - p) (drop p s)) → x ≡ true → y ≡ isDue h (take (e - p) (drop p s)) → y ≡ true → e + 8 ≤ length s
+    → ValueAt t s p (ValueEnd.To (position e)) → {x y : Bool} → x ≡ past t b (take (e - p) (drop p s)) → x ≡ true → y ≡ isDue h (take (e - p) (drop p s)) → y ≡ true → e + 8 ≤ length s
     → InBlock t n before due start (i + 1) (cellAt s (span p e)) null (drop (e + 8) s)
 in-block-on s p e st lt v g c d m r =
     let l : e - p + 8 ≤ length (drop p s) = simp length-drop (omega arith) in
@@ -193,13 +193,13 @@ in-block-on s p e st lt v g c d m r =
 
 -- ---- a block: its listing stands at q, with a value that ends at e, and the block at p
 
-listed-first : (t : ℕ) (s : List ℕ) (k : ℕ) (d : Listing) (ds : List Listing) → valueSize Short Dict t s ≡ ok k → Listed t s (d ∷ ds)
-    → (d ≡ listing k s) × (k + 4 ≤ length s) × Listed t (drop (k + 4) s) ds
-unfolding Listed
+listed-first : (t : ℕ) (s : List ℕ) (k : ℕ) (d : Listing) (ds : List Listing) → valueSize Short Dict t s ≡ ok k → ListingsFrom t s (d ∷ ds)
+    → (d ≡ listing k s) × (k + 4 ≤ length s) × ListingsFrom t (drop (k + 4) s) ds
+unfolding ListingsFrom
 listed-first t s k d ds e l = let q : l .0 ≡ k = cc (l .1) in (rw q at (l .3), rw q at (l .2), rw q at (l .4))
 
-pub listed-lost : (t : ℕ) (s : List ℕ) (q : ℕ) (r : Refusal) (d : Listing) (ds : List Listing) → ValueAt t s q (Value.Refused r) → Listed t (drop q s) (d ∷ ds) → ⊥
-unfolding Listed
+pub listed-lost : (t : ℕ) (s : List ℕ) (q : ℕ) (r : Refusal) (d : Listing) (ds : List Listing) → ValueAt t s q (ValueEnd.Refused r) → ListingsFrom t (drop q s) (d ∷ ds) → ⊥
+unfolding ListingsFrom
 listed-lost t s q r d ds e l = let z : _≡_ {A = ℕ} 0 1 = cc (l .1) in omega arith
 
 behind-at : (s : List ℕ) (base p : ℕ) → base ≤ p → p ≤ length s → behind (drop base s) (drop p s) ≡ p - base
@@ -210,18 +210,18 @@ behind-at s base p h l = simp length-drop (omega arith)
 pub record AtBlock (t : ℕ) (s : List ℕ) (base q p e : ℕ) (before : Span) (d : Listing) (ds : List Listing) : Type 0 where
   pub from : base ≤ p
   pub to : p ≤ length s
-  pub value : ValueAt t s q (Value.To (position e))
-  pub listed : Listed t (drop q s) (d ∷ ds)
+  pub value : ValueAt t s q (ValueEnd.To (position e))
+  pub listed : ListingsFrom t (drop q s) (d ∷ ds)
 
 module _ {t : ℕ} {s : List ℕ} {base q p e : ℕ} {before : Span} {d : Listing} {ds : List Listing} (here : AtBlock t s base q p e before d ds) where
-  pub block-listed : (e + 4 ≤ length s) × Listed t (drop (e + 4) s) ds
+  pub block-listed : (e + 4 ≤ length s) × ListingsFrom t (drop (e + 4) s) ds
   block-listed =
       let h = listed-first t (drop q s) (e - q) d ds (here .value .0) (here .listed) in
       let r = rw length-drop at (h .1) in
       let v = here .value in
       (omega arith, rw (drop-past s q e 4 (omega arith)) at (h .2))
 
-  module _ (es : List Entry) (f : List Entry → List ℕ → Out Refusal Dictionary) where
+  module _ (es : List Entry) (f : AfterEntries) where
     block-turn : blocksOf t (d ∷ ds) (drop base s) (cellAt s before) es (drop p s) f ≡ check (eqb (beAt 4 s e) (p - base)) Dict
         (number big 4 (refuse Short) (drop p s) (λ n s'. check (leb 1 n && ltb n signBit) Dict
         (entriesTwo t n (cellAt s before) (cellAt s (span q e)) es s' (λ before es s'. blocksOf t ds (drop base s) before es s' f))))
@@ -284,19 +284,19 @@ block-stand t s p es h m c l st =
 
 pub record InBlocks (t : ℕ) (ds : List Listing) (base : List ℕ) (i : ℕ) (dir : List ℕ) (before : Cell) (sum : ℕ) (rest : List ℕ) : Type 0 where
   pub left : List Listing
-  pub listed : Listed t dir left
+  pub listed : ListingsFrom t dir left
   pub count : length left ≡ length ds - i
   pub es : List Entry
-  pub so : (f : List Entry → List ℕ → Out Refusal Dictionary) → blocksOf t ds base null [] base f ≡ blocksOf t left base before es rest f
+  pub so : (f : AfterEntries) → blocksOf t ds base null [] base f ≡ blocksOf t left base before es rest f
   pub total : length es ≡ sum
   pub stand : (more : List Entry) → EntriesFrom t true 0 rest more → EntriesFrom t true 0 base (es ++ more)
 
-pub in-blocks-first : (t : ℕ) (ds : List Listing) (base dir : List ℕ) → Listed t dir ds → InBlocks t ds base 0 dir null 0 base
+pub in-blocks-first : (t : ℕ) (ds : List Listing) (base dir : List ℕ) → ListingsFrom t dir ds → InBlocks t ds base 0 dir null 0 base
 in-blocks-first t ds base dir l = record { left = ds; listed = l; count = omega arith; es = []; so = λ f. refl; total = refl; stand = λ more g. g }
 
 module _ {t : ℕ} {ds : List Listing} {base : List ℕ} {i : ℕ} {dir : List ℕ} {before : Cell} {sum : ℕ} {rest : List ℕ}
     (st : InBlocks t ds base i dir before sum rest) where
-  pub in-blocks-done : length ds ≤ i → (f : List Entry → List ℕ → Out Refusal Dictionary) → blocksOf t ds base null [] base f ≡ f (st .es) rest
+  pub in-blocks-done : length ds ≤ i → (f : AfterEntries) → blocksOf t ds base null [] base f ≡ f (st .es) rest
   unfolding blocksOf
   in-blocks-done h f = st .so f ∙ by (st .left) (omega (arith, st .count))
     where
@@ -310,10 +310,10 @@ module _ {t : ℕ} {ds : List Listing} {base : List ℕ} {i : ℕ} {dir : List �
 
 module _ {t : ℕ} {ds : List Listing} {i sum : ℕ} (s : List ℕ) (base q p : ℕ) (before : Span) (st : InBlocks t ds (drop base s) i (drop q s) (cellAt s before) sum (drop p s)) (lt : i < length ds) where
   pub in-blocks-refused : {r : Refusal} → BlockAt t before s base q p (Block.Refused r)
-      → (f : List Entry → List ℕ → Out Refusal Dictionary) → blocksOf t ds (drop base s) null [] (drop base s) f ≡ refuse r
+      → (f : AfterEntries) → blocksOf t ds (drop base s) null [] (drop base s) f ≡ refuse r
   in-blocks-refused {r} x f = st .so f ∙ by (st .left) (st .listed) (omega (arith, st .count))
     where
-      by : (left : List Listing) → Listed t (drop q s) left → 0 < length left → blocksOf t left (drop base s) (cellAt s before) (st .es) (drop p s) f ≡ refuse r
+      by : (left : List Listing) → ListingsFrom t (drop q s) left → 0 < length left → blocksOf t left (drop base s) (cellAt s before) (st .es) (drop p s) f ≡ refuse r
       by [] l z = absurd (omega arith)
       by (d ∷ left) l z = x d left l (st .es) f
 
@@ -321,8 +321,8 @@ module _ {t : ℕ} {ds : List Listing} {i sum : ℕ} (s : List ℕ) (base q p : 
       → InBlocks t ds (drop base s) (i + 1) (drop listing s) (cellAt s last) (sum + number) (drop next s)
   in-blocks-next listing next number last x = by (st .left) (st .listed) (st .count) (st .so)
     where
-      by : (left : List Listing) → Listed t (drop q s) left → length left ≡ length ds - i
-          → ((f : List Entry → List ℕ → Out Refusal Dictionary) → blocksOf t ds (drop base s) null [] (drop base s) f ≡ blocksOf t left (drop base s) (cellAt s before) (st .es) (drop p s) f)
+      by : (left : List Listing) → ListingsFrom t (drop q s) left → length left ≡ length ds - i
+          → ((f : AfterEntries) → blocksOf t ds (drop base s) null [] (drop base s) f ≡ blocksOf t left (drop base s) (cellAt s before) (st .es) (drop p s) f)
           → InBlocks t ds (drop base s) (i + 1) (drop listing s) (cellAt s last) (sum + number) (drop next s)
       by [] l c so = absurd (omega arith)
       by (d ∷ left) l c so =

@@ -9,9 +9,8 @@ use Rattle.refusal.specs.Meaning.{limit}
 use Rattle.refusal.specs.declared.Refusal.the-variants.{Version, Literal}
 use Rattle.refusal.specs.Reading.{refuse, ok}
 use Rattle.stored_value.specs.Meaning.{types, null}
-use Rattle.dictionary.specs.Layout.{Entry, mostValues1, mostValues2, mostBlocks, NullOnly, someHas, Distinct, NoExtents, body1, Rises, NoneEmpty, body2}
+use Rattle.dictionary.specs.Layout.{Entry, mostValues1, mostValues2, mostBlocks, Patterns, NullOnly, someHas, Distinct, NoExtents, body1, Rises, NoneEmpty, body2}
 use Rattle.dictionary.specs.Reading.{Dictionary, dictionary}
-use Rattle.dictionary.specs.Promises.{Patterns}
 
 -- the bytes s are laid out for the dictionary d, in one of the versions
 pub data LaidOut (t : ℕ) (s : List ℕ) (d : Dictionary) : Type 0 where

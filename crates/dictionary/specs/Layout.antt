@@ -1,8 +1,8 @@
 -- The bytes of a body's dictionary and what lies behind it (01, "Bitmap body"): entries, null's and each value's, in either version. The writer's choices
 -- are the order of entries where it is free, and the cuts into blocks. `region` is 01's body of bitmaps. That offsets and extents are 32-bit patterns
--- follows from the places (`Placed` in bitmap_index) and the body's limit.
+-- follows from where bitmaps may stand (bitmap_index) and the body's limit.
 use mathlib.Core.Path.{_≡_}
-use Prim.Native.Nat.{ℕ, _+_, _≤_}
+use Prim.Native.Nat.{ℕ, _+_, _≤_, _<_}
 use mathlib.Core.Bool.{Bool, true, false, _||_}
 use mathlib.Core.List.{List, [], _∷_, _++_}
 use lib.ListN.{length}
@@ -37,6 +37,11 @@ Valued t (value v) = Value t v
 abbrev pub NullOnly : List Entry → Type 0
 NullOnly [] = Unit {0}
 NullOnly (e ∷ es) = (e .cell ≡ null) × (es ≡ [])
+
+-- both numbers of each entry are 32-bit patterns
+abbrev pub Patterns : List Entry → Type 0
+Patterns [] = Unit {0}
+Patterns (e ∷ es) = (e .offset < 4294967296) × (e .extent < 4294967296) × Patterns es
 
 abbrev pub someHas : Cell → List Entry → Bool
 someHas c [] = false

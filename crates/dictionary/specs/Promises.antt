@@ -21,7 +21,7 @@ use Rattle.dictionary.specs.declared.Summary.{Summary}
 use Rattle.dictionary.specs.declared.Checked.{Checked}
 use Rattle.dictionary.specs.declared.Checked.the-variants.{Found}
 use Rattle.dictionary.specs.declared.EntryAt.{EntryAt}
-use Rattle.dictionary.specs.declared.Value.{Value}
+use Rattle.dictionary.specs.declared.ValueEnd.{ValueEnd}
 use Rattle.dictionary.specs.declared.Count.{Count}
 use Rattle.dictionary.specs.declared.Null.{Null}
 use Rattle.dictionary.specs.declared.Fixed.{Fixed}
@@ -32,7 +32,7 @@ use Rattle.dictionary.specs.declared.Block.{Block}
 use Rattle.dictionary.specs.declared.Blocks.{Blocks}
 use Rattle.dictionary.specs.declared.AllEntries.{AllEntries}
 use Rattle.dictionary.specs.Layout.{Entry, someHas}
-use Rattle.dictionary.specs.Reading.{Dictionary, Listing, counted, nullOf, entriesOne, listings, entriesTwo, blocksOf, blocked, dictionary}
+use Rattle.dictionary.specs.Reading.{Dictionary, Listing, countAtMost, nullOf, entriesOne, listings, entriesTwo, blocksOf, blocked, dictionary}
 
 -- ---- where entries stand
 
@@ -65,11 +65,6 @@ EntriesFrom t version2 left s (e ∷ es) =
 -- the entries es stand one after another at a cursor
 abbrev pub EntriesAt : ℕ → Bool → List ℕ → Cursor → List Entry → Type 0
 EntriesAt t version2 s c es = EntriesFrom t version2 (c .left) (drop (c .at .0) s) es
-
--- both numbers of each entry are 32-bit patterns
-abbrev pub Patterns : List Entry → Type 0
-Patterns [] = Unit {0}
-Patterns (e ∷ es) = (e .offset < 4294967296) × (e .extent < 4294967296) × Patterns es
 
 -- ---- `read`: the dictionary of any bytes
 
@@ -170,12 +165,24 @@ pub record NextAt (t : ℕ) (version2 : Bool) (s : List ℕ) (c : Cursor) (a : E
   pub so : a ≡ nextEntry t version2 s c
   pub first : (e : Entry) (es : List Entry) → EntriesAt t version2 s c (e ∷ es) → IsNext t version2 s a e es
 
--- ---- the private functions: fields
+-- ---- the private functions: what is said for anything that is read behind a count, listings, entries, a block's entries
+
+abbrev pub AfterCount : Type 0
+AfterCount = ℕ → List ℕ → Out Refusal Dictionary
+
+abbrev pub AfterListings : Type 0
+AfterListings = List Listing → List ℕ → Out Refusal Dictionary
+
+abbrev pub AfterEntries : Type 0
+AfterEntries = List Entry → List ℕ → Out Refusal Dictionary
+
+abbrev pub AfterBlock : Type 0
+AfterBlock = Cell → List Entry → List ℕ → Out Refusal Dictionary
 
 -- a value at a position, and where it ends
-abbrev pub ValueAt : ℕ → List ℕ → ℕ → Value → Type 0
-ValueAt t s at (Value.Refused r) = valueSize Short Dict t (drop at s) ≡ refuse r
-ValueAt t s at (Value.To e) = (valueSize Short Dict t (drop at s) ≡ ok (e .0 - at)) × (at < e .0) × (e .0 ≤ length s)
+abbrev pub ValueAt : ℕ → List ℕ → ℕ → ValueEnd → Type 0
+ValueAt t s at (ValueEnd.Refused r) = valueSize Short Dict t (drop at s) ≡ refuse r
+ValueAt t s at (ValueEnd.To e) = (valueSize Short Dict t (drop at s) ≡ ok (e .0 - at)) × (at < e .0) × (e .0 ≤ length s)
 
 -- whether i entries of version 1 that stand at a position have the value v
 abbrev pub HasValueAt : ℕ → ℕ → List ℕ → ℕ → List ℕ → Bool → Type 0
@@ -183,9 +190,9 @@ HasValueAt t i s at v r = (n : ℕ) (es : List Entry) → EntriesFrom t false n 
 
 -- a count at a position
 abbrev pub CountAt : ℕ → List ℕ → ℕ → Count → Type 0
-CountAt most s at (Count.Refused r) = (f : ℕ → List ℕ → Out Refusal Dictionary) → counted most (drop at s) f ≡ refuse r
+CountAt most s at (Count.Refused r) = (f : AfterCount) → countAtMost most (drop at s) f ≡ refuse r
 CountAt most s at (Count.Is n) =
-    ((f : ℕ → List ℕ → Out Refusal Dictionary) → counted most (drop at s) f ≡ f n (drop (at + 4) s)) × (at + 4 ≤ length s) × (n ≤ most)
+    ((f : AfterCount) → countAtMost most (drop at s) f ≡ f n (drop (at + 4) s)) × (at + 4 ≤ length s) × (n ≤ most)
 
 -- an offset at a position
 abbrev pub OffsetAt : List ℕ → ℕ → ℤ → Type 0
@@ -193,9 +200,9 @@ OffsetAt s at z = (z ≡ signed32 (beAt 4 s at)) × (beAt 4 s at < 4294967296)
 
 -- null's entry, if there is one, at a position
 abbrev pub NullAt : Bool → Bool → List ℕ → ℕ → Null → Type 0
-NullAt version2 has s at (Null.Refused r) = (f : List Entry → List ℕ → Out Refusal Dictionary) → nullOf version2 has (drop at s) f ≡ refuse r
+NullAt version2 has s at (Null.Refused r) = (f : AfterEntries) → nullOf version2 has (drop at s) f ≡ refuse r
 NullAt version2 has s at (Null.Numbers offset extent next) =
-    ((f : List Entry → List ℕ → Out Refusal Dictionary) → nullOf version2 has (drop at s) f ≡ f (nulls has offset extent) (drop (next .0) s)) × (next .0 ≤ length s)
+    ((f : AfterEntries) → nullOf version2 has (drop at s) f ≡ f (nulls has offset extent) (drop (next .0) s)) × (next .0 ≤ length s)
     × (has ≡ false → (offset ≡ pos 0) × (extent ≡ 0))
 
 -- the entries of either version
@@ -212,17 +219,17 @@ FixedOf s (Fixed.Fields version2 has rows values) =
 -- ---- version 2
 
 -- a directory's listings stand one after another at the front of s
-unfoldable pub Listed : ℕ → List ℕ → List Listing → Type 0
-Listed t s [] = Unit {0}
-Listed t s (d ∷ ds) =
-    (k : ℕ) × (valueSize Short Dict t s ≡ ok k) × (k + 4 ≤ length s) × (d ≡ record { first = take k s; at = beAt 4 s k }) × Listed t (drop (k + 4) s) ds
+unfoldable pub ListingsFrom : ℕ → List ℕ → List Listing → Type 0
+ListingsFrom t s [] = Unit {0}
+ListingsFrom t s (d ∷ ds) =
+    (k : ℕ) × (valueSize Short Dict t s ≡ ok k) × (k + 4 ≤ length s) × (d ≡ record { first = take k s; at = beAt 4 s k }) × ListingsFrom t (drop (k + 4) s) ds
 
 -- n listings at a position, and where they end
 abbrev pub DirectoryAt : ℕ → ℕ → List ℕ → ℕ → Directory → Type 0
-DirectoryAt t n s at (Directory.Refused r) = (f : List Listing → List ℕ → Out Refusal Dictionary) → listings t n [] (drop at s) f ≡ refuse r
+DirectoryAt t n s at (Directory.Refused r) = (f : AfterListings) → listings t n [] (drop at s) f ≡ refuse r
 DirectoryAt t n s at (Directory.Ends next) =
-    (ds : List Listing) × ((f : List Listing → List ℕ → Out Refusal Dictionary) → listings t n [] (drop at s) f ≡ f ds (drop (next .0) s))
-    × Listed t (drop at s) ds × (length ds ≡ n) × (next .0 ≤ length s)
+    (ds : List Listing) × ((f : AfterListings) → listings t n [] (drop at s) f ≡ f ds (drop (next .0) s))
+    × ListingsFrom t (drop at s) ds × (length ds ≡ n) × (next .0 ≤ length s)
 
 -- a span's bytes, and the value that it has: none where it has no bytes
 abbrev pub bytesAt : List ℕ → Span → List ℕ
@@ -234,9 +241,9 @@ cellAt s c = cond (ltb (c .start .0) (c .end .0)) (value (bytesAt s c)) null
 -- n entries of a block at a position, behind the value `before`, where the value `due` is due: where they end, and the last value
 abbrev pub BlockEntriesAt : ℕ → ℕ → Span → Span → List ℕ → ℕ → BlockEntries → Type 0
 BlockEntriesAt t n before due s at (BlockEntries.Refused r) =
-    (es : List Entry) (f : Cell → List Entry → List ℕ → Out Refusal Dictionary) → entriesTwo t n (cellAt s before) (cellAt s due) es (drop at s) f ≡ refuse r
+    (es : List Entry) (f : AfterBlock) → entriesTwo t n (cellAt s before) (cellAt s due) es (drop at s) f ≡ refuse r
 BlockEntriesAt t n before due s at (BlockEntries.To next last) =
-    ((new : List Entry) × ((es : List Entry) (f : Cell → List Entry → List ℕ → Out Refusal Dictionary)
+    ((new : List Entry) × ((es : List Entry) (f : AfterBlock)
     → entriesTwo t n (cellAt s before) (cellAt s due) es (drop at s) f ≡ f (cellAt s last) (es ++ new) (drop (next .0) s))
     × (length new ≡ n) × ((more : List Entry) → EntriesFrom t true 0 (drop (next .0) s) more → EntriesFrom t true n (drop at s) (new ++ more)))
     × (at ≤ next .0) × (next .0 ≤ length s) × (last .end .0 ≤ length s)
@@ -244,11 +251,11 @@ BlockEntriesAt t n before due s at (BlockEntries.To next last) =
 -- the block at p, whose listing stands at q: where both end, its last value, and its number of entries
 abbrev pub BlockAt : ℕ → Span → List ℕ → ℕ → ℕ → ℕ → Block → Type 0
 BlockAt t before s base q p (Block.Refused r) =
-    (d : Listing) (ds : List Listing) → Listed t (drop q s) (d ∷ ds)
-    → (es : List Entry) (f : List Entry → List ℕ → Out Refusal Dictionary) → blocksOf t (d ∷ ds) (drop base s) (cellAt s before) es (drop p s) f ≡ refuse r
+    (d : Listing) (ds : List Listing) → ListingsFrom t (drop q s) (d ∷ ds)
+    → (es : List Entry) (f : AfterEntries) → blocksOf t (d ∷ ds) (drop base s) (cellAt s before) es (drop p s) f ≡ refuse r
 BlockAt t before s base q p (Block.Ends listing next last number) =
-    ((d : Listing) (ds : List Listing) → Listed t (drop q s) (d ∷ ds) → Listed t (drop (listing .0) s) ds
-    × ((new : List Entry) × ((es : List Entry) (f : List Entry → List ℕ → Out Refusal Dictionary)
+    ((d : Listing) (ds : List Listing) → ListingsFrom t (drop q s) (d ∷ ds) → ListingsFrom t (drop (listing .0) s) ds
+    × ((new : List Entry) × ((es : List Entry) (f : AfterEntries)
     → blocksOf t (d ∷ ds) (drop base s) (cellAt s before) es (drop p s) f ≡ blocksOf t ds (drop base s) (cellAt s last) (es ++ new) (drop (next .0) s) f)
     × (length new ≡ number) × ((more : List Entry) → EntriesFrom t true 0 (drop (next .0) s) more → EntriesFrom t true 0 (drop p s) (new ++ more))))
     × (p ≤ next .0) × (next .0 ≤ length s) × (last .end .0 ≤ length s) × (number < signBit)
@@ -256,11 +263,11 @@ BlockAt t before s base q p (Block.Ends listing next last number) =
 -- b blocks from base on, whose directory stands at dir: where the last ends, and the number of entries in all
 abbrev pub BlocksAt : ℕ → ℕ → List ℕ → ℕ → ℕ → Blocks → Type 0
 BlocksAt t b s dir base (Blocks.Refused r) =
-    (ds : List Listing) → Listed t (drop dir s) ds → length ds ≡ b
-    → (f : List Entry → List ℕ → Out Refusal Dictionary) → blocksOf t ds (drop base s) null [] (drop base s) f ≡ refuse r
+    (ds : List Listing) → ListingsFrom t (drop dir s) ds → length ds ≡ b
+    → (f : AfterEntries) → blocksOf t ds (drop base s) null [] (drop base s) f ≡ refuse r
 BlocksAt t b s dir base (Blocks.End next sum) =
-    ((ds : List Listing) → Listed t (drop dir s) ds → length ds ≡ b
-    → (es : List Entry) × ((f : List Entry → List ℕ → Out Refusal Dictionary) → blocksOf t ds (drop base s) null [] (drop base s) f ≡ f es (drop (next .0) s))
+    ((ds : List Listing) → ListingsFrom t (drop dir s) ds → length ds ≡ b
+    → (es : List Entry) × ((f : AfterEntries) → blocksOf t ds (drop base s) null [] (drop base s) f ≡ f es (drop (next .0) s))
     × (length es ≡ sum) × EntriesFrom t true 0 (drop base s) es)
     × (base ≤ next .0) × (next .0 ≤ length s)
 

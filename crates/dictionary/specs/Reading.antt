@@ -14,8 +14,8 @@ use Rattle.stored_value.specs.Reading.{valueOf}
 use Rattle.dictionary.specs.Layout.{Entry, someHas, mostValues1, mostValues2, mostBlocks}
 
 -- a count of four bytes, big-endian and signed: SHORT; a negative one is DICT, one above `most` LIMIT
-unfoldable pub counted : {A : Type 0} → ℕ → List ℕ → (ℕ → List ℕ → Out Refusal A) → Out Refusal A
-counted most s k = number big 4 (refuse Short) s (λ n s. check (ltb n signBit) Dict (check (leb n most) Limit (k n s)))
+unfoldable pub countAtMost : {A : Type 0} → ℕ → List ℕ → (ℕ → List ℕ → Out Refusal A) → Out Refusal A
+countAtMost most s k = number big 4 (refuse Short) s (λ n s. check (ltb n signBit) Dict (check (leb n most) Limit (k n s)))
 
 -- what a dictionary says: the row count, the entries in stored order, null's first, and the bytes of the region, 01's body of bitmaps
 pub record Dictionary : Type 0 where
@@ -73,7 +73,7 @@ blocksOf t (d ∷ ds) base before es s k =
 -- no blocks exactly when there is no value; the body offset, then the sum of entry numbers, are tested behind the last block
 unfoldable pub blocked : ℕ → ℕ → ℕ → List Entry → List ℕ → Out Refusal Dictionary
 blocked t rows n nulls s =
-    counted mostBlocks s (λ b s. check (cond (eqb n 0) (eqb b 0) (leb 1 b)) Dict
+    countAtMost mostBlocks s (λ b s. check (cond (eqb n 0) (eqb b 0) (leb 1 b)) Dict
     (listings t b [] s (λ ds s. number big 4 (refuse Short) s (λ offset base.
     blocksOf t ds base null [] base (λ es region.
     check (eqb offset (behind base region)) Dict (check (eqb (length es) n) Dict
@@ -91,7 +91,7 @@ unfoldable pub dictionary : ℕ → List ℕ → Out Refusal Dictionary
 dictionary t s =
     check (ltb t types) Literal
     (number big 1 (refuse Short) s (λ version s. check (eqb version 1 || eqb version 2) Version
-    (counted limit s (λ rows s. counted (cond (eqb version 1) mostValues1 mostValues2) s (λ n s.
+    (countAtMost limit s (λ rows s. countAtMost (cond (eqb version 1) mostValues1 mostValues2) s (λ n s.
     number big 1 (refuse Short) s (λ hasNull s. check (leb hasNull 1) Dict
     (nullOf (eqb version 2) (eqb hasNull 1) s (λ nulls s.
     cond (eqb version 1) (entriesOne t rows n nulls [] s) (blocked t rows n nulls s)))))))))

@@ -56,7 +56,7 @@ pub struct EntryAt {
 }
 
 // Where a value ends.
-enum Value {
+enum ValueEnd {
     Refused(Refusal),
     To(Position),
 }
@@ -243,15 +243,15 @@ fn null_entry(body: &[u8], version2: bool, has: bool, at: Position) -> Null
 }
 
 // Where the value at `at` ends.
-fn value_end(body: &[u8], t: u32, at: Position) -> Value
+fn value_end(body: &[u8], t: u32, at: Position) -> ValueEnd
     ensures { λ r. ⌜ ValueAt t (now (body .entry)) (at .0) r ⌝ }
 {
     match stored_value::size(body, at, t, Refusal::Short, Refusal::Dict) {
         Sized::Refused(r) => {
-            return Value::Refused(r);
+            return ValueEnd::Refused(r);
         }
         Sized::Bytes(n) => {
-            return Value::To(Position(at.0 + n));
+            return ValueEnd::To(Position(at.0 + n));
         }
     }
 }
@@ -264,10 +264,10 @@ fn has_value(body: &[u8], t: u32, n: u64, at: Position, v: &[u8]) -> bool
     let mut p = at.0;
     while i < n {
         match value_end(body, t, Position(p)) {
-            Value::Refused(_) => {
+            ValueEnd::Refused(_) => {
                 return false;
             }
-            Value::To(to) => {
+            ValueEnd::To(to) => {
                 let e = to.0;
                 if numbers::same(v, &body[p..e]) {
                     return true;
@@ -289,10 +289,10 @@ fn entries_one(body: &[u8], t: u32, n: u64, at: Position) -> AllEntries
     let mut p = at.0;
     while i < n {
         match value_end(body, t, Position(p)) {
-            Value::Refused(r) => {
+            ValueEnd::Refused(r) => {
                 return AllEntries::Refused(r);
             }
-            Value::To(to) => {
+            ValueEnd::To(to) => {
                 let e = to.0;
                 if has_value(body, t, i, at, &body[p..e]) {
                     return AllEntries::Refused(Refusal::Dict);
@@ -320,10 +320,10 @@ fn directory_end(body: &[u8], t: u32, n: u64, at: Position) -> Directory
     let mut p = at.0;
     while i < n {
         match value_end(body, t, Position(p)) {
-            Value::Refused(r) => {
+            ValueEnd::Refused(r) => {
                 return Directory::Refused(r);
             }
-            Value::To(to) => {
+            ValueEnd::To(to) => {
                 let e = to.0;
                 if body.len() - e < 4 {
                     return Directory::Refused(Refusal::Short);
@@ -377,10 +377,10 @@ fn block_entries(body: &[u8], t: u32, n: u64, at: Position, before: Span, due: S
     let mut first = due;
     while i < n {
         match value_end(body, t, Position(p)) {
-            Value::Refused(r) => {
+            ValueEnd::Refused(r) => {
                 return BlockEntries::Refused(r);
             }
-            Value::To(to) => {
+            ValueEnd::To(to) => {
                 let e = to.0;
                 let value = Span {
                     start: Position(p),
@@ -424,10 +424,10 @@ fn one_block(
     ensures { λ r. ⌜ BlockAt t before (now (body .entry)) (base .0) (listing .0) (at .0) r ⌝ }
 {
     match value_end(body, t, listing) {
-        Value::Refused(r) => {
+        ValueEnd::Refused(r) => {
             return Block::Refused(r);
         }
-        Value::To(to) => {
+        ValueEnd::To(to) => {
             let e = to.0;
             let p = at.0;
             if body.len() - e < 4 {
@@ -668,10 +668,10 @@ fn entry_at(body: &[u8], t: u32, version2: bool, cursor: Cursor) -> EntryAt
     }
     let start = cursor.at;
     match value_end(body, t, start) {
-        Value::Refused(_) => {
+        ValueEnd::Refused(_) => {
             return no_entry();
         }
-        Value::To(to) => {
+        ValueEnd::To(to) => {
             let e = to.0;
             let w = behind_value(version2);
             if body.len() - e < w {

@@ -6,7 +6,7 @@ use mathlib.Core.Bool.{Bool, true, false, cond}
 use mathlib.Core.List.{List, [], _∷_, _++_, append-assoc, append-nil}
 use native.Mathlib.Omega.{arith}
 use native.Mathlib.Decide.{decLt}
-use lib.Dec.{ltb, leb}
+use lib.Dec.{leb}
 use lib.ListN.{length, getD, take, drop, length-append, length-drop, take-append-drop, List·getD-append, List·getD-eq-default}
 use lib.Seq.{take-at, drop-at, length-take-le, getD-take}
 use borrow.Author.Tests.{lt-ltb, le-ltb, ltb-true, le-leb, ne-eqb, eqb-false, leb-true}
@@ -20,7 +20,7 @@ use Rattle.refusal.specs.declared.Refusal.the-variants.{Literal, Limit}
 use Rattle.refusal.specs.Reading.{Out, refuse, ok, check, andThen}
 use Rattle.refusal.proofs.Laws.{not-ok, check-ok}
 use Rattle.stored_value.specs.Meaning.{widths, types, width, isString, longestString, booleanOk, Value, number, string, Cell, null, value, sameCell, listed, mostLiterals, Literals}
-use Rattle.stored_value.specs.Reading.{valueSize, valueOf, literals, fitting, readable, listedIn}
+use Rattle.stored_value.specs.Reading.{stringSize, valueSize, valueOf, literals, fitting, readable, listedIn}
 
 -- ---- the same cell
 
@@ -44,10 +44,6 @@ sameCell-sym (value v) null = refl
 sameCell-sym (value v) (value w) = same-sym v w
 
 -- ---- the size of a value: a number's, and a string's
-
--- what is asked of a string's length, and of the bytes behind it
-abbrev pub stringSize : Refusal → Refusal → ℕ → List ℕ → Out Refusal ℕ
-stringSize short broken n rest = check (ltb n signBit) broken (check (leb n longestString) Limit (check (leb n (length rest)) short (ok (4 + n))))
 
 module _ (short broken : Refusal) (t : ℕ) (s : List ℕ) where
   pub size-unknown : types ≤ t → valueSize short broken t s ≡ refuse Literal

@@ -25,8 +25,8 @@ use Rattle.stored_value.specs.declared.Counted.{Counted}
 use Rattle.stored_value.specs.Meaning.{types, width, isString, longestString, booleanOk, signedNumber, bytesLess, less}
 use Rattle.refusal.specs.Reading.{Out, refuse, ok, check, numbersOf}
 use Rattle.stored_value.specs.Promises.{sizedBy, SizePromise, countedBy, CountPromise}
-use Rattle.stored_value.specs.Reading.{valueSize, literals}
-use Rattle.stored_value.proofs.Laws.{stringSize, size-number, size-string, value-read, literals-end, literals-full, literals-refused, literals-next}
+use Rattle.stored_value.specs.Reading.{stringSize, valueSize, literals}
+use Rattle.stored_value.proofs.Laws.{size-number, size-string, value-read, literals-end, literals-full, literals-refused, literals-next}
 
 -- ---- `bytes_less`
 

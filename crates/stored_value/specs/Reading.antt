@@ -10,13 +10,17 @@ use Rattle.refusal.specs.declared.Refusal.{Refusal}
 use Rattle.refusal.specs.declared.Refusal.the-variants.{Literal, Limit}
 use Rattle.stored_value.specs.Meaning.{types, width, isString, longestString, booleanOk, listed}
 
--- how many bytes the value of type t at the front of s takes in its stored form. An unknown type is LITERAL. A string's length is tested before its bytes.
--- `short` and `broken` are SHORT and DICT in a dictionary, and LITERAL both among literals
+-- a string of length n, with the bytes behind that: the length is tested before them
+abbrev pub stringSize : Refusal → Refusal → ℕ → List ℕ → Out Refusal ℕ
+stringSize short broken n rest = check (ltb n signBit) broken (check (leb n longestString) Limit (check (leb n (length rest)) short (ok (4 + n))))
+
+-- how many bytes the value of type t at the front of s takes in its stored form. An unknown type is LITERAL. `short`
+-- and `broken` are SHORT and DICT in a dictionary, and LITERAL both among literals
 unfoldable pub valueSize : Refusal → Refusal → ℕ → List ℕ → Out Refusal ℕ
 valueSize short broken t s =
     check (ltb t types) Literal
     (cond (isString t)
-    (number big 4 (refuse short) s (λ n rest. check (ltb n signBit) broken (check (leb n longestString) Limit (check (leb n (length rest)) short (ok (4 + n))))))
+    (number big 4 (refuse short) s (stringSize short broken))
     (check (leb (width t) (length s)) short (check (booleanOk t s) broken (ok (width t)))))
 
 unfoldable pub valueOf : {A : Type 0} → Refusal → Refusal → ℕ → List ℕ → (List ℕ → List ℕ → Out Refusal A) → Out Refusal A

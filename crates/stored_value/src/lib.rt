@@ -36,12 +36,18 @@ pub enum Counted {
     Count(u64),
 }
 
+fn wide(x: u8) -> usize
+    ensures { λ r. ⌜ r ≡ x ⌝ }
+{
+    x as usize
+}
+
 // The width of a type's values: 0 of a string's, and of an unknown type.
 fn width_of(t: u32) -> usize
     ensures { λ r. ⌜ (r ≡ width t) × (r ≤ 8) ⌝ }
 {
     if t < TYPES {
-        return WIDTHS[t as usize] as usize;
+        return wide(WIDTHS[t as usize]);
     }
     0
 }

@@ -7,7 +7,7 @@ use native.Mathlib.Omega.{arith}
 use lib.ListN.{length, drop}
 use borrow.Author.Needs.{needs}
 use Rattle.numbers.specs.Meaning.{signBit}
-use Rattle.dictionary.specs.Promises.{Listed, cellAt}
+use Rattle.dictionary.specs.Promises.{ListingsFrom, cellAt}
 use Rattle.dictionary.specs.Reading.{Listing}
 use Rattle.dictionary.proofs.VersionTwo.{InBlocks, in-blocks-first, in-blocks-done, in-blocks-stand, in-blocks-refused, in-blocks-next}
 use Rattle.dictionary.proofs.all_blocks.Statement.{statement}
@@ -16,7 +16,7 @@ use Rattle.dictionary.proofs.all_blocks.Tie as tie
 abbrev Inv-loop : tie.InvT-loop
 Inv-loop body t b base i₀ list₀ at₀ before₀ total₀ i list at before total =
     (base .0 ≤ at .0) × (at .0 ≤ length body) × (before .end .0 ≤ length body) × (i ≤ b) × (total ≤ signBit * i)
-    × ((ds : List Listing) → Listed t (drop (list₀ .0) body) ds → length ds ≡ b
+    × ((ds : List Listing) → ListingsFrom t (drop (list₀ .0) body) ds → length ds ≡ b
     → InBlocks t ds (drop (base .0) body) i (drop (list .0) body) (cellAt body before) total (drop (at .0) body))
 
 abbrev μ-loop : tie.MeasureT-loop

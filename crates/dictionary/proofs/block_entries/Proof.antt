@@ -4,7 +4,7 @@ use native.Mathlib.Omega.{arith}
 use lib.ListN.{length, drop, length-drop}
 use borrow.Author.Tests.{not-true, not-false}
 use borrow.Author.Needs.{needs}
-use Rattle.dictionary.specs.declared.Value.{Value}
+use Rattle.dictionary.specs.declared.ValueEnd.{ValueEnd}
 use Rattle.dictionary.specs.Promises.{ValueAt, cellAt}
 use Rattle.dictionary.proofs.VersionTwo.{InBlock, in-block-first, in-block-done, in-block-stand, in-block-refused, in-block-low, in-block-other, in-block-short, in-block-on}
 use Rattle.dictionary.proofs.block_entries.Statement.{statement}
@@ -25,7 +25,7 @@ loop-holds c =
     (omega arith, c .before .pre .0, c .before .pre .1, c .before .pre .2, omega arith, start)
 
 -- the entry's value
-found : (c : tie.After-known-told2 Inv-loop μ-loop) → let a = c .before .before .before .before .before .before .before .args in ValueAt (a .t) (a .body .now) (c .before .before .before .before .before .loop .p) (Value.To (c .before .to .given .0 .0))
+found : (c : tie.After-known-told2 Inv-loop μ-loop) → let a = c .before .before .before .before .before .before .before .args in ValueAt (a .t) (a .body .now) (c .before .before .before .before .before .loop .p) (ValueEnd.To (c .before .to .given .0 .0))
 found c = rw (c .before .to .given .1) at (c .before .before .before .value-end .ensures)
 
 returns : tie.Need-returns Inv-loop μ-loop

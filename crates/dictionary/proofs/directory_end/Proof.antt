@@ -3,7 +3,7 @@ use Prim.Native.Nat.{_-_, _≤_}
 use native.Mathlib.Omega.{arith}
 use lib.ListN.{length, drop, length-drop}
 use borrow.Author.Needs.{needs}
-use Rattle.dictionary.specs.declared.Value.{Value}
+use Rattle.dictionary.specs.declared.ValueEnd.{ValueEnd}
 use Rattle.dictionary.specs.Promises.{ValueAt}
 use Rattle.dictionary.proofs.Steps.{drop-past}
 use Rattle.dictionary.proofs.VersionTwo.{Listings, listings-first, listings-done, listings-stand, listings-refused, listings-short, listings-next}
@@ -20,7 +20,7 @@ loop-holds : tie.Need-loop-holds Inv-loop μ-loop
 loop-holds c = let a = c .before .args in (c .before .pre, omega arith, listings-first (a .t) (a .n) (drop (a .at .0) (a .body .now)))
 
 -- the listing's value
-found : (c : tie.After-known-told2 Inv-loop μ-loop) → let a = c .before .before .before .before .before .before .before .args in ValueAt (a .t) (a .body .now) (c .before .before .before .before .before .loop .p) (Value.To (c .before .to .given .0 .0))
+found : (c : tie.After-known-told2 Inv-loop μ-loop) → let a = c .before .before .before .before .before .before .before .args in ValueAt (a .t) (a .body .now) (c .before .before .before .before .before .loop .p) (ValueEnd.To (c .before .to .given .0 .0))
 found c = rw (c .before .to .given .1) at (c .before .before .before .value-end .ensures)
 
 returns : tie.Need-returns Inv-loop μ-loop

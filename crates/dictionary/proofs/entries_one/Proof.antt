@@ -6,7 +6,7 @@ use native.Mathlib.Omega.{arith}
 use lib.ListN.{length, take, drop, length-drop}
 use borrow.Author.Needs.{needs}
 use Rattle.stored_value.specs.Meaning.{value}
-use Rattle.dictionary.specs.declared.Value.{Value}
+use Rattle.dictionary.specs.declared.ValueEnd.{ValueEnd}
 use Rattle.dictionary.specs.Layout.{someHas}
 use Rattle.dictionary.specs.Promises.{ValueAt}
 use Rattle.dictionary.proofs.Steps.{drop-past, One, one-first, one-stand, one-done, one-refused, one-taken, one-short, one-next}
@@ -23,7 +23,7 @@ loop-holds : tie.Need-loop-holds Inv-loop μ-loop
 loop-holds c = let a = c .before .args in (c .before .pre, omega arith, one-first (a .t) (a .n) (drop (a .at .0) (a .body .now)))
 
 -- the entry's value
-found : (c : tie.After-known-told2 Inv-loop μ-loop) → let a = c .before .before .before .before .before .before .before .args in ValueAt (a .t) (a .body .now) (c .before .before .before .before .before .loop .p) (Value.To (c .before .to .given .0 .0))
+found : (c : tie.After-known-told2 Inv-loop μ-loop) → let a = c .before .before .before .before .before .before .before .args in ValueAt (a .t) (a .body .now) (c .before .before .before .before .before .loop .p) (ValueEnd.To (c .before .to .given .0 .0))
 found c = rw (c .before .to .given .1) at (c .before .before .before .value-end .ensures)
 
 -- whether one of the entries so far has it

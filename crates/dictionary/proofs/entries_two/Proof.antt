@@ -12,8 +12,8 @@ use Rattle.dictionary.proofs.entries_two.Statement.{statement}
 use Rattle.dictionary.proofs.entries_two.Tie as tie
 
 -- the block number, and the directory
-counted : (c : tie.After-known-told2) → let a = c .before .before .before .before .before .args in CountAt mostBlocks (a .body .now) (a .at .0) (Is (c .before .b .given .0 .0))
-counted c = rw (c .before .b .given .1) at (c .before .before .before .count-at .ensures)
+blocks : (c : tie.After-known-told2) → let a = c .before .before .before .before .before .args in CountAt mostBlocks (a .body .now) (a .at .0) (Is (c .before .b .given .0 .0))
+blocks c = rw (c .before .b .given .1) at (c .before .before .before .count-at .ensures)
 
 listed : (c : tie.After-known-told4)
     → let k = c .before .before .before .before .before .before .before in
@@ -25,17 +25,17 @@ returns : tie.Need-returns
 returns c = let a = c .before .before .before .before .before .args in two-count (a .t) (a .n) (a .body .now) (a .at .0) (rw (c .before .r .given .1) at (c .before .before .before .count-at .ensures))
 
 returns-2 : tie.Need-returns-2
-returns-2 c = let k = c .before .before in let a = k .before .before .before .before .before .args in two-unfit (a .t) (a .n) (a .body .now) (a .at .0) (counted k) (c .before .blocks-fit .ensures) (not-true _ (c .if1 .taken))
+returns-2 c = let k = c .before .before in let a = k .before .before .before .before .before .args in two-unfit (a .t) (a .n) (a .body .now) (a .at .0) (blocks k) (c .before .blocks-fit .ensures) (not-true _ (c .if1 .taken))
 
 directory-end-requires : tie.Need-directory-end-requires
-directory-end-requires c κs = omega (arith, counted (c .before .before .before))
+directory-end-requires c κs = omega (arith, blocks (c .before .before .before))
 
 returns-3 : tie.Need-returns-3
 returns-3 c =
     let f = c .before .before .before .before .before in
     let k = f .before .before in
     let a = k .before .before .before .before .before .args in
-    two-directory (a .t) (a .n) (a .body .now) (a .at .0) (counted k) (f .before .blocks-fit .ensures) (not-false _ (f .if1 .left)) (rw (c .before .r2 .given .1) at (c .before .before .before .directory-end .ensures))
+    two-directory (a .t) (a .n) (a .body .now) (a .at .0) (blocks k) (f .before .blocks-fit .ensures) (not-false _ (f .if1 .left)) (rw (c .before .r2 .given .1) at (c .before .before .before .directory-end .ensures))
 
 sub-if2 : tie.Need-sub-if2
 sub-if2 c = omega (arith, listed c .4)
@@ -46,13 +46,13 @@ returns-4 c =
     let f = d .before .before .before .before .before in
     let k = f .before .before in
     let a = k .before .before .before .before .before .args in
-    two-short (a .t) (a .n) (a .body .now) (a .at .0) (counted k) (f .before .blocks-fit .ensures) (not-false _ (f .if1 .left)) (listed d) (c .if2 .taken)
+    two-short (a .t) (a .n) (a .body .now) (a .at .0) (blocks k) (f .before .blocks-fit .ensures) (not-false _ (f .if1 .left)) (listed d) (c .if2 .taken)
 
 all-blocks-requires : tie.Need-all-blocks-requires
 all-blocks-requires c κs =
     let d = c .before .before in
     let l = listed d .4 in
-    let n = counted (d .before .before .before .before .before .before .before) in
+    let n = blocks (d .before .before .before .before .before .before .before) in
     (omega arith, n .2)
 
 returns-5 : tie.Need-returns-5
@@ -62,7 +62,7 @@ returns-5 c =
     let k = f .before .before in
     let a = k .before .before .before .before .before .args in
     let l = listed d .4 in
-    two-broken (a .t) (a .n) (a .body .now) (a .at .0) (counted k) (f .before .blocks-fit .ensures) (not-false _ (f .if1 .left)) (listed d) (omega arith) (c .before .before .before .before .be32 .ensures .0)
+    two-broken (a .t) (a .n) (a .body .now) (a .at .0) (blocks k) (f .before .blocks-fit .ensures) (not-false _ (f .if1 .left)) (listed d) (omega arith) (c .before .before .before .before .be32 .ensures .0)
     (rw (c .before .r3 .given .1) at (c .before .before .before .all-blocks .ensures))
 
 sub-if3 : tie.Need-sub-if3
@@ -76,7 +76,7 @@ returns-6 c =
     let k = f .before .before in
     let a = k .before .before .before .before .before .args in
     let l = listed d .4 in
-    two-offset (a .t) (a .n) (a .body .now) (a .at .0) (counted k) (f .before .blocks-fit .ensures) (not-false _ (f .if1 .left)) (listed d) (omega arith) (e .before .before .before .before .be32 .ensures .0)
+    two-offset (a .t) (a .n) (a .body .now) (a .at .0) (blocks k) (f .before .blocks-fit .ensures) (not-false _ (f .if1 .left)) (listed d) (omega arith) (e .before .before .before .before .be32 .ensures .0)
     (rw (e .before .next .given .1) at (e .before .before .before .all-blocks .ensures)) (c .if3 .taken)
 
 returns-7 : tie.Need-returns-7
@@ -87,7 +87,7 @@ returns-7 c =
     let k = f .before .before in
     let a = k .before .before .before .before .before .args in
     let l = listed d .4 in
-    two-sum (a .t) (a .n) (a .body .now) (a .at .0) (counted k) (f .before .blocks-fit .ensures) (not-false _ (f .if1 .left)) (listed d) (omega arith) (e .before .before .before .before .be32 .ensures .0)
+    two-sum (a .t) (a .n) (a .body .now) (a .at .0) (blocks k) (f .before .blocks-fit .ensures) (not-false _ (f .if1 .left)) (listed d) (omega arith) (e .before .before .before .before .be32 .ensures .0)
     (rw (e .before .next .given .1) at (e .before .before .before .all-blocks .ensures)) (c .before .if3 .left) (c .if4 .taken)
 
 returns-8 : tie.Need-returns-8
@@ -98,7 +98,7 @@ returns-8 c =
     let k = f .before .before in
     let a = k .before .before .before .before .before .args in
     let l = listed d .4 in
-    two-ends (a .t) (a .n) (a .body .now) (a .at .0) (counted k) (f .before .blocks-fit .ensures) (not-false _ (f .if1 .left)) (listed d) (omega arith) (e .before .before .before .before .be32 .ensures .0)
+    two-ends (a .t) (a .n) (a .body .now) (a .at .0) (blocks k) (f .before .blocks-fit .ensures) (not-false _ (f .if1 .left)) (listed d) (omega arith) (e .before .before .before .before .be32 .ensures .0)
     (rw (e .before .next .given .1) at (e .before .before .before .all-blocks .ensures)) (c .before .if3 .left) (c .if4 .left)
 
 pub entries-two-spec : {M : Type 1} → statement M

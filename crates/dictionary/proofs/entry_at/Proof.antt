@@ -3,7 +3,7 @@ use mathlib.Core.Path.{_∙_}
 use native.Mathlib.Omega.{arith}
 use borrow.Author.Needs.{needs}
 use Rattle.numbers.specs.Meaning.{beAt}
-use Rattle.dictionary.specs.declared.Value.{Value}
+use Rattle.dictionary.specs.declared.ValueEnd.{ValueEnd}
 use Rattle.dictionary.specs.Promises.{ValueAt}
 use Rattle.dictionary.proofs.Offsets.{signed-passed}
 use Rattle.dictionary.proofs.NextEntry.{entry-none, entry-lost, made-none, made}
@@ -11,7 +11,7 @@ use Rattle.dictionary.proofs.entry_at.Statement.{statement}
 use Rattle.dictionary.proofs.entry_at.Tie as tie
 
 -- the entry's value
-found : (c : tie.After-known-told) → let a = c .before .before .before .before .before .before .before .args in ValueAt (a .t) (a .body .now) (a .cursor .at .0) (Value.To (c .before .to .given .0 .0))
+found : (c : tie.After-known-told) → let a = c .before .before .before .before .before .before .before .args in ValueAt (a .t) (a .body .now) (a .cursor .at .0) (ValueEnd.To (c .before .to .given .0 .0))
 found c = rw (c .before .to .given .1) at (c .before .before .before .value-end .ensures)
 
 returns : tie.Need-returns

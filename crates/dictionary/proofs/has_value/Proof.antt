@@ -3,7 +3,7 @@ use Prim.Native.Nat.{_-_}
 use native.Mathlib.Omega.{arith}
 use lib.ListN.{drop}
 use borrow.Author.Needs.{needs}
-use Rattle.dictionary.specs.declared.Value.{Value}
+use Rattle.dictionary.specs.declared.ValueEnd.{ValueEnd}
 use Rattle.dictionary.specs.Promises.{ValueAt}
 use Rattle.dictionary.proofs.Steps.{Sought, sought-first, sought-done, sought-lost, sought-found, sought-next, drop-past}
 use Rattle.dictionary.proofs.has_value.Statement.{statement}
@@ -22,7 +22,7 @@ loop-holds c = let a = c .before .before .args in sought-first (a .t) (a .v .now
 found : (c : tie.After-known-told Inv-loop μ-loop)
     → let l = c .before .before .before .before .before in
     let a = l .before .before .before .args in
-    ValueAt (a .t) (a .body .now) (l .loop .p) (Value.To (c .before .to .given .0 .0))
+    ValueAt (a .t) (a .body .now) (l .loop .p) (ValueEnd.To (c .before .to .given .0 .0))
 found c = rw (c .before .to .given .1) at (c .before .before .before .value-end .ensures)
 
 returns : tie.Need-returns Inv-loop μ-loop

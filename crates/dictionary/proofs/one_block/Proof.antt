@@ -3,19 +3,19 @@ use mathlib.Core.List.{List, _∷_, _++_}
 use native.Mathlib.Omega.{arith}
 use lib.ListN.{drop, length-append}
 use borrow.Author.Needs.{needs}
-use Rattle.dictionary.specs.declared.Value.{Value}
+use Rattle.dictionary.specs.declared.ValueEnd.{ValueEnd}
 use Rattle.dictionary.specs.Reading.{Listing}
-use Rattle.dictionary.specs.Promises.{ValueAt, Listed}
+use Rattle.dictionary.specs.Promises.{ValueAt, ListingsFrom}
 use Rattle.dictionary.proofs.VersionTwo.{AtBlock, listed-lost, block-listed, block-misplaced, block-short, block-none, block-negative, block-refused, block-passed, block-stand}
 use Rattle.dictionary.proofs.one_block.Statement.{statement}
 use Rattle.dictionary.proofs.one_block.Tie as tie
 
 -- the listing's value
-found : (c : tie.After-known-told2) → let a = c .before .before .before .before .before .args in ValueAt (a .t) (a .body .now) (a .listing .0) (Value.To (c .before .to .given .0 .0))
+found : (c : tie.After-known-told2) → let a = c .before .before .before .before .before .args in ValueAt (a .t) (a .body .now) (a .listing .0) (ValueEnd.To (c .before .to .given .0 .0))
 found c = rw (c .before .to .given .1) at (c .before .before .before .value-end .ensures)
 
 -- the block's listing
-here : (c : tie.After-known-told2) (d : Listing) (ds : List Listing) → let a = c .before .before .before .before .before .args in Listed (a .t) (drop (a .listing .0) (a .body .now)) (d ∷ ds)
+here : (c : tie.After-known-told2) (d : Listing) (ds : List Listing) → let a = c .before .before .before .before .before .args in ListingsFrom (a .t) (drop (a .listing .0) (a .body .now)) (d ∷ ds)
     → AtBlock (a .t) (a .body .now) (a .base .0) (a .listing .0) (a .at .0) (c .before .to .given .0 .0 .0) (a .before) d ds
 here c d ds l = let pre = c .before .before .before .before .before .pre in record { from = pre .0; to = pre .1; value = found c; listed = l }
 

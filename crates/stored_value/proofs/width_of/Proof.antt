@@ -1,5 +1,5 @@
 -- `width_of` meets its contract: the code's table is the table of widths, and no entry passes 8.
-use mathlib.Core.Path.{refl, sym}
+use mathlib.Core.Path.{sym}
 use native.Mathlib.Omega.{arith}
 use lib.ListN.{List·getD-eq-default}
 use borrow.Author.Needs.{needs}
@@ -8,13 +8,9 @@ use Rattle.stored_value.proofs.Widths.{width-le}
 use Rattle.stored_value.proofs.width_of.Statement.{statement}
 use Rattle.stored_value.proofs.width_of.Tie as tie
 
-cast-result : tie.Need-cast-result
-unfolding width
-cast-result c = omega (arith, width-le (c .before .args .t))
-
 returns : tie.Need-returns
 unfolding width
-returns c = (refl, width-le (c .before .args .t))
+returns c = (c .wide .ensures, omega (arith, c .wide .ensures, width-le (c .before .before .args .t)))
 
 returns-2 : tie.Need-returns-2
 unfolding width
@@ -25,6 +21,6 @@ width-of-spec =
     tie.close
     (tie.spec
     (λ c. search needs)
-    cast-result
+    (λ c κs. search needs)
     returns
     returns-2)
