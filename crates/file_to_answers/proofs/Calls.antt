@@ -39,39 +39,26 @@ bytes-looked-at (x ∷ embedded) file a b = a
 
 -- ---- the reading of an answer
 
-read-found : (o : Out Refusal (Sought Part)) (start : Position) (size : ℕ) → Located.Found start size ≡ locatedBy o → o ≡ ok (found (record { start = start; length = size }))
-unfolding locatedBy
-read-found (refuse r) start size e = absurd (let z : _≡_ {A = ℕ} 0 1 = cc in omega arith)
-read-found (ok absent) start size e = absurd (let z : _≡_ {A = ℕ} 0 1 = cc in omega arith)
-read-found (ok (found p)) start size e = let x : start ≡ p .start = cc in let y : size ≡ p .length = cc in rw (x, y)
+abbrev readingOf : Located → Out Refusal (Sought Part)
+readingOf (Located.Found start size) = ok (found (record { start = start; length = size }))
+readingOf Located.Absent = ok absent
+readingOf (Located.Refused r) = refuse r
 
-read-absent : (o : Out Refusal (Sought Part)) → Located.Absent ≡ locatedBy o → o ≡ ok absent
+reading-back : (o : Out Refusal (Sought Part)) → readingOf (locatedBy o) ≡ o
 unfolding locatedBy
-read-absent (refuse r) e = absurd (let z : _≡_ {A = ℕ} 0 1 = cc in omega arith)
-read-absent (ok absent) e = refl
-read-absent (ok (found p)) e = absurd (let z : _≡_ {A = ℕ} 0 1 = cc in omega arith)
-
-read-refused : (o : Out Refusal (Sought Part)) (r : Refusal) → Located.Refused r ≡ locatedBy o → o ≡ refuse r
-unfolding locatedBy
-read-refused (refuse q) r e = cc
-read-refused (ok absent) r e = absurd (let z : _≡_ {A = ℕ} 0 1 = cc in omega arith)
-read-refused (ok (found p)) r e = absurd (let z : _≡_ {A = ℕ} 0 1 = cc in omega arith)
+reading-back (refuse r) = refl
+reading-back (ok absent) = refl
+reading-back (ok (found p)) = refl
 
 module _ (bytes column kind : List ℕ) {l : Located} (e : l ≡ locatedBy (find bytes column kind)) where
-  was-found : {start : Position} {size : ℕ} → l ≡ Located.Found start size → find bytes column kind ≡ ok (found (record { start = start; length = size }))
-  was-found {start} {size} g = read-found (find bytes column kind) start size (sym g ∙ e)
-
-  was-absent : l ≡ Located.Absent → find bytes column kind ≡ ok absent
-  was-absent g = read-absent (find bytes column kind) (sym g ∙ e)
-
-  was-refused : {r : Refusal} → l ≡ Located.Refused r → find bytes column kind ≡ refuse r
-  was-refused {r} g = read-refused (find bytes column kind) r (sym g ∙ e)
+  was-read : {case : Located} → l ≡ case → find bytes column kind ≡ readingOf case
+  was-read g = sym (reading-back (find bytes column kind)) ∙ ap readingOf (sym e ∙ g)
 
   -- what is found lies within the buffer that is looked at
   pub inside : (embedded file : List ℕ) → Bytes embedded → Bytes file → bytes ≡ lookedAt embedded file → {start : Position} {size : ℕ} → l ≡ Located.Found start size
       → start .0 + size ≤ length bytes
   inside embedded file a b x {start} {size} g =
-      found-within bytes column kind (record { start = start; length = size }) (rw x (bytes-looked-at embedded file a b)) (was-found g)
+      found-within bytes column kind (record { start = start; length = size }) (rw x (bytes-looked-at embedded file a b)) (was-read g)
 
   -- ---- Locate
 
@@ -79,15 +66,15 @@ module _ (bytes column kind : List ℕ) {l : Located} (e : l ≡ locatedBy (find
     pub locate-found : {start : Position} {size : ℕ} → l ≡ Located.Found start size → {body : List ℕ} → body ≡ take size (drop (start .0) bytes)
         → {place : ℕ × ℕ} → place ≡ (buffer .0, start .0 + buffer .1) → LocatePromise bytes column kind buffer 0 body place
     unfolding numbersOf soughtNumbers
-    locate-found g p h = record { number = rw (was-found g); part = rw (was-found g) p; handed-back = rw (was-found g) h }
+    locate-found g p h = record { number = rw (was-read g); part = rw (was-read g) p; handed-back = rw (was-read g) h }
 
     pub locate-absent : l ≡ Located.Absent → (place : ℕ × ℕ) → LocatePromise bytes column kind buffer 255 [] place
     unfolding numbersOf soughtNumbers
-    locate-absent g place = record { number = rw (was-absent g); part = rw (was-absent g); handed-back = rw (was-absent g) tt }
+    locate-absent g place = record { number = rw (was-read g); part = rw (was-read g); handed-back = rw (was-read g) tt }
 
     pub locate-refused : {r : Refusal} → l ≡ Located.Refused r → {n : ℕ} → n ≡ numberOf r → (place : ℕ × ℕ) → LocatePromise bytes column kind buffer n [] place
     unfolding numbersOf
-    locate-refused g x place = record { number = rw (was-refused g) x; part = rw (was-refused g); handed-back = rw (was-refused g) tt }
+    locate-refused g x place = record { number = rw (was-read g) x; part = rw (was-read g); handed-back = rw (was-read g) tt }
 
 -- ---- Locate, then Ask
 
@@ -120,16 +107,16 @@ module _ (bytes column kind : List ℕ) (t q : ℕ) (literals before : List ℕ)
   module _ {l : Located} (e : l ≡ locatedBy (find bytes column kind)) where
     pub asked-absent : l ≡ Located.Absent → Promise bytes column kind t q literals before before FileAnswer.Absent
     unfolding askFile askPart andThen askFileBuffer askPartBuffer fileAnswerBy askFileOut askFileNumbers numbersOf
-    asked-absent g = let x = was-absent bytes column kind e g in both (record { answer = rw x; numbers = rw x; buffer = rw x })
+    asked-absent g = let x = was-read bytes column kind e g in both (record { answer = rw x; numbers = rw x; buffer = rw x })
 
     pub asked-refused : {r : Refusal} → l ≡ Located.Refused r → Promise bytes column kind t q literals before before (FileAnswer.Answered (Answered.Refused r))
     unfolding askFile andThen askFileBuffer askPartBuffer fileAnswerBy askFileOut askOut numbersOf
-    asked-refused g = let x = was-refused bytes column kind e g in both (record { answer = rw x; numbers = rw x; buffer = rw x })
+    asked-refused g = let x = was-read bytes column kind e g in both (record { answer = rw x; numbers = rw x; buffer = rw x })
 
     pub asked-found : {start : Position} {size : ℕ} → l ≡ Located.Found start size → {body : List ℕ} → body ≡ take size (drop (start .0) bytes)
         → {y : Answered} {after : List ℕ} → AskPromise t q literals body before after y → Promise bytes column kind t q literals before after (FileAnswer.Answered y)
     unfolding askFile askPart andThen askFileBuffer askPartBuffer askFileOut
     asked-found g {body} p h =
-        let x = was-found bytes column kind e g in
+        let x = was-read bytes column kind e g in
         let o = ask t q literals body before in
         both (record { answer = rw (x, ← p, h .answer) (asked o); numbers = rw (x, ← p) (h .numbers ∙ numbered o); buffer = rw (x, ← p) (h .buffer) })

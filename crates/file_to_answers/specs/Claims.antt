@@ -1,7 +1,8 @@
 -- Demand 3, one claim from file to answers: all versions, cuts and forms at once, and over the scan. A reading that refuses everything does not have it.
 use Prim.Native.Nat.{ℕ, _≤_}
 use mathlib.Core.Path.{_≡_}
-use mathlib.Core.List.{List, []}
+use mathlib.Core.Logic.{_⊎_}
+use mathlib.Core.List.{List, [], _∷_}
 use lib.ListN.{length}
 use Rattle.numbers.specs.Meaning.{beAt, Bytes, joined}
 use Rattle.refusal.specs.Reading.{ok}
@@ -10,6 +11,7 @@ use Rattle.stored_value.specs.Meaning.{Cell}
 use Rattle.index_file.specs.Layout.{fileVersion}
 use Rattle.index_file.specs.Reading.{Part, found, find}
 use Rattle.bitmap_index.specs.Meaning.{Question}
+use Rattle.bitmap_index.specs.Reading.{Answer}
 use Rattle.bitmap_index.specs.Claims.{scanAnswer, AnswersAsScan}
 use Rattle.file_to_answers.specs.Layout.{ColumnFile}
 use Rattle.file_to_answers.specs.Reading.{lookedAt, partOf, askFile, askFileBuffer}
@@ -38,3 +40,9 @@ FileIsAnswered =
 -- of a file with a version other than 1 no part is handed back
 abbrev pub OtherVersionHasNoPart : Type 0
 OtherVersionHasNoPart = (bytes column kind : List ℕ) → (beAt 4 bytes 8 ≡ fileVersion → ⊥) → partOf (find bytes column kind) bytes ≡ []
+
+-- unknown versions never yield rows: a file that is answered has version 1, and its body, as Locate hands it back, version 1 or 2
+abbrev pub AnsweredVersions : Type 0
+AnsweredVersions =
+    (bytes column kind : List ℕ) (t q : ℕ) (literals field : List ℕ) (a : Answer) → askFile bytes column kind t q literals field ≡ ok (found a)
+    → (beAt 4 bytes 8 ≡ fileVersion) × ((v : ℕ) (s : List ℕ) → partOf (find bytes column kind) bytes ≡ v ∷ s → (v ≡ 1) ⊎ (v ≡ 2))

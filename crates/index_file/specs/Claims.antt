@@ -13,25 +13,30 @@ use Rattle.index_file.specs.Reading.{Sought, found, absent, Part, bytesO
 
 -- laid out, so found: a file of the column, within the limit, with a start and a length that give the body
 abbrev pub LaidOutIsFound : Type 0
-LaidOutIsFound = (column kind body bytes : List ℕ) → File column kind body bytes → length bytes ≤ limit
+LaidOutIsFound =
+    (column kind body bytes : List ℕ) → File column kind body bytes → length bytes ≤ limit
     → (p : Part) × (find bytes column kind ≡ ok (found p)) × (bytesOf p bytes ≡ body)
 
 -- found, so laid out
 abbrev pub FoundIsLaidOut : Type 0
-FoundIsLaidOut = (bytes column kind : List ℕ) (p : Part) → Bytes bytes → find bytes column kind ≡ ok (found p) → File column kind (bytesOf p bytes) bytes
+FoundIsLaidOut =
+    (bytes column kind : List ℕ) (p : Part) → Bytes bytes → find bytes column kind ≡ ok (found p) → File column kind (bytesOf p bytes) bytes
 
 -- there is at most one body
 abbrev pub OneBody : Type 0
-OneBody = (column kind body body′ bytes : List ℕ) → File column kind body bytes → File column kind body′ bytes → length bytes ≤ limit → body ≡ body′
+OneBody =
+    (column kind body body′ bytes : List ℕ) → File column kind body bytes → File column kind body′ bytes → length bytes ≤ limit → body ≡ body′
 
 -- not listed, so ABSENT, within the limits
 abbrev pub UnlistedIsAbsent : Type 0
-UnlistedIsAbsent = (bytes column kind : List ℕ) (h : Headed bytes) → Unlisted column kind (h .columns) → length bytes ≤ limit → length column ≤ limit → length kind ≤ limit
-    → find bytes column kind ≡ ok absent
+UnlistedIsAbsent =
+    (bytes column kind : List ℕ) (h : Headed bytes) → Unlisted column kind (h .columns) → length bytes ≤ limit → length column ≤ limit
+    → length kind ≤ limit → find bytes column kind ≡ ok absent
 
 -- ABSENT, so not listed: it is said only of a head that keeps the rules, and that lists the asked column not at all, or once and in it not the asked kind
 abbrev pub AbsentIsUnlisted : Type 0
-AbsentIsUnlisted = (bytes column kind : List ℕ) → Bytes bytes → find bytes column kind ≡ ok absent → (h : Headed bytes) × Unlisted column kind (h .columns)
+AbsentIsUnlisted =
+    (bytes column kind : List ℕ) → Bytes bytes → find bytes column kind ≡ ok absent → (h : Headed bytes) × Unlisted column kind (h .columns)
 
 -- the number of an answer tells its case
 abbrev pub NumberOfFound : Type 0
@@ -42,11 +47,13 @@ NumberOfAbsent = (o : Out Refusal (Sought Part)) → locateNumbers o .0 ≡ abse
 
 -- a version other than 1 is refused as that, where no refusal that comes first is due
 abbrev pub OtherVersionIsRefused : Type 0
-OtherVersionIsRefused = (bytes column kind : List ℕ) → (beAt 4 bytes 8 ≡ fileVersion → ⊥) → length bytes ≤ limit → length column ≤ limit → length kind ≤ limit
+OtherVersionIsRefused =
+    (bytes column kind : List ℕ) → (beAt 4 bytes 8 ≡ fileVersion → ⊥) → length bytes ≤ limit → length column ≤ limit → length kind ≤ limit
     → frontSize ≤ length bytes → beAt 8 bytes 0 ≡ magic → find bytes column kind ≡ refuse Refusal.Version
 
 -- and it is refused always, as that or by one of the three that come first
 abbrev pub OtherVersionIsNotFound : Type 0
-OtherVersionIsNotFound = (bytes column kind : List ℕ) → (beAt 4 bytes 8 ≡ fileVersion → ⊥)
+OtherVersionIsNotFound =
+    (bytes column kind : List ℕ) → (beAt 4 bytes 8 ≡ fileVersion → ⊥)
     → (find bytes column kind ≡ refuse Refusal.Limit) ⊎ ((find bytes column kind ≡ refuse Refusal.Short)
     ⊎ ((find bytes column kind ≡ refuse Refusal.Magic) ⊎ (find bytes column kind ≡ refuse Refusal.Version)))

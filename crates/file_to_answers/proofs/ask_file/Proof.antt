@@ -20,7 +20,8 @@ returns c =
     let k = l .before in
     let a = k .before .before .before .before .before .before .args in
     rw (l .looked-at .ensures .0)
-    at (asked-absent (l .looked-at .result .now) (a .column .now) (a .kind .now) (a .t) (a .question) (a .literals .now) (a .field .now) (λ i. k .slice-known .given i .fits) (f .find .ensures .answer)
+    at (asked-absent (l .looked-at .result .now) (a .column .now) (a .kind .now) (a .t) (a .question) (a .literals .now) (a .field .now)
+    (λ i. k .slice-known .given i .fits) (f .find .ensures .answer)
     (c .enum-told .given .1))
 
 returns-2 : tie.Need-returns-2
@@ -30,7 +31,8 @@ returns-2 c =
     let k = l .before in
     let a = k .before .before .before .before .before .before .args in
     rw (l .looked-at .ensures .0)
-    at (asked-refused (l .looked-at .result .now) (a .column .now) (a .kind .now) (a .t) (a .question) (a .literals .now) (a .field .now) (λ i. k .slice-known .given i .fits) (f .find .ensures .answer)
+    at (asked-refused (l .looked-at .result .now) (a .column .now) (a .kind .now) (a .t) (a .question) (a .literals .now) (a .field .now)
+    (λ i. k .slice-known .given i .fits) (f .find .ensures .answer)
     (c .before .located .given .1))
 
 returns-3 : tie.Need-returns-3
@@ -41,7 +43,8 @@ returns-3 c =
     let k = l .before in
     let a = k .before .before .before .before .before .before .args in
     rw (l .looked-at .ensures .0)
-    at (asked-found (l .looked-at .result .now) (a .column .now) (a .kind .now) (a .t) (a .question) (a .literals .now) (a .field .now) (λ i. k .slice-known .given i .fits) (f .find .ensures .answer)
+    at (asked-found (l .looked-at .result .now) (a .column .now) (a .kind .now) (a .t) (a .question) (a .literals .now) (a .field .now)
+    (λ i. k .slice-known .given i .fits) (f .find .ensures .answer)
     (p .before .before .located2 .given .1) (p .part .ensures .0) (c .before .before .ask .ensures))
 
 pub ask-file-spec : {M : Type 1} → statement M
