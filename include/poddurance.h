@@ -113,7 +113,7 @@ uint8_t poddurance_audit(const uint8_t *body, size_t body_len, uint32_t type,
                          uint8_t *field, size_t field_len, uint64_t *rows);
 
 /* Ask: audits the body; then exactly the rows that the question chooses are set in the field. Literals lie one after another in the type's stored form (big-endian
- * numbers; strings with a 4-byte length). A *matched of 0 says skip. */
+ * numbers; strings with a 4-byte length). Accepted with a *matched of 0 says skip; a refusal writes 0 too. */
 uint8_t poddurance_ask(const uint8_t *body, size_t body_len, uint32_t type, uint32_t question,
                        const uint8_t *literals, size_t literals_len,
                        uint8_t *field, size_t field_len, uint64_t *matched);

@@ -22,7 +22,7 @@ use Rattle.stored_value.specs.Meaning.{types, Cell, null, value, sameCell}
 use Rattle.refusal.specs.Reading.{ok}
 use Rattle.stored_value.proofs.Laws.{sameCell-refl, sameCell→eq, sameCell-sym}
 use Rattle.dictionary.specs.Layout as layout
-use Rattle.dictionary.specs.Promises.{Patterns}
+use Rattle.dictionary.specs.Layout.{Patterns}
 use Rattle.dictionary.specs.Layout.{Entry, Valued, NullOnly, someHas, Distinct}
 use Rattle.dictionary.specs.Reading.{Dictionary}
 use Rattle.dictionary.specs.Claims.{LaidOut, in-one, in-two, Once}

@@ -11,7 +11,7 @@ use lib.Dec.{eqb, ltb}
 use lib.IntN.{ℤ, pos, negsuc}
 use lib.ListN.{length, take, drop, length-append, length-drop, take-append-drop}
 use lib.Seq.{length-take-le}
-use Rattle.numbers.specs.Meaning.{signed32, Bytes, minusOne, signBit}
+use Rattle.numbers.specs.Meaning.{signed32, Bytes, minusOne, signBit, fourBytes}
 use Rattle.numbers.proofs.Booleans.{and-both, not-true}
 use Rattle.numbers.proofs.ByteLists.{bytes-drop}
 use Rattle.refusal.specs.Meaning.{limit}
@@ -21,7 +21,6 @@ use Rattle.row_field.proofs.RowLists.{rising-within}
 use Rattle.roaring.specs.declared.Extent.{Extent}
 use Rattle.roaring.specs.declared.Extent.the-variants.{AsLong, Exactly}
 use Rattle.roaring.specs.Layout as roaring
-use Rattle.roaring.specs.Layout.{fourBytes}
 use Rattle.roaring.specs.Reading.{Unsound, Parsed, read, lengthIs, measured}
 use Rattle.roaring.proofs.Measured.{measured-back}
 use Rattle.roaring.proofs.Theorems.{read-was-laid-out, bitmap-rising}

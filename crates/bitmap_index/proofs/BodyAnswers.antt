@@ -6,16 +6,15 @@ use mathlib.Core.List.{List, [], _∷_, _++_}
 use native.Mathlib.Omega.{arith}
 use borrow.Author.Tests.{lt-ltb, le-leb}
 use lib.ListN.{length, getD, length-append}
-use Rattle.numbers.specs.Meaning.{be, big, joined, Bytes}
+use Rattle.numbers.specs.Meaning.{be, big, joined, Bytes, fourBytes}
 use Rattle.numbers.proofs.Laws.{length-spelled}
 use Rattle.refusal.specs.Meaning.{limit}
 use Rattle.refusal.specs.declared.Refusal.{Refusal}
-use Rattle.roaring.specs.Layout.{fourBytes}
 use Rattle.row_field.specs.Meaning.{size, cleared}
 use Rattle.stored_value.specs.Meaning.{types, Cell, widths, width, Value, number, string, Literals}
 use Rattle.refusal.specs.Reading.{Out, ok, check, andThen}
 use Rattle.stored_value.proofs.Laws.{literals-laid}
-use Rattle.dictionary.specs.Promises.{Patterns}
+use Rattle.dictionary.specs.Layout.{Patterns}
 use Rattle.dictionary.specs.Layout.{Entry, entries1, null1, body1, blocks, directory, null2, body2}
 use Rattle.dictionary.specs.Reading.{Dictionary, dictionary}
 use Rattle.bitmap_index.specs.Meaning.{questions, Question}

@@ -2,7 +2,7 @@
 -- well-formed question alike are the same.
 use Prim.Native.Nat.{ℕ, zero, suc, _<_}
 use mathlib.Core.Path.{_≡_, refl, sym, ap, _∙_}
-use mathlib.Core.Bool.{Bool, true, false, _||_}
+use mathlib.Core.Bool.{Bool, true, false, _||_, or-false}
 use mathlib.Core.List.{List, [], _∷_, _++_}
 use native.Mathlib.Omega.{arith}
 use lib.ListN.{length, getD, replicate, length-replicate, drop, take}
@@ -53,10 +53,6 @@ cell-typed t zero (value v ∷ cells) h = h .0
 cell-typed t (suc r) (null ∷ cells) h = cell-typed t r cells h
 cell-typed t (suc r) (value v ∷ cells) h = cell-typed t r cells (h .1)
 
-or-first : (a : Bool) → a || false ≡ true → a ≡ true
-or-first true e = refl
-or-first false e = e
-
 -- the cells that every question chooses, or does not, as it does c, are c
 same-cell : (t : ℕ) (c d : Cell) → t < types → Typed t c → ((q : ℕ) (ls : List (List ℕ)) → Question t q ls → chosen q ls c ≡ chosen q ls d) → c ≡ d
 unfolding chosen listed takes
@@ -71,7 +67,7 @@ same-cell t (value v) null k p h =
 same-cell t (value v) (value w) k p h =
     let e : same v v || false ≡ same w v || false = h 0 (v ∷ []) (k, omega arith, omega arith, (p, tt), refl) in
     let g : true ≡ same w v || false = rw (same-refl v) at e in
-    sym (ap value (same→eq w v (or-first (same w v) (sym g))))
+    sym (ap value (same→eq w v (sym (or-false (same w v)) ∙ sym g)))
 
 same-answers : (t : ℕ) (cells cells′ : List Cell) → Column t cells → length cells ≡ length cells′
     → ((q : ℕ) (ls : List (List ℕ)) → Question t q ls → scan q ls cells .field ≡ scan q ls cells′ .field) → cells ≡ cells′

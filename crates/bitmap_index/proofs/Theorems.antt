@@ -25,7 +25,7 @@ use Rattle.dictionary.specs.Layout.{body1, body2}
 use Rattle.dictionary.proofs.LaidOut.{one-laid, two-laid}
 use Rattle.dictionary.proofs.Theorems.{one-has-each-once, two-has-each-once}
 use Rattle.bitmap_index.proofs.SameColumn.{same-column}
-use Rattle.refusal.proofs.Laws.{ok-same, then-ok, check-ok}
+use Rattle.refusal.proofs.Laws.{not-ok, ok-same, then-ok, check-ok}
 use Rattle.bitmap_index.proofs.AcceptedStages.{audit-passed, asked-back, ask-parts}
 use Rattle.bitmap_index.proofs.Accepted.{holder, columnOf, length-table, passed-body, passed-once}
 use Rattle.bitmap_index.proofs.Versions.{version-audited, version-audited-buffer, version-asked, version-asked-buffer}
@@ -109,8 +109,7 @@ refused-for-room t cells body field r bf b e = go (decLt (length field) (size (l
     go : Dec (length field < size (length cells)) → (r ≡ Room) × (length field < size (length cells))
     go (yes h) = let q = short-of-room t cells body field b h in (cc, h)
     go (no h) =
-        let a = column-is-answered t cells body b field bf (omega arith) .audited in
-        absurd (let z : _≡_ {A = ℕ} 0 1 = cc in omega arith)
+        absurd (not-ok (sym e ∙ column-is-answered t cells body b field bf (omega arith) .audited))
 
 pub refused-is-no-column : RefusedIsNoColumn
 refused-is-no-column t body field r bf h e cells b =
@@ -136,6 +135,6 @@ unknown-version-is-refused t q v s literal field n n′ =
 pub unknown-version-yields-nothing : UnknownVersionYieldsNothing
 unknown-version-yields-nothing t q v s literal field n n′ =
     let w = unknown-version-is-refused t q v s literal field n n′ in (
-      λ m e. let f = check-ok _ _ _ m (check-ok _ _ _ m (sym (w .audited) ∙ e) .1) .1 in let z : _≡_ {A = ℕ} 0 1 = cc in omega arith,
-      λ a e. let f = then-ok _ _ a (sym (w .answered) ∙ e) .2 in let z : _≡_ {A = ℕ} 0 1 = cc in omega arith,
+      λ m e. not-ok (check-ok _ _ _ m (check-ok _ _ _ m (sym (w .audited) ∙ e) .1) .1),
+      λ a e. not-ok (then-ok _ _ a (sym (w .answered) ∙ e) .2),
     )

@@ -1,4 +1,4 @@
--- What is claimed of Audit and Ask, over their definitions in Reading; proofs/Theorems and proofs/Demand2 prove it. `Bytes` is asked of buffers: a buffer's
+-- What is claimed of Audit and Ask, over their definitions in Reading; proofs/Theorems proves it. `Bytes` is asked of buffers: a buffer's
 -- numbers are bytes.
 use Prim.Native.Nat.{ℕ, _+_, _<_, _≤_}
 use mathlib.Core.Path.{_≡_}

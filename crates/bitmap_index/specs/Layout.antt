@@ -6,9 +6,9 @@ use Prim.Native.Nat.{ℕ, _+_, _-_, _≤_, _<_}
 use mathlib.Core.Bool.{true, cond}
 use mathlib.Core.List.{List, [], _∷_, _++_}
 use lib.ListN.{length}
-use Rattle.numbers.specs.Meaning.{All, joined, minusOne, signBit}
+use Rattle.numbers.specs.Meaning.{All, joined, minusOne, signBit, fourBytes}
 use Rattle.refusal.specs.Meaning.{limit}
-use Rattle.roaring.specs.Layout.{fourBytes, Bitmap}
+use Rattle.roaring.specs.Layout.{Bitmap}
 use Rattle.stored_value.specs.Meaning.{Cell, null, sameCell}
 use Rattle.dictionary.specs.Layout.{Entry, NullOnly, someHas, Distinct, NoExtents, body1, Rises, NoneEmpty, body2, mostValues1, mostValues2, mostBlocks}
 use Rattle.bitmap_index.specs.Meaning.{Column}

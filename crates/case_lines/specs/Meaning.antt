@@ -5,22 +5,22 @@ use mathlib.Core.List.{List, [], _∷_}
 use lib.Dec.{eqb}
 
 -- what stands before the first `stop`
-unfoldable pub upTo : ℕ → List ℕ → List ℕ
-upTo stop [] = []
-upTo stop (b ∷ s) = cond (eqb b stop) [] (b ∷ upTo stop s)
+unfoldable pub until : ℕ → List ℕ → List ℕ
+until stop [] = []
+until stop (b ∷ s) = cond (eqb b stop) [] (b ∷ until stop s)
 
 -- what stands behind the first `stop`
-unfoldable pub past : ℕ → List ℕ → List ℕ
-past stop [] = []
-past stop (b ∷ s) = cond (eqb b stop) s (past stop s)
+unfoldable pub beyond : ℕ → List ℕ → List ℕ
+beyond stop [] = []
+beyond stop (b ∷ s) = cond (eqb b stop) s (beyond stop s)
 
 -- a line from its word k on, the first being word 0: spaces part words
 unfoldable pub fromWord : ℕ → List ℕ → List ℕ
 fromWord zero line = line
-fromWord (suc k) line = fromWord k (past 32 line)
+fromWord (suc k) line = fromWord k (beyond 32 line)
 
 unfoldable pub wordOf : ℕ → List ℕ → List ℕ
-wordOf k line = upTo 32 (fromWord k line)
+wordOf k line = until 32 (fromWord k line)
 
 -- ten times a number below this fits 64 bits
 abbrev pub tenth : ℕ
@@ -32,5 +32,5 @@ decimalFrom n [] = n
 decimalFrom n (b ∷ s) = decimalFrom ((n % tenth * 10 + b % 16) % 2 ^ 64) s
 
 -- the number that word k of a line is
-unfoldable pub numberOf : ℕ → List ℕ → ℕ
-numberOf k line = decimalFrom 0 (wordOf k line)
+unfoldable pub wordNumber : ℕ → List ℕ → ℕ
+wordNumber k line = decimalFrom 0 (wordOf k line)

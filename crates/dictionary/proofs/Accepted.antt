@@ -19,7 +19,8 @@ use Rattle.stored_value.specs.Meaning.{Cell, null, value, Value, sameCell}
 use Rattle.refusal.specs.Reading.{Out, refuse, ok, check, andThen}
 use Rattle.stored_value.specs.Reading.{valueSize, valueOf}
 use Rattle.dictionary.specs.Layout.{Entry, mostValues1, mostValues2, mostBlocks, Patterns, NullOnly, someHas, Distinct, NoExtents, valueBytes, entries1, hasNull, null1, body1, first, Past, Rises, NoneEmpty, entries2, block, blocks, directory, null2, body2}
-use Rattle.dictionary.specs.Reading.{countAtMost, Dictionary, entriesOne, Listing, listings, past, isDue, entriesTwo, behind, blocksOf, blocked, nullOf, dictionary}
+use Rattle.dictionary.specs.Promises.{AfterEntries}
+use Rattle.dictionary.specs.Reading.{countAtMost, entriesOne, Listing, listings, past, isDue, entriesTwo, behind, blocksOf, blocked, nullOf, dictionary}
 use Rattle.numbers.proofs.SameBytes.{same→eq}
 use Rattle.stored_value.proofs.Laws.{sameCell-sym, value-read}
 use Rattle.dictionary.proofs.LaidOut.{Apart, listingsOf, lastOf, Begins, behind-is}
@@ -162,7 +163,7 @@ listing-is : (d : Listing) (ds : List Listing) (at : ℕ) (es : List Entry) (bs 
 listing-is d ds at es bs p q e = λ i. record { first = p i; at = q i } ∷ e i
 
 on-blocks : (P : List ℕ → Type 0) (t at : ℕ) (base : List ℕ) (before : Cell) (ds : List Listing) (sofar : List Entry) (s : List ℕ)
-    (k : List Entry → List ℕ → Out Refusal Dictionary) → Bytes s → length base ≡ at + length s → Good (blocksOf t ds base before sofar s k)
+    (k : AfterEntries) → Bytes s → length base ≡ at + length s → Good (blocksOf t ds base before sofar s k)
     → ((bs : List (List Entry)) (s : List ℕ) → ds ≡ listingsOf at bs → NoneEmpty bs → Rises t before (joined bs) → Patterns (joined bs)
     → Good (k (sofar ++ joined bs) s) → P (blocks bs ++ s)) → P s
 unfolding blocksOf
@@ -201,7 +202,7 @@ on-blocked P t rows n nulls s h g f =
 
 -- ---- null's entry
 
-on-null1 : (P : ℕ → List ℕ → Type 0) (b : ℕ) (s : List ℕ) (k : List Entry → List ℕ → Out Refusal Dictionary) → b ≤ 1 → Bytes s → Good (nullOf false (eqb b 1) s k)
+on-null1 : (P : ℕ → List ℕ → Type 0) (b : ℕ) (s : List ℕ) (k : AfterEntries) → b ≤ 1 → Bytes s → Good (nullOf false (eqb b 1) s k)
     → ((nulls : List Entry) (s : List ℕ) → NullOnly nulls → NoExtents nulls → Patterns nulls → Bytes s → Good (k nulls s)
     → P (hasNull nulls) (null1 nulls ++ s)) → P b s
 unfolding nullOf
@@ -211,7 +212,7 @@ on-null1 P (suc zero) s k l h g f =
     f (record { cell = null; offset = offset; extent = minusOne } ∷ []) s (refl, refl) (refl, tt) (ho, omega arith, tt) h g)
 on-null1 P (suc (suc b)) s k l h g f = absurd (omega arith)
 
-on-null2 : (P : ℕ → List ℕ → Type 0) (b : ℕ) (s : List ℕ) (k : List Entry → List ℕ → Out Refusal Dictionary) → b ≤ 1 → Bytes s → Good (nullOf true (eqb b 1) s k)
+on-null2 : (P : ℕ → List ℕ → Type 0) (b : ℕ) (s : List ℕ) (k : AfterEntries) → b ≤ 1 → Bytes s → Good (nullOf true (eqb b 1) s k)
     → ((nulls : List Entry) (s : List ℕ) → NullOnly nulls → Patterns nulls → Bytes s → Good (k nulls s) → P (hasNull nulls) (null2 nulls ++ s)) → P b s
 unfolding nullOf
 on-null2 P zero s k l h g f = f [] s tt tt h g

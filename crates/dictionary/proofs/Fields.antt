@@ -29,33 +29,33 @@ use Rattle.dictionary.specs.declared.AllEntries.{AllEntries}
 use Rattle.dictionary.specs.declared.Count.{Count}
 use Rattle.dictionary.specs.declared.Count.the-variants.{Is}
 use Rattle.dictionary.specs.declared.Fixed.the-variants.{Fields}
-use Rattle.dictionary.specs.Layout.{Entry, mostValues1, mostValues2}
+use Rattle.dictionary.specs.Layout.{mostValues1, mostValues2}
 use Rattle.dictionary.specs.Reading.{Dictionary, countAtMost, nullOf, entriesOne, blocked, dictionary}
-use Rattle.dictionary.specs.Promises.{pattern, nulls, nullsOf, IsRead, ReadsDictionary, CountAt, NullAt, entriesOf, FixedOf, AllEntriesAt}
+use Rattle.dictionary.specs.Promises.{AfterEntries, AfterCount, pattern, nulls, nullsOf, IsRead, ReadsDictionary, CountAt, NullAt, entriesOf, FixedOf, AllEntriesAt}
 use Rattle.dictionary.proofs.Offsets.{pattern-passed}
 use Rattle.dictionary.proofs.Steps.{word-at, word-short}
 
 -- ---- a count
 
 module _ (most : ℕ) (s : List ℕ) (p : ℕ) where
-  pub count-short : length s - p < 4 → (f : ℕ → List ℕ → Out Refusal Dictionary) → countAtMost most (drop p s) f ≡ refuse Short
+  pub count-short : length s - p < 4 → (f : AfterCount) → countAtMost most (drop p s) f ≡ refuse Short
   unfolding countAtMost
   count-short h f = word-short 4 s p _ h
 
   module _ (h : p + 4 ≤ length s) {n : ℕ} (e : n ≡ beAt 4 s p) where
-    tested : (f : ℕ → List ℕ → Out Refusal Dictionary) → countAtMost most (drop p s) f ≡ check (ltb n signBit) Dict (check (leb n most) Limit (f n (drop (p + 4) s)))
+    tested : (f : AfterCount) → countAtMost most (drop p s) f ≡ check (ltb n signBit) Dict (check (leb n most) Limit (f n (drop (p + 4) s)))
     unfolding countAtMost
     tested f = rw e (word-at 4 s p _ h)
 
-    pub count-negative : signBit ≤ n → (f : ℕ → List ℕ → Out Refusal Dictionary) → countAtMost most (drop p s) f ≡ refuse Dict
+    pub count-negative : signBit ≤ n → (f : AfterCount) → countAtMost most (drop p s) f ≡ refuse Dict
     unfolding check
     count-negative l f = tested f ∙ rw le-ltb
 
-    pub count-over : n < signBit → most < n → (f : ℕ → List ℕ → Out Refusal Dictionary) → countAtMost most (drop p s) f ≡ refuse Limit
+    pub count-over : n < signBit → most < n → (f : AfterCount) → countAtMost most (drop p s) f ≡ refuse Limit
     unfolding check
     count-over l m f = tested f ∙ rw (lt-ltb, lt-leb)
 
-    pub count-is : n < signBit → n ≤ most → (f : ℕ → List ℕ → Out Refusal Dictionary) → countAtMost most (drop p s) f ≡ f n (drop (p + 4) s)
+    pub count-is : n < signBit → n ≤ most → (f : AfterCount) → countAtMost most (drop p s) f ≡ f n (drop (p + 4) s)
     unfolding check
     count-is l m f = tested f ∙ rw (lt-ltb, le-leb)
 
@@ -66,12 +66,12 @@ pub has-one : {has : Bool} {P : Type 0} → has ≡ true → has ≡ false → P
 has-one y n = absurd (let z : _≡_ {A = ℕ} 0 1 = cc in omega arith)
 
 module _ (s : List ℕ) (p : ℕ) (version2 : Bool) {has : Bool} where
-  pub null-none : has ≡ false → (o : ℤ) (x : ℕ) (f : List Entry → List ℕ → Out Refusal Dictionary) → nullOf version2 has (drop p s) f ≡ f (nulls has o x) (drop p s)
+  pub null-none : has ≡ false → (o : ℤ) (x : ℕ) (f : AfterEntries) → nullOf version2 has (drop p s) f ≡ f (nulls has o x) (drop p s)
   unfolding nullOf
   null-none n o x f = rw n
 
   module _ (y : has ≡ true) where
-    pub null-short : length s - p < 4 → (f : List Entry → List ℕ → Out Refusal Dictionary) → nullOf version2 has (drop p s) f ≡ refuse Short
+    pub null-short : length s - p < 4 → (f : AfterEntries) → nullOf version2 has (drop p s) f ≡ refuse Short
     unfolding nullOf
     null-short h f = rw y (go version2)
       where
@@ -83,16 +83,16 @@ module _ (s : List ℕ) (p : ℕ) (version2 : Bool) {has : Bool} where
       e : pattern (toZ w32 (ofZ w32 z)) ≡ beAt 4 s p
       e = pattern-passed (beAt 4 s p) o i
 
-      pub null-one : version2 ≡ false → (f : List Entry → List ℕ → Out Refusal Dictionary) → nullOf version2 has (drop p s) f ≡ f (nulls has (toZ w32 (ofZ w32 z)) minusOne) (drop (p + 4) s)
+      pub null-one : version2 ≡ false → (f : AfterEntries) → nullOf version2 has (drop p s) f ≡ f (nulls has (toZ w32 (ofZ w32 z)) minusOne) (drop (p + 4) s)
       unfolding nullOf
       null-one w f = rw (y, w, e) (word-at 4 s p _ h)
 
       module _ (w : version2 ≡ true) where
-        pub null-cut : length s - (p + 4) < 4 → (f : List Entry → List ℕ → Out Refusal Dictionary) → nullOf version2 has (drop p s) f ≡ refuse Short
+        pub null-cut : length s - (p + 4) < 4 → (f : AfterEntries) → nullOf version2 has (drop p s) f ≡ refuse Short
         unfolding nullOf
         null-cut l f = rw (y, w) (word-at 4 s p _ h ∙ word-short 4 s (p + 4) _ l)
 
-        pub null-two : p + 4 + 4 ≤ length s → {m : ℕ} → m ≡ beAt 4 s (p + 4) → (f : List Entry → List ℕ → Out Refusal Dictionary)
+        pub null-two : p + 4 + 4 ≤ length s → {m : ℕ} → m ≡ beAt 4 s (p + 4) → (f : AfterEntries)
             → nullOf version2 has (drop p s) f ≡ f (nulls has (toZ w32 (ofZ w32 z)) m) (drop (p + 4 + 4) s)
         unfolding nullOf
         null-two l d f = rw (y, w, e, d) (word-at 4 s p _ h ∙ word-at 4 s (p + 4) _ l)

@@ -19,7 +19,8 @@ use Rattle.stored_value.specs.Meaning.{types, Cell, null, value, sameCell}
 use Rattle.refusal.specs.Reading.{Out, refuse, ok, check, andThen}
 use Rattle.stored_value.specs.Reading.{valueOf}
 use Rattle.dictionary.specs.Layout.{Entry, mostValues1, mostValues2, mostBlocks, Patterns, Valued, NullOnly, someHas, Distinct, NoExtents, valueBytes, entries1, hasNull, null1, body1, first, Past, Rises, NoneEmpty, entries2, block, blocks, directory, null2, body2}
-use Rattle.dictionary.specs.Reading.{countAtMost, Dictionary, entriesOne, Listing, listings, past, isDue, entriesTwo, behind, blocksOf, blocked, nullOf, dictionary}
+use Rattle.dictionary.specs.Promises.{AfterEntries}
+use Rattle.dictionary.specs.Reading.{countAtMost, entriesOne, Listing, listings, past, isDue, entriesTwo, behind, blocksOf, blocked, nullOf, dictionary}
 use Rattle.numbers.proofs.SameBytes.{same-refl}
 use Rattle.stored_value.proofs.Laws.{value-laid, sameCell-sym}
 
@@ -111,14 +112,14 @@ fixed-laid t v rows n nulls s k e hr hm hn =
     ∙ byte-laid (hasNull nulls) s _
     ∙ rw (le-leb (hasNull nulls) 1 f)))
 
-null1-laid : (nulls : List Entry) (s : List ℕ) (k : List Entry → List ℕ → Out Refusal Dictionary) → NullOnly nulls → NoExtents nulls → Patterns nulls
+null1-laid : (nulls : List Entry) (s : List ℕ) (k : AfterEntries) → NullOnly nulls → NoExtents nulls → Patterns nulls
     → nullOf false (eqb (hasNull nulls) 1) (null1 nulls ++ s) k ≡ k nulls s
 unfolding nullOf
 null1-laid [] s k h x p = refl
 null1-laid (e ∷ es) s k h x p =
     number-laid big 4 (refuse Short) (e .offset) s _ (p .0) ∙ rw (← h .0, ← x .0, h .1)
 
-null2-laid : (nulls : List Entry) (s : List ℕ) (k : List Entry → List ℕ → Out Refusal Dictionary) → NullOnly nulls → Patterns nulls
+null2-laid : (nulls : List Entry) (s : List ℕ) (k : AfterEntries) → NullOnly nulls → Patterns nulls
     → nullOf true (eqb (hasNull nulls) 1) (null2 nulls ++ s) k ≡ k nulls s
 unfolding nullOf
 null2-laid [] s k h p = refl
@@ -224,7 +225,7 @@ pub behind-is : (at : ℕ) (base s : List ℕ) → length base ≡ at + length s
 unfolding behind
 behind-is at base s h = omega arith
 
-blocksOf-laid : (t at : ℕ) (base : List ℕ) (before : Cell) (bs : List (List Entry)) (sofar : List Entry) (s : List ℕ) (k : List Entry → List ℕ → Out Refusal Dictionary)
+blocksOf-laid : (t at : ℕ) (base : List ℕ) (before : Cell) (bs : List (List Entry)) (sofar : List Entry) (s : List ℕ) (k : AfterEntries)
     → length base ≡ at + length (blocks bs ++ s) → NoneEmpty bs → Rises t before (joined bs) → Patterns (joined bs) → length (joined bs) ≤ mostValues2
     → blocksOf t (listingsOf at bs) base before sofar (blocks bs ++ s) k ≡ k (sofar ++ joined bs) s
 unfolding blocksOf check

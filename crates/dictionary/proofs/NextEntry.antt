@@ -9,7 +9,7 @@ use lib.IntN.{ℤ}
 use lib.ListN.{length, drop, length-drop}
 use lib.Seq.{drop-drop}
 use borrow.Author.Tests.{le-leb, lt-leb, ne-eqb}
-use Rattle.numbers.specs.Meaning.{big, beAt, signed32, Bytes, minusOne}
+use Rattle.numbers.specs.Meaning.{big, beAt, signed32, Bytes, minusOne, position}
 use Rattle.numbers.proofs.Laws.{numberAt-drop, numberAt-lt}
 use Rattle.refusal.specs.declared.Refusal.{Refusal}
 use Rattle.refusal.specs.declared.Refusal.the-variants.{Short, Dict}
@@ -18,7 +18,7 @@ use Rattle.stored_value.specs.Reading.{valueSize}
 use Rattle.dictionary.specs.declared.Cursor.{Cursor}
 use Rattle.dictionary.specs.declared.EntryAt.{EntryAt}
 use Rattle.dictionary.specs.Layout.{Entry}
-use Rattle.dictionary.specs.Promises.{position, cursor, tail, extentAt, entryOf, noEntry, entryEnding, entryOfSize, entryInBlock, nextEntry, entryAt, EntriesFrom, EntriesAt, IsNext, NextAt}
+use Rattle.dictionary.specs.Promises.{cursor, tail, extentAt, entryOf, noEntry, entryEnding, entryOfSize, entryInBlock, nextEntry, entryAt, EntriesFrom, EntriesAt, IsNext, NextAt}
 use Rattle.dictionary.proofs.Offsets.{pattern-signed}
 use Rattle.dictionary.proofs.Steps.{be-behind, stand-first, stand-opened}
 

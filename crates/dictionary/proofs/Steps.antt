@@ -8,7 +8,7 @@ use lib.Dec.{eqb}
 use lib.ListN.{length, take, drop, length-append, length-drop}
 use lib.Seq.{drop-drop}
 use borrow.Author.Tests.{ne-eqb}
-use Rattle.numbers.specs.Meaning.{big, beAt, number, same, minusOne}
+use Rattle.numbers.specs.Meaning.{big, beAt, number, same, minusOne, position}
 use Rattle.numbers.proofs.Laws.{number-at, number-short, numberAt-drop}
 use Rattle.refusal.specs.declared.Refusal.{Refusal}
 use Rattle.refusal.specs.declared.Refusal.the-variants.{Short, Dict}
@@ -22,8 +22,8 @@ use Rattle.stored_value.specs.Promises.{SizePromise}
 use Rattle.stored_value.specs.Reading.{valueSize, valueOf}
 use Rattle.dictionary.specs.declared.ValueEnd.{ValueEnd}
 use Rattle.dictionary.specs.Layout.{Entry, someHas}
-use Rattle.dictionary.specs.Reading.{Dictionary, entriesOne}
-use Rattle.dictionary.specs.Promises.{tail, entryOf, position, EntriesFrom}
+use Rattle.dictionary.specs.Reading.{entriesOne}
+use Rattle.dictionary.specs.Promises.{AfterCount, tail, entryOf, EntriesFrom}
 use Rattle.dictionary.specs.Promises.{ValueAt}
 
 -- ---- a value, as `size` answers it
@@ -51,7 +51,7 @@ module _ {A : Type 0} (t : ℕ) (s : List ℕ) (f : List ℕ → List ℕ → Ou
 
 -- ---- a number of w bytes behind k others
 
-module _ (w : ℕ) (s : List ℕ) (k : ℕ) (f : ℕ → List ℕ → Out Refusal Dictionary) where
+module _ (w : ℕ) (s : List ℕ) (k : ℕ) (f : AfterCount) where
   pub word-at : k + w ≤ length s → number big w (refuse Short) (drop k s) f ≡ f (beAt w s k) (drop (k + w) s)
   word-at h = number-at big w (refuse Short) s k f h
 

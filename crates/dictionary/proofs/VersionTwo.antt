@@ -8,7 +8,7 @@ use lib.Dec.{eqb, ltb, leb}
 use lib.ListN.{length, take, drop, length-append, length-drop}
 use lib.Seq.{drop-drop}
 use borrow.Author.Tests.{leb-true, leb-false, le-leb, lt-leb, lt-ltb, le-ltb, eq-eqb, ne-eqb}
-use Rattle.numbers.specs.Meaning.{big, beAt, number, signBit}
+use Rattle.numbers.specs.Meaning.{big, beAt, number, signBit, position}
 use Rattle.numbers.proofs.Laws.{numberAt-drop}
 use Rattle.refusal.specs.declared.Refusal.{Refusal}
 use Rattle.refusal.specs.declared.Refusal.the-variants.{Short, Dict}
@@ -26,7 +26,7 @@ use Rattle.dictionary.specs.declared.AllEntries.{AllEntries}
 use Rattle.dictionary.specs.declared.ValueEnd.{ValueEnd}
 use Rattle.dictionary.specs.Layout.{Entry, mostBlocks}
 use Rattle.dictionary.specs.Reading.{Dictionary, Listing, listings, past, isDue, entriesTwo, behind, blocksOf, blocked}
-use Rattle.dictionary.specs.Promises.{entryOf, position, cursor, EntriesFrom, ValueAt, CountAt, ListingsFrom, DirectoryAt, bytesAt, cellAt, BlockEntriesAt, BlockAt, BlocksAt, AllEntriesAt}
+use Rattle.dictionary.specs.Promises.{AfterBlock, AfterListings, AfterEntries, entryOf, cursor, EntriesFrom, ValueAt, CountAt, ListingsFrom, DirectoryAt, bytesAt, cellAt, BlockEntriesAt, BlockAt, BlocksAt, AllEntriesAt}
 use Rattle.dictionary.proofs.Steps.{offset-behind, drop-past, value-ok, value-refused, word-at, word-short, stand-cons, stand-opening}
 
 -- ---- the directory: i of the n listings from `start` on are read, and `rest` is left
@@ -36,27 +36,27 @@ listing k s = record { first = take k s; at = beAt 4 s k }
 
 pub record Listings (t n : ℕ) (start : List ℕ) (i : ℕ) (rest : List ℕ) : Type 0 where
   pub ds : List Listing
-  pub so : (f : List Listing → List ℕ → Out Refusal Dictionary) → listings t n [] start f ≡ listings t (n - i) ds rest f
+  pub so : (f : AfterListings) → listings t n [] start f ≡ listings t (n - i) ds rest f
   pub count : length ds ≡ i
   pub stand : (more : List Listing) → ListingsFrom t rest more → ListingsFrom t start (ds ++ more)
 
 pub listings-first : (t n : ℕ) (s : List ℕ) → Listings t n s 0 s
 listings-first t n s = let z : n - 0 ≡ n = omega arith in record { ds = []; so = λ f. rw z; count = refl; stand = λ more h. h }
 
-listings-turn : (t m : ℕ) (ds : List Listing) (s : List ℕ) (f : List Listing → List ℕ → Out Refusal Dictionary) (k : ℕ) → 0 < m → valueSize Short Dict t s ≡ ok k
+listings-turn : (t m : ℕ) (ds : List Listing) (s : List ℕ) (f : AfterListings) (k : ℕ) → 0 < m → valueSize Short Dict t s ≡ ok k
     → listings t m ds s f ≡ number big 4 (refuse Short) (drop k s) (λ at s'. listings t (m - 1) (ds ++ (record { first = take k s; at = at } ∷ [])) s' f)
 unfolding listings
 listings-turn t zero ds s f k z e = absurd (omega arith)
 listings-turn t (suc m) ds s f k z e = let c : suc m - 1 ≡ m = omega arith in simp c (value-ok t s _ k e)
 
-listings-broken : (t m : ℕ) (ds : List Listing) (s : List ℕ) (f : List Listing → List ℕ → Out Refusal Dictionary) (r : Refusal) → 0 < m → valueSize Short Dict t s ≡ refuse r
+listings-broken : (t m : ℕ) (ds : List Listing) (s : List ℕ) (f : AfterListings) (r : Refusal) → 0 < m → valueSize Short Dict t s ≡ refuse r
     → listings t m ds s f ≡ refuse r
 unfolding listings
 listings-broken t zero ds s f r z e = absurd (omega arith)
 listings-broken t (suc m) ds s f r z e = value-refused t s _ r e
 
 module _ {t n : ℕ} {start : List ℕ} {i : ℕ} {rest : List ℕ} (st : Listings t n start i rest) where
-  pub listings-done : n ≤ i → (f : List Listing → List ℕ → Out Refusal Dictionary) → listings t n [] start f ≡ f (st .ds) rest
+  pub listings-done : n ≤ i → (f : AfterListings) → listings t n [] start f ≡ f (st .ds) rest
   unfolding listings
   listings-done e f = let z : n - i ≡ 0 = omega arith in st .so f ∙ simp z
 
@@ -65,15 +65,15 @@ module _ {t n : ℕ} {start : List ℕ} {i : ℕ} {rest : List ℕ} (st : Listin
   listings-stand = rw append-nil at (st .stand [] tt)
 
   module _ (lt : i < n) where
-    pub listings-refused : {r : Refusal} → valueSize Short Dict t rest ≡ refuse r → (f : List Listing → List ℕ → Out Refusal Dictionary) → listings t n [] start f ≡ refuse r
+    pub listings-refused : {r : Refusal} → valueSize Short Dict t rest ≡ refuse r → (f : AfterListings) → listings t n [] start f ≡ refuse r
     listings-refused {r} e f = st .so f ∙ listings-broken t (n - i) (st .ds) rest f r (omega arith) e
 
     module _ {k : ℕ} (e : valueSize Short Dict t rest ≡ ok k) where
-      listings-unrolled : (f : List Listing → List ℕ → Out Refusal Dictionary) → listings t n [] start f
+      listings-unrolled : (f : AfterListings) → listings t n [] start f
           ≡ number big 4 (refuse Short) (drop k rest) (λ at s'. listings t (n - i - 1) (st .ds ++ (record { first = take k rest; at = at } ∷ [])) s' f)
       listings-unrolled f = st .so f ∙ listings-turn t (n - i) (st .ds) rest f k (omega arith) e
 
-      pub listings-short : length rest - k < 4 → (f : List Listing → List ℕ → Out Refusal Dictionary) → listings t n [] start f ≡ refuse Short
+      pub listings-short : length rest - k < 4 → (f : AfterListings) → listings t n [] start f ≡ refuse Short
       listings-short h f = listings-unrolled f ∙ word-short 4 rest k _ h
 
       pub listings-next : k + 4 ≤ length rest → Listings t n start (i + 1) (drop (k + 4) rest)
@@ -106,7 +106,7 @@ cell-some s c h = rw (lt-ltb (c .start .0) (c .end .0) h)
 
 pub record InBlock (t n : ℕ) (before due : Cell) (start : List ℕ) (i : ℕ) (b h : Cell) (rest : List ℕ) : Type 0 where
   pub new : List Entry
-  pub so : (es : List Entry) (f : Cell → List Entry → List ℕ → Out Refusal Dictionary) → entriesTwo t n before due es start f ≡ entriesTwo t (n - i) b h (es ++ new) rest f
+  pub so : (es : List Entry) (f : AfterBlock) → entriesTwo t n before due es start f ≡ entriesTwo t (n - i) b h (es ++ new) rest f
   pub count : length new ≡ i
   pub stand : (more : List Entry) → EntriesFrom t true (n - i) rest more → EntriesFrom t true n start (new ++ more)
 
@@ -115,25 +115,25 @@ in-block-first t n before due s =
     let z : n - 0 ≡ n = omega arith in
     record { new = []; so = λ es f. rw (z, append-nil); count = refl; stand = λ more g. rw z at g }
 
-abbrev numbers : (t m k : ℕ) (es : List Entry) (s : List ℕ) (f : Cell → List Entry → List ℕ → Out Refusal Dictionary) → Out Refusal Dictionary
+abbrev numbers : (t m k : ℕ) (es : List Entry) (s : List ℕ) (f : AfterBlock) → Out Refusal Dictionary
 numbers t m k es s f =
     number big 4 (refuse Short) (drop k s) (λ offset s'. number big 4 (refuse Short) s' (λ extent s'.
     entriesTwo t m (value (take k s)) null (es ++ (record { cell = value (take k s); offset = offset; extent = extent } ∷ [])) s' f))
 
-in-block-turn : (t m : ℕ) (b h : Cell) (es : List Entry) (s : List ℕ) (f : Cell → List Entry → List ℕ → Out Refusal Dictionary) (k : ℕ) → 0 < m → valueSize Short Dict t s ≡ ok k
+in-block-turn : (t m : ℕ) (b h : Cell) (es : List Entry) (s : List ℕ) (f : AfterBlock) (k : ℕ) → 0 < m → valueSize Short Dict t s ≡ ok k
     → entriesTwo t m b h es s f ≡ check (past t b (take k s) && isDue h (take k s)) Dict (numbers t (m - 1) k es s f)
 unfolding entriesTwo
 in-block-turn t zero b h es s f k z e = absurd (omega arith)
 in-block-turn t (suc m) b h es s f k z e = let c : suc m - 1 ≡ m = omega arith in simp c (value-ok t s _ k e)
 
-in-block-broken : (t m : ℕ) (b h : Cell) (es : List Entry) (s : List ℕ) (f : Cell → List Entry → List ℕ → Out Refusal Dictionary) (r : Refusal) → 0 < m → valueSize Short Dict t s ≡ refuse r
+in-block-broken : (t m : ℕ) (b h : Cell) (es : List Entry) (s : List ℕ) (f : AfterBlock) (r : Refusal) → 0 < m → valueSize Short Dict t s ≡ refuse r
     → entriesTwo t m b h es s f ≡ refuse r
 unfolding entriesTwo
 in-block-broken t zero b h es s f r z e = absurd (omega arith)
 in-block-broken t (suc m) b h es s f r z e = value-refused t s _ r e
 
 module _ {t n : ℕ} {before due : Cell} {start : List ℕ} {i : ℕ} {b h : Cell} {rest : List ℕ} (st : InBlock t n before due start i b h rest) where
-  pub in-block-done : n ≤ i → (es : List Entry) (f : Cell → List Entry → List ℕ → Out Refusal Dictionary) → entriesTwo t n before due es start f ≡ f b (es ++ st .new) rest
+  pub in-block-done : n ≤ i → (es : List Entry) (f : AfterBlock) → entriesTwo t n before due es start f ≡ f b (es ++ st .new) rest
   unfolding entriesTwo
   in-block-done l es f = let z : n - i ≡ 0 = omega arith in st .so es f ∙ simp z
 
@@ -142,30 +142,30 @@ module _ {t n : ℕ} {before due : Cell} {start : List ℕ} {i : ℕ} {b h : Cel
 
   module _ (lt : i < n) where
     pub in-block-refused : {r : Refusal} → valueSize Short Dict t rest ≡ refuse r
-        → (es : List Entry) (f : Cell → List Entry → List ℕ → Out Refusal Dictionary) → entriesTwo t n before due es start f ≡ refuse r
+        → (es : List Entry) (f : AfterBlock) → entriesTwo t n before due es start f ≡ refuse r
     in-block-refused {r} e es f = st .so es f ∙ in-block-broken t (n - i) b h (es ++ st .new) rest f r (omega arith) e
 
     module _ {k : ℕ} (e : valueSize Short Dict t rest ≡ ok k) where
-      in-block-unrolled : (es : List Entry) (f : Cell → List Entry → List ℕ → Out Refusal Dictionary) → entriesTwo t n before due es start f
+      in-block-unrolled : (es : List Entry) (f : AfterBlock) → entriesTwo t n before due es start f
           ≡ check (past t b (take k rest) && isDue h (take k rest)) Dict (numbers t (n - i - 1) k (es ++ st .new) rest f)
       in-block-unrolled es f = st .so es f ∙ in-block-turn t (n - i) b h (es ++ st .new) rest f k (omega arith) e
 
       pub in-block-low : {x : Bool} → x ≡ past t b (take k rest) → x ≡ false
-          → (es : List Entry) (f : Cell → List Entry → List ℕ → Out Refusal Dictionary) → entriesTwo t n before due es start f ≡ refuse Dict
+          → (es : List Entry) (f : AfterBlock) → entriesTwo t n before due es start f ≡ refuse Dict
       unfolding check
       in-block-low g c es f = in-block-unrolled es f ∙ simp (← g, c)
 
       pub in-block-other : {x y : Bool} → x ≡ past t b (take k rest) → x ≡ true → y ≡ isDue h (take k rest) → y ≡ false
-          → (es : List Entry) (f : Cell → List Entry → List ℕ → Out Refusal Dictionary) → entriesTwo t n before due es start f ≡ refuse Dict
+          → (es : List Entry) (f : AfterBlock) → entriesTwo t n before due es start f ≡ refuse Dict
       unfolding check
       in-block-other g c d m es f = in-block-unrolled es f ∙ simp (← g, c, ← d, m)
 
       module _ {x y : Bool} (g : x ≡ past t b (take k rest)) (higher : x ≡ true) (d : y ≡ isDue h (take k rest)) (listed : y ≡ true) where
-        in-block-admitted : (es : List Entry) (f : Cell → List Entry → List ℕ → Out Refusal Dictionary) → entriesTwo t n before due es start f ≡ numbers t (n - i - 1) k (es ++ st .new) rest f
+        in-block-admitted : (es : List Entry) (f : AfterBlock) → entriesTwo t n before due es start f ≡ numbers t (n - i - 1) k (es ++ st .new) rest f
         unfolding check
         in-block-admitted es f = in-block-unrolled es f ∙ simp (← g, higher, ← d, listed)
 
-        pub in-block-short : length rest - k < 8 → (es : List Entry) (f : Cell → List Entry → List ℕ → Out Refusal Dictionary) → entriesTwo t n before due es start f ≡ refuse Short
+        pub in-block-short : length rest - k < 8 → (es : List Entry) (f : AfterBlock) → entriesTwo t n before due es start f ≡ refuse Short
         in-block-short l es f = in-block-admitted es f ∙ numbers-short (leb (k + 4) (length rest)) refl
           where
             numbers-short : (w : Bool) → leb (k + 4) (length rest) ≡ w → numbers t (n - i - 1) k (es ++ st .new) rest f ≡ refuse Short
@@ -221,7 +221,7 @@ module _ {t : ℕ} {s : List ℕ} {base q p e : ℕ} {before : Span} {d : Listin
       let v = here .value in
       (omega arith, rw (drop-past s q e 4 (omega arith)) at (h .2))
 
-  module _ (es : List Entry) (f : List Entry → List ℕ → Out Refusal Dictionary) where
+  module _ (es : List Entry) (f : AfterEntries) where
     block-turn : blocksOf t (d ∷ ds) (drop base s) (cellAt s before) es (drop p s) f ≡ check (eqb (beAt 4 s e) (p - base)) Dict
         (number big 4 (refuse Short) (drop p s) (λ n s'. check (leb 1 n && ltb n signBit) Dict
         (entriesTwo t n (cellAt s before) (cellAt s (span q e)) es s' (λ before es s'. blocksOf t ds (drop base s) before es s' f))))
@@ -287,7 +287,7 @@ pub record InBlocks (t : ℕ) (ds : List Listing) (base : List ℕ) (i : ℕ) (d
   pub listed : ListingsFrom t dir left
   pub count : length left ≡ length ds - i
   pub es : List Entry
-  pub so : (f : List Entry → List ℕ → Out Refusal Dictionary) → blocksOf t ds base null [] base f ≡ blocksOf t left base before es rest f
+  pub so : (f : AfterEntries) → blocksOf t ds base null [] base f ≡ blocksOf t left base before es rest f
   pub total : length es ≡ sum
   pub stand : (more : List Entry) → EntriesFrom t true 0 rest more → EntriesFrom t true 0 base (es ++ more)
 
@@ -296,7 +296,7 @@ in-blocks-first t ds base dir l = record { left = ds; listed = l; count = omega 
 
 module _ {t : ℕ} {ds : List Listing} {base : List ℕ} {i : ℕ} {dir : List ℕ} {before : Cell} {sum : ℕ} {rest : List ℕ}
     (st : InBlocks t ds base i dir before sum rest) where
-  pub in-blocks-done : length ds ≤ i → (f : List Entry → List ℕ → Out Refusal Dictionary) → blocksOf t ds base null [] base f ≡ f (st .es) rest
+  pub in-blocks-done : length ds ≤ i → (f : AfterEntries) → blocksOf t ds base null [] base f ≡ f (st .es) rest
   unfolding blocksOf
   in-blocks-done h f = st .so f ∙ by (st .left) (omega (arith, st .count))
     where
@@ -310,7 +310,7 @@ module _ {t : ℕ} {ds : List Listing} {base : List ℕ} {i : ℕ} {dir : List �
 
 module _ {t : ℕ} {ds : List Listing} {i sum : ℕ} (s : List ℕ) (base q p : ℕ) (before : Span) (st : InBlocks t ds (drop base s) i (drop q s) (cellAt s before) sum (drop p s)) (lt : i < length ds) where
   pub in-blocks-refused : {r : Refusal} → BlockAt t before s base q p (Block.Refused r)
-      → (f : List Entry → List ℕ → Out Refusal Dictionary) → blocksOf t ds (drop base s) null [] (drop base s) f ≡ refuse r
+      → (f : AfterEntries) → blocksOf t ds (drop base s) null [] (drop base s) f ≡ refuse r
   in-blocks-refused {r} x f = st .so f ∙ by (st .left) (st .listed) (omega (arith, st .count))
     where
       by : (left : List Listing) → ListingsFrom t (drop q s) left → 0 < length left → blocksOf t left (drop base s) (cellAt s before) (st .es) (drop p s) f ≡ refuse r
@@ -322,7 +322,7 @@ module _ {t : ℕ} {ds : List Listing} {i sum : ℕ} (s : List ℕ) (base q p : 
   in-blocks-next listing next number last x = by (st .left) (st .listed) (st .count) (st .so)
     where
       by : (left : List Listing) → ListingsFrom t (drop q s) left → length left ≡ length ds - i
-          → ((f : List Entry → List ℕ → Out Refusal Dictionary) → blocksOf t ds (drop base s) null [] (drop base s) f ≡ blocksOf t left (drop base s) (cellAt s before) (st .es) (drop p s) f)
+          → ((f : AfterEntries) → blocksOf t ds (drop base s) null [] (drop base s) f ≡ blocksOf t left (drop base s) (cellAt s before) (st .es) (drop p s) f)
           → InBlocks t ds (drop base s) (i + 1) (drop listing s) (cellAt s last) (sum + number) (drop next s)
       by [] l c so = absurd (omega arith)
       by (d ∷ left) l c so =

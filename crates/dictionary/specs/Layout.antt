@@ -6,7 +6,7 @@ use Prim.Native.Nat.{ℕ, _+_, _≤_, _<_}
 use mathlib.Core.Bool.{Bool, true, false, _||_}
 use mathlib.Core.List.{List, [], _∷_, _++_}
 use lib.ListN.{length}
-use Rattle.numbers.specs.Meaning.{All, joined, be, minusOne}
+use Rattle.numbers.specs.Meaning.{All, joined, be, minusOne, fourBytes}
 use Rattle.stored_value.specs.Meaning.{Cell, null, value, Value, sameCell, less}
 
 -- a stored cell, null's or a value's, with the two numbers that say where its rows are: 01's offset, and 01's length, here `extent`
@@ -41,7 +41,7 @@ NullOnly (e ∷ es) = (e .cell ≡ null) × (es ≡ [])
 -- both numbers of each entry are 32-bit patterns
 abbrev pub Patterns : List Entry → Type 0
 Patterns [] = Unit {0}
-Patterns (e ∷ es) = (e .offset < 4294967296) × (e .extent < 4294967296) × Patterns es
+Patterns (e ∷ es) = (e .offset < fourBytes) × (e .extent < fourBytes) × Patterns es
 
 abbrev pub someHas : Cell → List Entry → Bool
 someHas c [] = false

@@ -9,7 +9,7 @@ use lib.ListN.{length, take, drop, getD}
 use mir.Syntax.{w32}
 use mir.Val.{ofZ}
 use Rattle.numbers.specs.declared.Position.{Position}
-use Rattle.numbers.specs.Meaning.{beAt, signed32, signBit, minusOne}
+use Rattle.numbers.specs.Meaning.{beAt, signed32, signBit, minusOne, fourBytes, position}
 use Rattle.refusal.specs.Meaning.{numberOf}
 use Rattle.refusal.specs.Reading.{Out, refuse, ok, numbersOf}
 use Rattle.refusal.specs.declared.Refusal.{Refusal}
@@ -119,9 +119,6 @@ pub record ReadsDictionary (t : ℕ) (s : List ℕ) (r : Checked) : Type 0 where
 
 -- ---- `next`: the entry at a cursor of any bytes
 
-abbrev pub position : ℕ → Position
-position p = record { 0 = p }
-
 abbrev pub cursor : ℕ → ℕ → Cursor
 cursor p left = record { at = position p; left = left }
 
@@ -165,7 +162,19 @@ pub record NextAt (t : ℕ) (version2 : Bool) (s : List ℕ) (c : Cursor) (a : E
   pub so : a ≡ nextEntry t version2 s c
   pub first : (e : Entry) (es : List Entry) → EntriesAt t version2 s c (e ∷ es) → IsNext t version2 s a e es
 
--- ---- the private functions: fields
+-- ---- the private functions: what is said for anything that is read behind a count, listings, entries, a block's entries
+
+abbrev pub AfterCount : Type 0
+AfterCount = ℕ → List ℕ → Out Refusal Dictionary
+
+abbrev pub AfterListings : Type 0
+AfterListings = List Listing → List ℕ → Out Refusal Dictionary
+
+abbrev pub AfterEntries : Type 0
+AfterEntries = List Entry → List ℕ → Out Refusal Dictionary
+
+abbrev pub AfterBlock : Type 0
+AfterBlock = Cell → List Entry → List ℕ → Out Refusal Dictionary
 
 -- a value at a position, and where it ends
 abbrev pub ValueAt : ℕ → List ℕ → ℕ → ValueEnd → Type 0
@@ -178,19 +187,19 @@ HasValueAt t i s at v r = (n : ℕ) (es : List Entry) → EntriesFrom t false n 
 
 -- a count at a position
 abbrev pub CountAt : ℕ → List ℕ → ℕ → Count → Type 0
-CountAt most s at (Count.Refused r) = (f : ℕ → List ℕ → Out Refusal Dictionary) → countAtMost most (drop at s) f ≡ refuse r
+CountAt most s at (Count.Refused r) = (f : AfterCount) → countAtMost most (drop at s) f ≡ refuse r
 CountAt most s at (Count.Is n) =
-    ((f : ℕ → List ℕ → Out Refusal Dictionary) → countAtMost most (drop at s) f ≡ f n (drop (at + 4) s)) × (at + 4 ≤ length s) × (n ≤ most)
+    ((f : AfterCount) → countAtMost most (drop at s) f ≡ f n (drop (at + 4) s)) × (at + 4 ≤ length s) × (n ≤ most)
 
 -- an offset at a position
 abbrev pub OffsetAt : List ℕ → ℕ → ℤ → Type 0
-OffsetAt s at z = (z ≡ signed32 (beAt 4 s at)) × (beAt 4 s at < 4294967296)
+OffsetAt s at z = (z ≡ signed32 (beAt 4 s at)) × (beAt 4 s at < fourBytes)
 
 -- null's entry, if there is one, at a position
 abbrev pub NullAt : Bool → Bool → List ℕ → ℕ → Null → Type 0
-NullAt version2 has s at (Null.Refused r) = (f : List Entry → List ℕ → Out Refusal Dictionary) → nullOf version2 has (drop at s) f ≡ refuse r
+NullAt version2 has s at (Null.Refused r) = (f : AfterEntries) → nullOf version2 has (drop at s) f ≡ refuse r
 NullAt version2 has s at (Null.Numbers offset extent next) =
-    ((f : List Entry → List ℕ → Out Refusal Dictionary) → nullOf version2 has (drop at s) f ≡ f (nulls has offset extent) (drop (next .0) s)) × (next .0 ≤ length s)
+    ((f : AfterEntries) → nullOf version2 has (drop at s) f ≡ f (nulls has offset extent) (drop (next .0) s)) × (next .0 ≤ length s)
     × (has ≡ false → (offset ≡ pos 0) × (extent ≡ 0))
 
 -- the entries of either version
@@ -214,9 +223,9 @@ ListingsFrom t s (d ∷ ds) =
 
 -- n listings at a position, and where they end
 abbrev pub DirectoryAt : ℕ → ℕ → List ℕ → ℕ → Directory → Type 0
-DirectoryAt t n s at (Directory.Refused r) = (f : List Listing → List ℕ → Out Refusal Dictionary) → listings t n [] (drop at s) f ≡ refuse r
+DirectoryAt t n s at (Directory.Refused r) = (f : AfterListings) → listings t n [] (drop at s) f ≡ refuse r
 DirectoryAt t n s at (Directory.Ends next) =
-    (ds : List Listing) × ((f : List Listing → List ℕ → Out Refusal Dictionary) → listings t n [] (drop at s) f ≡ f ds (drop (next .0) s))
+    (ds : List Listing) × ((f : AfterListings) → listings t n [] (drop at s) f ≡ f ds (drop (next .0) s))
     × ListingsFrom t (drop at s) ds × (length ds ≡ n) × (next .0 ≤ length s)
 
 -- a span's bytes, and the value that it has: none where it has no bytes
@@ -229,9 +238,9 @@ cellAt s c = cond (ltb (c .start .0) (c .end .0)) (value (bytesAt s c)) null
 -- n entries of a block at a position, behind the value `before`, where the value `due` is due: where they end, and the last value
 abbrev pub BlockEntriesAt : ℕ → ℕ → Span → Span → List ℕ → ℕ → BlockEntries → Type 0
 BlockEntriesAt t n before due s at (BlockEntries.Refused r) =
-    (es : List Entry) (f : Cell → List Entry → List ℕ → Out Refusal Dictionary) → entriesTwo t n (cellAt s before) (cellAt s due) es (drop at s) f ≡ refuse r
+    (es : List Entry) (f : AfterBlock) → entriesTwo t n (cellAt s before) (cellAt s due) es (drop at s) f ≡ refuse r
 BlockEntriesAt t n before due s at (BlockEntries.To next last) =
-    ((new : List Entry) × ((es : List Entry) (f : Cell → List Entry → List ℕ → Out Refusal Dictionary)
+    ((new : List Entry) × ((es : List Entry) (f : AfterBlock)
     → entriesTwo t n (cellAt s before) (cellAt s due) es (drop at s) f ≡ f (cellAt s last) (es ++ new) (drop (next .0) s))
     × (length new ≡ n) × ((more : List Entry) → EntriesFrom t true 0 (drop (next .0) s) more → EntriesFrom t true n (drop at s) (new ++ more)))
     × (at ≤ next .0) × (next .0 ≤ length s) × (last .end .0 ≤ length s)
@@ -240,10 +249,10 @@ BlockEntriesAt t n before due s at (BlockEntries.To next last) =
 abbrev pub BlockAt : ℕ → Span → List ℕ → ℕ → ℕ → ℕ → Block → Type 0
 BlockAt t before s base q p (Block.Refused r) =
     (d : Listing) (ds : List Listing) → ListingsFrom t (drop q s) (d ∷ ds)
-    → (es : List Entry) (f : List Entry → List ℕ → Out Refusal Dictionary) → blocksOf t (d ∷ ds) (drop base s) (cellAt s before) es (drop p s) f ≡ refuse r
+    → (es : List Entry) (f : AfterEntries) → blocksOf t (d ∷ ds) (drop base s) (cellAt s before) es (drop p s) f ≡ refuse r
 BlockAt t before s base q p (Block.Ends listing next last number) =
     ((d : Listing) (ds : List Listing) → ListingsFrom t (drop q s) (d ∷ ds) → ListingsFrom t (drop (listing .0) s) ds
-    × ((new : List Entry) × ((es : List Entry) (f : List Entry → List ℕ → Out Refusal Dictionary)
+    × ((new : List Entry) × ((es : List Entry) (f : AfterEntries)
     → blocksOf t (d ∷ ds) (drop base s) (cellAt s before) es (drop p s) f ≡ blocksOf t ds (drop base s) (cellAt s last) (es ++ new) (drop (next .0) s) f)
     × (length new ≡ number) × ((more : List Entry) → EntriesFrom t true 0 (drop (next .0) s) more → EntriesFrom t true 0 (drop p s) (new ++ more))))
     × (p ≤ next .0) × (next .0 ≤ length s) × (last .end .0 ≤ length s) × (number < signBit)
@@ -252,10 +261,10 @@ BlockAt t before s base q p (Block.Ends listing next last number) =
 abbrev pub BlocksAt : ℕ → ℕ → List ℕ → ℕ → ℕ → Blocks → Type 0
 BlocksAt t b s dir base (Blocks.Refused r) =
     (ds : List Listing) → ListingsFrom t (drop dir s) ds → length ds ≡ b
-    → (f : List Entry → List ℕ → Out Refusal Dictionary) → blocksOf t ds (drop base s) null [] (drop base s) f ≡ refuse r
+    → (f : AfterEntries) → blocksOf t ds (drop base s) null [] (drop base s) f ≡ refuse r
 BlocksAt t b s dir base (Blocks.End next sum) =
     ((ds : List Listing) → ListingsFrom t (drop dir s) ds → length ds ≡ b
-    → (es : List Entry) × ((f : List Entry → List ℕ → Out Refusal Dictionary) → blocksOf t ds (drop base s) null [] (drop base s) f ≡ f es (drop (next .0) s))
+    → (es : List Entry) × ((f : AfterEntries) → blocksOf t ds (drop base s) null [] (drop base s) f ≡ f es (drop (next .0) s))
     × (length es ≡ sum) × EntriesFrom t true 0 (drop base s) es)
     × (base ≤ next .0) × (next .0 ≤ length s)
 

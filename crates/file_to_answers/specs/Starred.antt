@@ -6,12 +6,12 @@ use mathlib.Core.List.{List, [], _∷_}
 use lib.Dec.{ltb}
 use lib.IntN.{negsuc}
 use lib.ListN.{length}
-use Rattle.numbers.specs.Meaning.{All, signed32}
+use Rattle.numbers.specs.Meaning.{All, signed32, fourBytes}
 use Rattle.refusal.specs.Meaning.{limit}
 use Rattle.refusal.specs.declared.Refusal.the-variants.{Range, Twice}
 use Rattle.refusal.specs.Reading.{refuse, ok, check}
 use Rattle.row_field.specs.Meaning.{bit, mark}
-use Rattle.roaring.specs.Layout.{fourBytes, Bitmap}
+use Rattle.roaring.specs.Layout.{Bitmap}
 use Rattle.roaring.specs.Reading.{parsed, read}
 use Rattle.stored_value.specs.Meaning.{Cell, null, value}
 use Rattle.index_file.specs.Reading.{found, find, locateNumbers}

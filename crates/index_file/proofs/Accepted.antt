@@ -8,7 +8,7 @@ use native.Mathlib.Omega.{arith}
 use lib.Dec.{T, leb→le, ltb→lt, eqb→eq}
 use lib.ListN.{length, take, drop, take-append-drop}
 use lib.Seq.{length-take-le, take-take}
-use Rattle.numbers.specs.Meaning.{be, big, same, All, Bytes, signBit}
+use Rattle.numbers.specs.Meaning.{be, big, same, All, Bytes, signBit, position}
 use Rattle.numbers.proofs.ByteLists.{bytes-drop, bytes-take}
 use Rattle.numbers.proofs.Laws.{on-number}
 use Rattle.numbers.specs.declared.Position.{Position}
@@ -18,7 +18,7 @@ use Rattle.refusal.proofs.Laws.{not-ok}
 use Rattle.index_file.specs.declared.Place.{Place}
 use Rattle.index_file.specs.declared.Place.the-variants.{Nowhere, At, Repeated}
 use Rattle.index_file.specs.Layout.{magic, fileVersion, frontSize, leastHead, ListedIndex, ListedColumn, nameBytes, entryBytes, entriesBytes, columnBytes, columnsBytes, headBytes, GoodIndex, GoodColumn, Headed, File, Unlisted}
-use Rattle.index_file.specs.Reading.{count, name, position, afterEntry, entries, afterColumn, columns, Part, Sought, found, absent, placed, head, file, find, bytesOf}
+use Rattle.index_file.specs.Reading.{count, name, afterEntry, entries, afterColumn, columns, Part, Sought, found, absent, placed, head, file, find, bytesOf}
 use Rattle.index_file.specs.Promises.{Rest}
 use Rattle.index_file.proofs.ListedOnce.{placeIn, placeOf, found-back, absent-back}
 use Rattle.index_file.proofs.Laid.{entry-split, column-split, headed-file}

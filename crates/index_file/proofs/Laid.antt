@@ -7,7 +7,7 @@ use native.Mathlib.Omega.{arith}
 use lib.ListN.{length, take, drop, length-append}
 use lib.Seq.{take-at, drop-at}
 use borrow.Author.Tests.{lt-ltb, le-leb, eq-eqb}
-use Rattle.numbers.specs.Meaning.{be, big, same, All, signBit}
+use Rattle.numbers.specs.Meaning.{be, big, same, All, signBit, position}
 use Rattle.numbers.proofs.Laws.{number-laid}
 use Rattle.refusal.specs.Meaning.{limit}
 use Rattle.refusal.specs.declared.Refusal.{Refusal}
@@ -15,7 +15,7 @@ use Rattle.refusal.specs.Reading.{refuse, ok, check}
 use Rattle.index_file.specs.declared.Place.{Place}
 use Rattle.index_file.specs.declared.Place.the-variants.{Nowhere, At}
 use Rattle.index_file.specs.Layout.{magic, fileVersion, frontSize, leastHead, ListedIndex, ListedColumn, nameBytes, entryBytes, entriesBytes, columnBytes, columnsBytes, headBytes, GoodIndex, GoodColumn, ListedOnce, Headed, File, Unlisted}
-use Rattle.index_file.specs.Reading.{count, name, position, afterEntry, entries, afterColumn, columns, Part, found, absent, placed, head, file, find}
+use Rattle.index_file.specs.Reading.{count, name, afterEntry, entries, afterColumn, columns, Part, found, absent, placed, head, file, find}
 use Rattle.index_file.specs.Promises.{Rest}
 use Rattle.index_file.proofs.Laws.{find-file}
 use Rattle.index_file.proofs.ListedOnce.{placeIn, placeOf, in-once, of-once, of-unlisted}

@@ -7,11 +7,11 @@ use mathlib.Core.Logic.{_⊎_, inl, inr, ⊎-elim}
 use native.Mathlib.Omega.{arith}
 use Rattle.index_file.specs.declared.Place.{Place}
 use Rattle.index_file.specs.declared.Place.the-variants.{Nowhere, At, Repeated}
-use Rattle.numbers.specs.Meaning.{same}
+use Rattle.numbers.specs.Meaning.{same, position}
 use Rattle.numbers.specs.declared.Position.{Position}
 use Rattle.numbers.proofs.SameBytes.{same-refl, same→eq}
 use Rattle.index_file.specs.Layout.{ListedIndex, ListedColumn, Named, IsColumn, IsKind, None, ListedOnce, Unlisted, no-column, no-kind}
-use Rattle.index_file.specs.Reading.{position, afterEntry, afterColumn}
+use Rattle.index_file.specs.Reading.{afterEntry, afterColumn}
 
 never : {X : Type 0} → _≡_ {A = ℕ} 0 1 → X
 never z = absurd (let w : ⊥ = omega arith in w)

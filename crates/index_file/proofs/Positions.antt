@@ -9,7 +9,7 @@ use lib.Dec.{eqb, leb}
 use lib.ListN.{length, take, drop, length-drop}
 use lib.Seq.{drop-drop, length-take-le}
 use borrow.Author.Tests.{lt-ltb, le-ltb, le-leb, lt-leb, eq-eqb, ne-eqb}
-use Rattle.numbers.specs.Meaning.{beAt, number, big, same, signBit}
+use Rattle.numbers.specs.Meaning.{beAt, number, big, same, signBit, position}
 use Rattle.numbers.proofs.Laws.{number-at, number-short}
 use Rattle.numbers.specs.declared.Position.{Position}
 use Rattle.refusal.specs.declared.Refusal.{Refusal}
@@ -20,7 +20,7 @@ use Rattle.index_file.specs.declared.Name.{Name}
 use Rattle.index_file.specs.declared.Count.{Count}
 use Rattle.index_file.specs.declared.Walk.{Walk}
 use Rattle.index_file.specs.Layout.{magic, fileVersion, frontSize, leastHead}
-use Rattle.index_file.specs.Reading.{count, name, position, afterEntry, entries, afterColumn, columns, Part, Sought, found, absent, placed, head, file, find, locatedBy, locateOut, soughtNumbers, locateNumbers}
+use Rattle.index_file.specs.Reading.{count, name, afterEntry, entries, afterColumn, columns, Part, Sought, found, absent, placed, head, file, find, locatedBy, locateOut, soughtNumbers, locateNumbers}
 use Rattle.index_file.specs.Promises.{Rest, nameAt, countAt, walkAt, FindPromise}
 use Rattle.index_file.proofs.Laws.{from-count}
 

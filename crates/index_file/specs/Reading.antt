@@ -5,7 +5,7 @@ use mathlib.Core.Bool.{Bool, true, false, _||_}
 use mathlib.Core.List.{List}
 use lib.ListN.{length, take, drop}
 use lib.Dec.{leb, ltb, eqb}
-use Rattle.numbers.specs.Meaning.{same, number, big, signBit}
+use Rattle.numbers.specs.Meaning.{same, number, big, signBit, position}
 use Rattle.numbers.specs.declared.Position.{Position}
 use Rattle.refusal.specs.Meaning.{numberOf, limit}
 use Rattle.refusal.specs.declared.Refusal.{Refusal}
@@ -28,10 +28,6 @@ unfoldable pub name : {A : Type 0} → List ℕ → (List ℕ → List ℕ → O
 name s k = number big 2 (refuse Head) s (λ n s. check (leb n (length s)) Head (k (take n s) (drop n s)))
 
 -- ---- the columns
-
--- a byte position, as a kind of its own
-abbrev pub position : ℕ → Position
-position p = record { 0 = p }
 
 -- A stored name is the asked one where `same` says so: "Names are compared byte for byte".
 

@@ -6,6 +6,7 @@ use mathlib.Core.List.{List, [], _∷_, _++_}
 use lib.Dec.{eqb, leb, ltb}
 use lib.IntN.{ℤ, pos, negsuc}
 use lib.ListN.{length, drop, getD}
+use Rattle.numbers.specs.declared.Position.{Position}
 
 -- each of the list has the property
 abbrev pub All : {A : Type 0} → (A → Type 0) → List A → Type 0
@@ -75,3 +76,14 @@ signBit = 2147483648
 -- -1 as 32 bits
 abbrev pub minusOne : ℕ
 minusOne = 4294967295
+
+-- what the bytes of a field may spell: numbers below
+abbrev pub twoBytes : ℕ
+twoBytes = 65536
+
+abbrev pub fourBytes : ℕ
+fourBytes = 4294967296
+
+-- a byte position, as the code's kind of its own
+abbrev pub position : ℕ → Position
+position p = record { 0 = p }

@@ -1,5 +1,5 @@
-// The C interface (include/poddurance.h). Each function answers a number, 0 for accepted, 255 for Locate's ABSENT and else the refusal's number in
-// document 01, and writes counts through pointers; with ABSENT and a refusal the counts are 0.
+// The C interface (include/poddurance.h). Each function answers a number, 0 for accepted, 255 for ABSENT (Locate and Ask of a file) and else the
+// refusal's number in document 01, and writes counts through pointers; with ABSENT and a refusal the counts are 0.
 ghost use mathlib.Core.Path.{_≡_};
 ghost use Rattle.bitmap_index.specs.Reading.{askOut};
 ghost use Rattle.file_to_answers.specs.Reading.{lookedAt};

@@ -32,7 +32,8 @@ unfoldable pub literals : ℕ → ℕ → List (List ℕ) → List ℕ → Out R
 literals t zero ls s = cond (eqb (length s) 0) (ok ls) (refuse Limit)
 literals t (suc n) ls s = cond (eqb (length s) 0) (ok ls) (valueOf Literal Literal t s (λ l s. literals t n (ls ++ (l ∷ [])) s))
 
--- ---- whether a value is listed, of any bytes: if one of the literals that can be read, before the first misfit, has its bytes
+-- ---- whether a value is listed, of any bytes: if one of the literals that can be read before a value that breaks its form has its bytes, however many they
+-- are. Of literals that are accepted it is `listed` (the law `listed-in`)
 
 -- what follows where a size was read, else nothing
 abbrev pub fitting : Out Refusal ℕ → (ℕ → List (List ℕ)) → List (List ℕ)

@@ -181,7 +181,8 @@ pub fn literals(s: &[u8], t: u32) -> Counted
     Counted::Count(i)
 }
 
-// Whether a literal has v's bytes: of literals that `literals` refuses, one of those before the first misfit.
+// Whether a literal has v's bytes: one of those that can be read before a value that breaks its form, however many they are. The calls have tested with
+// `literals` that there is none such, and that they are 1,024 at most.
 pub fn listed(v: &[u8], literals: &[u8], t: u32) -> bool
     ensures { λ r. ⌜ r ≡ listedIn t (now (v .entry)) (now (literals .entry)) ⌝ }
 {
