@@ -1,17 +1,18 @@
 -- A body of a column: its literals fit a buffer, its dictionary is read, and then it is answered as the scan.
 use mathlib.Core.Path.{_≡_, ap, _∙_}
 use mathlib.Core.Logic.{⊎-elim}
-use Prim.Native.Nat.{ℕ, zero, suc, _*_, _≤_, _<_}
+use Prim.Native.Nat.{ℕ, _*_, _≤_, _<_}
 use mathlib.Core.List.{List, [], _∷_, _++_}
 use native.Mathlib.Omega.{arith}
 use borrow.Author.Tests.{lt-ltb, le-leb}
-use lib.ListN.{length, getD, length-append}
+use lib.ListN.{length, length-append}
 use Rattle.numbers.specs.Meaning.{be, big, joined, Bytes, fourBytes}
 use Rattle.numbers.proofs.Laws.{length-spelled}
 use Rattle.refusal.specs.Meaning.{limit}
 use Rattle.refusal.specs.declared.Refusal.{Refusal}
 use Rattle.row_field.specs.Meaning.{size, cleared}
-use Rattle.stored_value.specs.Meaning.{types, Cell, widths, width, Value, number, string, Literals}
+use Rattle.stored_value.specs.Meaning.{types, Cell, Value, number, string, Literals}
+use Rattle.stored_value.proofs.Widths.{width-le}
 use Rattle.refusal.specs.Reading.{Out, ok, check, andThen}
 use Rattle.stored_value.proofs.Laws.{literals-laid}
 use Rattle.dictionary.specs.Layout.{Patterns}
@@ -24,19 +25,6 @@ use Rattle.bitmap_index.specs.Claims.{scanAnswer, AnswersAsScan}
 use Rattle.bitmap_index.proofs.ScanAnswers.{HasColumn, column-audited, column-answered}
 
 -- ---- a well-formed question's literals fit an input buffer
-
-abbrev UpTo : ℕ → List ℕ → Type 0
-UpTo m [] = Unit {0}
-UpTo m (x ∷ xs) = (x ≤ m) × UpTo m xs
-
-getD-upTo : (m : ℕ) (xs : List ℕ) (i : ℕ) → UpTo m xs → getD xs i 0 ≤ m
-getD-upTo m [] i h = omega arith
-getD-upTo m (x ∷ xs) zero h = h .0
-getD-upTo m (x ∷ xs) (suc i) h = getD-upTo m xs i (h .1)
-
-width-le : (t : ℕ) → width t ≤ 8
-unfolding width
-width-le t = getD-upTo 8 widths t (omega arith)
 
 value-at-most : (t : ℕ) (v : List ℕ) → Value t v → length v ≤ 65539
 value-at-most t v (number w s l b o) = omega (arith, width-le t)

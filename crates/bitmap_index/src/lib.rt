@@ -9,7 +9,9 @@ ghost use Rattle.dictionary.specs.Promises.{IsRead};
 ghost use Rattle.bitmap_index.specs.Meaning as meaning;
 ghost use Rattle.bitmap_index.specs.Reading.{extentOf, placeAt};
 ghost use Rattle.bitmap_index.specs.Promises as promises;
-ghost use Rattle.bitmap_index.specs.Promises.{AuditPromise, AskPromise, ForDictionary, Prepares, ForLiterals, TestsQuestion, Places, EntryInside, PlacesEntry, PlacesNull, PlacesValues, PlacesEntries, AuditsZero, AuditsField, AnswersZero, AnswersField};
+ghost use Rattle.bitmap_index.specs.Promises.{AuditPromise, AskPromise, ForDictionary, Prepares, ForLiterals, TestsQuestion};
+ghost use Rattle.bitmap_index.specs.Promises.{Places, EntryInside, PlacesEntry, PlacesNull, PlacesValues, PlacesEntries};
+ghost use Rattle.bitmap_index.specs.Promises.{AuditsZero, AuditsField, AnswersZero, AnswersField};
 use dictionary::Checked;
 use dictionary::EntryAt;
 use dictionary::Summary;
@@ -348,7 +350,8 @@ fn answer_zero(
     literals: &[u8],
 ) -> Answered
     requires { ⌜ IsRead t (now body) summary ⌝ }
-    ensures { λ r. ⌜ ForDictionary t (now (body .entry)) summary (λ d. AnswersZero t question (now (literals .entry)) d (now (field .entry)) (now (field .exit)) r) ⌝ }
+    ensures { λ r. ⌜ ForDictionary t (now (body .entry)) summary
+        (λ d. AnswersZero t question (now (literals .entry)) d (now (field .entry)) (now (field .exit)) r) ⌝ }
 {
     let placed = place_entries(field, body, summary, t, Entries::Chosen(question), literals);
     if let Outcome::Refused(r) = placed {
@@ -372,7 +375,8 @@ fn ask_field(
     literals: &[u8],
 ) -> Answered
     requires { ⌜ IsRead t (now body) summary ⌝ }
-    ensures { λ r. ⌜ ForDictionary t (now (body .entry)) summary (λ d. AnswersField t question (now (literals .entry)) d (now (field .entry)) (now (field .exit)) r) ⌝ }
+    ensures { λ r. ⌜ ForDictionary t (now (body .entry)) summary
+        (λ d. AnswersField t question (now (literals .entry)) d (now (field .entry)) (now (field .exit)) r) ⌝ }
 {
     let audit = audit_field(field, body, summary, t);
     match audit {

@@ -8,7 +8,6 @@ use lib.IntN.{ℤ, pos}
 use lib.ListN.{length, take, drop, getD}
 use mir.Syntax.{w32}
 use mir.Val.{ofZ}
-use Rattle.numbers.specs.declared.Position.{Position}
 use Rattle.numbers.specs.Meaning.{beAt, signed32, signBit, minusOne, fourBytes, position}
 use Rattle.refusal.specs.Meaning.{numberOf}
 use Rattle.refusal.specs.Reading.{Out, refuse, ok, numbersOf}

@@ -1,6 +1,6 @@
 -- The claims, proved.
 use Prim.Native.Nat.{ℕ}
-use mathlib.Core.Path.{_≡_, ap}
+use mathlib.Core.Path.{_≡_, sym, ap, _∙_}
 use mathlib.Core.List.{List, _∷_}
 use mathlib.Core.Logic.{_⊎_, inl, inr, ⊎-elim}
 use native.Mathlib.Decide.{ℕ-discrete}
@@ -62,8 +62,9 @@ unfolding andThen askPart
 known-part bytes t q literals field a (refuse r) h v s e = absurd (not-ok h)
 known-part bytes t q literals field a (ok absent) h v s e = absurd (let z : _≡_ {A = ℕ} 0 1 = cc in omega arith)
 known-part bytes t q literals field a (ok (found p)) h v s e =
-    let (b, asked, same) = then-ok (ask t q literals (bytesOf p bytes) field) _ (found a) h in
-    known-body t q literals field b v s (rw e at asked) (ℕ-discrete v 1) (ℕ-discrete v 2)
+    let t-ok = then-ok (ask t q literals (bytesOf p bytes) field) _ (found a) h in
+    let asked : ask t q literals (v ∷ s) field ≡ ok (t-ok .0) = ap (λ (b : List ℕ). ask t q literals b field) (sym e) ∙ t-ok .1 in
+    known-body t q literals field (t-ok .0) v s asked (ℕ-discrete v 1) (ℕ-discrete v 2)
 
 pub answered-versions : AnsweredVersions
 unfolding askFile
