@@ -9,7 +9,7 @@ use lib.Dec.{eqb}
 use lib.ListN.{length, take, drop, getD, length-take, length-drop, drop-of-length-le}
 use lib.Seq.{drop-cons, take-all}
 use borrow.Author.Tests.{eq-eqb, ne-eqb}
-use Rattle.case_lines.specs.Meaning.{until, beyond, fromWord, tenth, decimalFrom}
+use Rattle.case_lines.specs.Promises.{until, beyond, fromWord, tenth, decimalFrom}
 
 -- as many bytes as stand before the first `stop` are those, and are no more than all
 pub take-until : (stop : ℕ) (s : List ℕ) → take (length (until stop s)) s ≡ until stop s

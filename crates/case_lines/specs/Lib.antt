@@ -1,2 +1,2 @@
 -- What a line of a file of cases says.
-pub mod Meaning
+pub mod Promises

@@ -3,7 +3,7 @@ use Prim.Native.Nat.{_-_, _≤_}
 use mathlib.Core.Path.{_≡_, refl, _∙_}
 use native.Mathlib.Omega.{arith}
 use lib.ListN.{length, drop}
-use Rattle.case_lines.specs.Meaning.{decimalFrom}
+use Rattle.case_lines.specs.Promises.{decimalFrom}
 use Rattle.case_lines.proofs.Words.{decimal-next, decimal-done}
 use Rattle.case_lines.proofs.decimal.Statement.{statement}
 use Rattle.case_lines.proofs.decimal.Tie as tie

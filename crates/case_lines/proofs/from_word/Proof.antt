@@ -4,7 +4,7 @@ use mathlib.Core.Path.{_≡_, refl, _∙_}
 use mathlib.Core.Logic.{⊎-elim}
 use native.Mathlib.Omega.{arith}
 use lib.ListN.{length, drop}
-use Rattle.case_lines.specs.Meaning.{fromWord}
+use Rattle.case_lines.specs.Promises.{fromWord}
 use Rattle.case_lines.proofs.Words.{part-behind, fromWord-space, fromWord-next, fromWord-done}
 use Rattle.case_lines.proofs.from_word.Statement.{statement}
 use Rattle.case_lines.proofs.from_word.Tie as tie

@@ -3,7 +3,7 @@ use mathlib.Core.Path.{ap, _∙_}
 use native.Mathlib.Omega.{arith}
 use borrow.Author.Needs.{needs}
 use lib.ListN.{length, drop, length-drop}
-use Rattle.case_lines.specs.Meaning.{until}
+use Rattle.case_lines.specs.Promises.{until}
 use Rattle.case_lines.proofs.Words.{length-until}
 use Rattle.case_lines.proofs.line_at.Statement.{statement}
 use Rattle.case_lines.proofs.line_at.Tie as tie

@@ -4,7 +4,7 @@ use mathlib.Core.Path.{_≡_, sym, _∙_}
 use native.Mathlib.Omega.{arith}
 use lib.ListN.{length, drop}
 use lib.Seq.{take-all}
-use Rattle.case_lines.specs.Meaning.{until}
+use Rattle.case_lines.specs.Promises.{until}
 use Rattle.case_lines.proofs.Words.{take-until, until-ends, until-next, until-done}
 use Rattle.case_lines.proofs.until.Statement.{statement}
 use Rattle.case_lines.proofs.until.Tie as tie

@@ -1,7 +1,7 @@
 -- `word` meets its contract.
 use mathlib.Core.Path.{ap, _∙_}
 use borrow.Author.Needs.{needs}
-use Rattle.case_lines.specs.Meaning.{until, wordOf}
+use Rattle.case_lines.specs.Promises.{until, wordOf}
 use Rattle.case_lines.proofs.word.Statement.{statement}
 use Rattle.case_lines.proofs.word.Tie as tie
 
