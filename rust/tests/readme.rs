@@ -119,7 +119,8 @@ fn c_example() {
 fn believed_lines() {
     let output = Command::new("bash").arg(".ci/believed").current_dir(root()).output().unwrap();
     let counted = lines(output);
-    let count = counted.iter().find_map(|line| line.strip_prefix("Meaning, Layout and Reading ")).expect("the script's last line");
+    let count =
+        counted.iter().find_map(|line| line.strip_prefix("Meaning, Layout and Reading ")).expect("the script's last line");
     let readme = fs::read_to_string(root().join("README.md")).unwrap();
     assert!(readme.contains(&format!("`crates/*/specs/`: {count} lines of definitions")), "the script counts {count}");
 }

@@ -16,6 +16,4 @@ pub chosen-null-spec : {M : Type 1} → statement M
 chosen-null-spec =
     tie.close
     (tie.spec
-    returns
-    returns-2
-    returns-3)
+    returns returns-2 returns-3)

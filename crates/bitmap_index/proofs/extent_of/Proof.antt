@@ -13,5 +13,4 @@ pub extent-of-spec : {M : Type 1} → statement M
 extent-of-spec =
     tie.close
     (tie.spec
-    returns
-    returns-2)
+    returns returns-2)

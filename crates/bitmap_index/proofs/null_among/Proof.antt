@@ -15,8 +15,4 @@ pub null-among-spec : {M : Type 1} → statement M
 null-among-spec =
     tie.close
     (tie.spec
-    (λ c. search needs)
-    (λ c. search needs)
-    (λ c κs. search needs)
-    returns
-    returns-2)
+    (λ c. search needs) (λ c. search needs) (λ c κs. search needs) returns returns-2)

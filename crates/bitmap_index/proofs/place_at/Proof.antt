@@ -28,12 +28,4 @@ pub place-at-spec : {M : Type 1} → statement M
 place-at-spec =
     tie.close
     (tie.spec
-    sub-t9
-    cast-t10
-    (λ c κs. search needs)
-    (λ c. search needs)
-    returns
-    cast-t14
-    (λ c κs. search needs)
-    (λ c. search needs)
-    returns-2)
+    sub-t9 cast-t10 (λ c κs. search needs) (λ c. search needs) returns cast-t14 (λ c κs. search needs) (λ c. search needs) returns-2)

@@ -24,11 +24,4 @@ pub place-entries-spec : {M : Type 1} → statement M
 place-entries-spec =
     tie.close
     (tie.spec
-    place-null-requires
-    (λ c. search needs)
-    (λ c. search needs)
-    (λ c κs. search needs)
-    (λ c. search needs)
-    returns
-    (λ c. search needs)
-    returns-2)
+    place-null-requires (λ c. search needs) (λ c. search needs) (λ c κs. search needs) (λ c. search needs) returns (λ c. search needs) returns-2)

@@ -23,9 +23,4 @@ pub place-row-spec : {M : Type 1} → statement M
 place-row-spec =
     tie.close
     (tie.spec
-    returns
-    (λ c κs. search needs)
-    (λ c. search needs)
-    returns-2
-    (λ c. search needs)
-    returns-3)
+    returns (λ c κs. search needs) (λ c. search needs) returns-2 (λ c. search needs) returns-3)

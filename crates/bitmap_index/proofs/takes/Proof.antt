@@ -22,6 +22,4 @@ pub takes-spec : {M : Type 1} → statement M
 takes-spec =
     tie.close
     (tie.spec
-    returns
-    returns-2
-    returns-3)
+    returns returns-2 returns-3)

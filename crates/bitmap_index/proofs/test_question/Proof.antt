@@ -61,14 +61,5 @@ pub test-question-spec : {M : Type 1} → statement M
 test-question-spec =
     tie.close
     (tie.spec
-    returns
-    returns-2
-    returns-3
-    returns-4
-    (λ c κs. search needs)
-    (λ c. search needs)
-    (λ c. search needs)
-    (λ c κs. search needs)
-    returns-5
-    returns-6
+    returns returns-2 returns-3 returns-4 (λ c κs. search needs) (λ c. search needs) (λ c. search needs) (λ c κs. search needs) returns-5 returns-6
     returns-7)

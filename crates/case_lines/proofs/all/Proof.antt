@@ -16,12 +16,4 @@ pub all-spec : {M : Type 1} → statement M
 all-spec =
     tie.close
     (tie.spec
-    Inv-loop
-    μ-loop
-    (λ c. omega arith)
-    (λ c. omega arith)
-    (λ c. tt)
-    (λ c. omega arith)
-    (λ c. omega arith)
-    (λ c. omega arith)
-    (λ c. tt))
+    Inv-loop μ-loop (λ c. omega arith) (λ c. omega arith) (λ c. tt) (λ c. omega arith) (λ c. omega arith) (λ c. omega arith) (λ c. tt))

@@ -13,6 +13,4 @@ pub letter-spec : {M : Type 1} → statement M
 letter-spec =
     tie.close
     (tie.spec
-    returns
-    (λ c. search needs)
-    (λ c. search needs))
+    returns (λ c. search needs) (λ c. search needs))

@@ -14,7 +14,4 @@ pub digits-spec : {M : Type 1} → statement M
 digits-spec =
     tie.close
     (tie.spec
-    (λ c. search needs)
-    (λ c κs. search needs)
-    expect-requires
-    (λ c. search needs))
+    (λ c. search needs) (λ c κs. search needs) expect-requires (λ c. search needs))

@@ -55,21 +55,5 @@ pub find-bin-spec : {M : Type 1} → statement M
 find-bin-spec =
     tie.close
     (tie.spec
-    Inv-loop
-    μ-loop
-    loop-holds
-    (λ c. omega arith)
-    returns
-    (λ c κs. omega arith)
-    returns-2
-    (λ c. omega arith)
-    returns-3
-    (λ c. omega arith)
-    (λ c. omega arith)
-    (λ c. omega arith)
-    (λ c. omega arith)
-    (λ c. omega arith)
-    (λ c. omega arith)
-    loop-again
-    returns-4
-    returns-5)
+    Inv-loop μ-loop loop-holds (λ c. omega arith) returns (λ c κs. omega arith) returns-2 (λ c. omega arith) returns-3 (λ c. omega arith)
+    (λ c. omega arith) (λ c. omega arith) (λ c. omega arith) (λ c. omega arith) (λ c. omega arith) loop-again returns-4 returns-5)

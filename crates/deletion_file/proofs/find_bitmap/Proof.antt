@@ -32,12 +32,4 @@ pub find-bitmap-spec : {M : Type 1} → statement M
 find-bitmap-spec =
     tie.close
     (tie.spec
-    returns
-    (λ c κs. search needs)
-    returns-2
-    (λ c κs. search needs)
-    (λ c. search needs)
-    (λ c. search needs)
-    open-bin-requires
-    returns-3
-    returns-4)
+    returns (λ c κs. search needs) returns-2 (λ c κs. search needs) (λ c. search needs) (λ c. search needs) open-bin-requires returns-3 returns-4)

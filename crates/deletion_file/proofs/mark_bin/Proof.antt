@@ -22,10 +22,4 @@ pub mark-bin-spec : {M : Type 1} → statement M
 mark-bin-spec =
     tie.close
     (tie.spec
-    (λ c κs. search needs)
-    (λ c. search needs)
-    (λ c. search needs)
-    mark-bitmap-requires
-    returns
-    (λ c. search needs)
-    returns-2)
+    (λ c κs. search needs) (λ c. search needs) (λ c. search needs) mark-bitmap-requires returns (λ c. search needs) returns-2)

@@ -63,15 +63,5 @@ pub all-blocks-spec : {M : Type 1} → statement M
 all-blocks-spec =
     tie.close
     (tie.spec
-    Inv-loop
-    μ-loop
-    loop-holds
-    one-block-requires
-    (λ c. search needs)
-    returns
-    (λ c. search needs)
-    add-total
-    (λ c. omega arith)
-    (λ c. omega arith)
-    loop-again
-    returns-2)
+    Inv-loop μ-loop loop-holds one-block-requires (λ c. search needs) returns (λ c. search needs) add-total (λ c. omega arith) (λ c. omega arith)
+    loop-again returns-2)

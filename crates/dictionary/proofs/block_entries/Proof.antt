@@ -76,21 +76,5 @@ pub block-entries-spec : {M : Type 1} → statement M
 block-entries-spec =
     tie.close
     (tie.spec
-    Inv-loop
-    μ-loop
-    loop-holds
-    (λ c κs. search needs)
-    (λ c. search needs)
-    returns
-    (λ c. search needs)
-    is-past-requires
-    returns-2
-    is-due-requires
-    returns-3
-    sub-if3
-    returns-4
-    (λ c. omega arith)
-    (λ c. omega arith)
-    (λ c. omega arith)
-    loop-again
-    returns-5)
+    Inv-loop μ-loop loop-holds (λ c κs. search needs) (λ c. search needs) returns (λ c. search needs) is-past-requires returns-2 is-due-requires
+    returns-3 sub-if3 returns-4 (λ c. omega arith) (λ c. omega arith) (λ c. omega arith) loop-again returns-5)

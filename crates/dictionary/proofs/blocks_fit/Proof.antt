@@ -13,5 +13,4 @@ pub blocks-fit-spec : {M : Type 1} → statement M
 blocks-fit-spec =
     tie.close
     (tie.spec
-    returns
-    returns-2)
+    returns returns-2)

@@ -80,22 +80,5 @@ pub entries-one-spec : {M : Type 1} → statement M
 entries-one-spec =
     tie.close
     (tie.spec
-    Inv-loop
-    μ-loop
-    loop-holds
-    (λ c κs. search needs)
-    (λ c. search needs)
-    returns
-    (λ c. search needs)
-    sub-has-value
-    part-has-value-start
-    part-has-value-end
-    (λ c κs. search needs)
-    returns-2
-    sub-if2
-    returns-3
-    add-p
-    (λ c. omega arith)
-    (λ c. omega arith)
-    loop-again
-    returns-4)
+    Inv-loop μ-loop loop-holds (λ c κs. search needs) (λ c. search needs) returns (λ c. search needs) sub-has-value part-has-value-start
+    part-has-value-end (λ c κs. search needs) returns-2 sub-if2 returns-3 add-p (λ c. omega arith) (λ c. omega arith) loop-again returns-4)

@@ -105,26 +105,6 @@ pub entries-two-spec : {M : Type 1} → statement M
 entries-two-spec =
     tie.close
     (tie.spec
-    (λ c κs. search needs)
-    (λ c. search needs)
-    returns
-    (λ c. search needs)
-    (λ c κs. search needs)
-    returns-2
-    (λ c. search needs)
-    directory-end-requires
-    (λ c. search needs)
-    returns-3
-    (λ c. search needs)
-    sub-if2
-    returns-4
-    (λ c κs. search needs)
-    (λ c. search needs)
-    all-blocks-requires
-    (λ c. search needs)
-    returns-5
-    (λ c. search needs)
-    sub-if3
-    returns-6
-    returns-7
-    returns-8)
+    (λ c κs. search needs) (λ c. search needs) returns (λ c. search needs) (λ c κs. search needs) returns-2 (λ c. search needs) directory-end-requires
+    (λ c. search needs) returns-3 (λ c. search needs) sub-if2 returns-4 (λ c κs. search needs) (λ c. search needs) all-blocks-requires
+    (λ c. search needs) returns-5 (λ c. search needs) sub-if3 returns-6 returns-7 returns-8)

@@ -55,19 +55,5 @@ pub entry-at-spec : {M : Type 1} → statement M
 entry-at-spec =
     tie.close
     (tie.spec
-    (λ c κs. search needs)
-    returns
-    (λ c κs. search needs)
-    (λ c. search needs)
-    (λ c κs. search needs)
-    returns-2
-    (λ c. search needs)
-    (λ c κs. search needs)
-    sub-if2
-    (λ c κs. search needs)
-    returns-3
-    offset-at-requires
-    extent-at-requires
-    add-t12
-    (λ c. omega arith)
-    returns-4)
+    (λ c κs. search needs) returns (λ c κs. search needs) (λ c. search needs) (λ c κs. search needs) returns-2 (λ c. search needs)
+    (λ c κs. search needs) sub-if2 (λ c κs. search needs) returns-3 offset-at-requires extent-at-requires add-t12 (λ c. omega arith) returns-4)

@@ -19,7 +19,4 @@ pub extent-at-spec : {M : Type 1} → statement M
 extent-at-spec =
     tie.close
     (tie.spec
-    (λ c. search needs)
-    be32-requires
-    returns
-    returns-2)
+    (λ c. search needs) be32-requires returns returns-2)

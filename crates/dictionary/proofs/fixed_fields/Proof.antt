@@ -54,20 +54,5 @@ pub fixed-fields-spec : {M : Type 1} → statement M
 fixed-fields-spec =
     tie.close
     (tie.spec
-    returns
-    (λ c κs. search needs)
-    returns-2
-    returns-3
-    (λ c κs. search needs)
-    (λ c. search needs)
-    returns-4
-    (λ c. search needs)
-    (λ c κs. search needs)
-    count-at-requires-2
-    (λ c. search needs)
-    returns-5
-    (λ c. search needs)
-    returns-6
-    (λ c κs. search needs)
-    returns-7
-    returns-8)
+    returns (λ c κs. search needs) returns-2 returns-3 (λ c κs. search needs) (λ c. search needs) returns-4 (λ c. search needs) (λ c κs. search needs)
+    count-at-requires-2 (λ c. search needs) returns-5 (λ c. search needs) returns-6 (λ c κs. search needs) returns-7 returns-8)

@@ -61,20 +61,5 @@ pub has-value-spec : {M : Type 1} → statement M
 has-value-spec =
     tie.close
     (tie.spec
-    Inv-loop
-    μ-loop
-    loop-holds
-    (λ c κs. search needs)
-    (λ c. search needs)
-    returns
-    (λ c. search needs)
-    sub-same
-    part-same-start
-    part-same-end
-    (λ c κs. search needs)
-    returns-2
-    add-p
-    (λ c. search needs)
-    (λ c. search needs)
-    loop-again
-    returns-3)
+    Inv-loop μ-loop loop-holds (λ c κs. search needs) (λ c. search needs) returns (λ c. search needs) sub-same part-same-start part-same-end
+    (λ c κs. search needs) returns-2 add-p (λ c. search needs) (λ c. search needs) loop-again returns-3)

@@ -40,14 +40,5 @@ pub null-entry-spec : {M : Type 1} → statement M
 null-entry-spec =
     tie.close
     (tie.spec
-    returns
-    (λ c. search needs)
-    returns-2
-    (λ c κs. search needs)
-    (λ c. search needs)
-    returns-3
-    (λ c. search needs)
-    returns-4
-    (λ c κs. search needs)
-    (λ c. search needs)
-    returns-5)
+    returns (λ c. search needs) returns-2 (λ c κs. search needs) (λ c. search needs) returns-3 (λ c. search needs) returns-4 (λ c κs. search needs)
+    (λ c. search needs) returns-5)

@@ -100,24 +100,6 @@ pub one-block-spec : {M : Type 1} → statement M
 one-block-spec =
     tie.close
     (tie.spec
-    (λ c κs. search needs)
-    (λ c. search needs)
-    returns
-    (λ c. search needs)
-    sub-if1
-    returns-2
-    (λ c κs. search needs)
-    (λ c. search needs)
-    returns-3
-    (λ c. search needs)
-    returns-4
-    (λ c κs. search needs)
-    returns-5
-    returns-6
-    (λ c. search needs)
-    block-entries-requires
-    (λ c. search needs)
-    returns-7
-    (λ c. search needs)
-    (λ c. search needs)
-    returns-8)
+    (λ c κs. search needs) (λ c. search needs) returns (λ c. search needs) sub-if1 returns-2 (λ c κs. search needs) (λ c. search needs) returns-3
+    (λ c. search needs) returns-4 (λ c κs. search needs) returns-5 returns-6 (λ c. search needs) block-entries-requires (λ c. search needs) returns-7
+    (λ c. search needs) (λ c. search needs) returns-8)

@@ -49,17 +49,5 @@ pub read-spec : {M : Type 1} → statement M
 read-spec =
     tie.close
     (tie.spec
-    returns
-    (λ c κs. search needs)
-    (λ c. search needs)
-    returns-2
-    (λ c. search needs)
-    null-entry-requires
-    (λ c. search needs)
-    returns-3
-    (λ c. search needs)
-    entries-requires
-    (λ c. search needs)
-    returns-4
-    (λ c. search needs)
-    returns-5)
+    returns (λ c κs. search needs) (λ c. search needs) returns-2 (λ c. search needs) null-entry-requires (λ c. search needs) returns-3
+    (λ c. search needs) entries-requires (λ c. search needs) returns-4 (λ c. search needs) returns-5)

@@ -18,9 +18,4 @@ pub value-end-spec : {M : Type 1} → statement M
 value-end-spec =
     tie.close
     (tie.spec
-    (λ c κs. search needs)
-    (λ c. search needs)
-    returns
-    (λ c. search needs)
-    add-t9
-    returns-2)
+    (λ c κs. search needs) (λ c. search needs) returns (λ c. search needs) add-t9 returns-2)

@@ -51,14 +51,5 @@ pub ask-file-spec : {M : Type 1} → statement M
 ask-file-spec =
     tie.close
     (tie.spec
-    (λ c κs. search needs)
-    (λ c κs. search needs)
-    (λ c. search needs)
-    (λ c. search needs)
-    (λ c. search needs)
-    part-requires
-    (λ c κs. search needs)
-    returns
-    returns-2
-    (λ c. search needs)
-    returns-3)
+    (λ c κs. search needs) (λ c κs. search needs) (λ c. search needs) (λ c. search needs) (λ c. search needs) part-requires (λ c κs. search needs)
+    returns returns-2 (λ c. search needs) returns-3)

@@ -20,5 +20,4 @@ pub looked-at-spec : {M : Type 1} → statement M
 looked-at-spec =
     tie.close
     (tie.spec
-    returns
-    returns-2)
+    returns returns-2)

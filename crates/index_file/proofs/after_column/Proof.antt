@@ -20,6 +20,4 @@ pub after-column-spec : {M : Type 1} → statement M
 after-column-spec =
     tie.close
     (tie.spec
-    returns
-    returns-2
-    returns-3)
+    returns returns-2 returns-3)

@@ -105,29 +105,6 @@ pub columns-at-spec : {M : Type 1} → statement M
 columns-at-spec =
     tie.close
     (tie.spec
-    Inv-loop
-    μ-loop
-    loop-holds
-    (λ c κs. search needs)
-    (λ c. search needs)
-    (λ c. search needs)
-    returns
-    count-at-requires
-    (λ c. search needs)
-    (λ c. search needs)
-    returns-2
-    (λ c. search needs)
-    sub-same-name
-    part-same-name-start
-    part-same-name-end
-    (λ c κs. search needs)
-    add-t22
-    entries-at-requires
-    (λ c. search needs)
-    (λ c. search needs)
-    returns-3
-    (λ c κs. search needs)
-    add-i
-    (λ c. search needs)
-    loop-again
-    returns-4)
+    Inv-loop μ-loop loop-holds (λ c κs. search needs) (λ c. search needs) (λ c. search needs) returns count-at-requires (λ c. search needs)
+    (λ c. search needs) returns-2 (λ c. search needs) sub-same-name part-same-name-start part-same-name-end (λ c κs. search needs) add-t22
+    entries-at-requires (λ c. search needs) (λ c. search needs) returns-3 (λ c κs. search needs) add-i (λ c. search needs) loop-again returns-4)

@@ -33,8 +33,4 @@ pub find-spec : {M : Type 1} → statement M
 find-spec =
     tie.close
     (tie.spec
-    returns
-    returns-2
-    returns-3
-    (λ c κs. search needs)
-    returns-4)
+    returns returns-2 returns-3 (λ c κs. search needs) returns-4)

@@ -48,14 +48,5 @@ pub placed-at-spec : {M : Type 1} → statement M
 placed-at-spec =
     tie.close
     (tie.spec
-    (λ c. search needs)
-    (λ c. search needs)
-    (λ c. search needs)
-    returns
-    returns-2
-    returns-3
-    (λ c. search needs)
-    returns-4
-    returns-5
-    returns-6
+    (λ c. search needs) (λ c. search needs) (λ c. search needs) returns returns-2 returns-3 (λ c. search needs) returns-4 returns-5 returns-6
     returns-7)

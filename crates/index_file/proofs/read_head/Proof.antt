@@ -72,21 +72,6 @@ pub read-head-spec : {M : Type 1} → statement M
 read-head-spec =
     tie.close
     (tie.spec
-    (λ c κs. search needs)
-    (λ c. search needs)
-    (λ c. search needs)
-    returns
-    (λ c. omega arith)
-    columns-at-requires
-    (λ c. search needs)
-    (λ c. search needs)
-    returns-2
-    count-at-requires-2
-    (λ c. search needs)
-    (λ c. search needs)
-    returns-3
-    add-if1-2
-    sub-if1
-    returns-4
-    (λ c κs. search needs)
-    returns-5)
+    (λ c κs. search needs) (λ c. search needs) (λ c. search needs) returns (λ c. omega arith) columns-at-requires (λ c. search needs)
+    (λ c. search needs) returns-2 count-at-requires-2 (λ c. search needs) (λ c. search needs) returns-3 add-if1-2 sub-if1 returns-4
+    (λ c κs. search needs) returns-5)

@@ -11,7 +11,4 @@ pub poddurance-ask-spec : {M : Type 1} → statement M
 poddurance-ask-spec =
     tie.close
     (tie.spec
-    (λ c κs. search needs)
-    (λ c κs. search needs)
-    (λ c. search needs)
-    returns)
+    (λ c κs. search needs) (λ c κs. search needs) (λ c. search needs) returns)

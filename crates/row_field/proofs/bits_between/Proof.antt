@@ -30,10 +30,4 @@ pub bits-between-spec : {M : Type 1} → statement M
 bits-between-spec =
     tie.close
     (tie.spec
-    (λ c. search needs)
-    (λ c. search needs)
-    (λ c. search needs)
-    (λ c. search needs)
-    sub-result
-    cast-result-3
-    returns)
+    (λ c. search needs) (λ c. search needs) (λ c. search needs) (λ c. search needs) sub-result cast-result-3 returns)

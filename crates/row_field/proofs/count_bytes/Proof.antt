@@ -47,15 +47,5 @@ pub count-bytes-spec : {M : Type 1} → statement M
 count-bytes-spec =
     tie.close
     (tie.spec
-    Inv-loop
-    μ-loop
-    (λ c κs. (omega arith, omega arith))
-    (λ c. omega arith)
-    loop-holds
-    (λ c. omega arith)
-    cast-total
-    add-total
-    (λ c. omega arith)
-    (λ c. omega arith)
-    loop-again
-    returns)
+    Inv-loop μ-loop (λ c κs. (omega arith, omega arith)) (λ c. omega arith) loop-holds (λ c. omega arith) cast-total add-total (λ c. omega arith)
+    (λ c. omega arith) loop-again returns)

@@ -44,14 +44,4 @@ pub count-words-spec : {M : Type 1} → statement M
 count-words-spec =
     tie.close
     (tie.spec
-    Inv-loop
-    μ-loop
-    loop-holds
-    (λ c. omega arith)
-    (λ c κs. omega arith)
-    cast-total
-    add-total
-    (λ c. omega arith)
-    (λ c. omega arith)
-    loop-again
-    returns)
+    Inv-loop μ-loop loop-holds (λ c. omega arith) (λ c κs. omega arith) cast-total add-total (λ c. omega arith) (λ c. omega arith) loop-again returns)

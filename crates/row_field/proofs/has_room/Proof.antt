@@ -14,5 +14,4 @@ pub has-room-spec : {M : Type 1} → statement M
 has-room-spec =
     tie.close
     (tie.spec
-    (λ c κs. search needs)
-    returns)
+    (λ c κs. search needs) returns)

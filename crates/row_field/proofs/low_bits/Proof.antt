@@ -28,8 +28,4 @@ pub low-bits-spec : {M : Type 1} → statement M
 low-bits-spec =
     tie.close
     (tie.spec
-    (λ c. search needs)
-    (λ c. search needs)
-    rem-result
-    returns
-    returns-2)
+    (λ c. search needs) (λ c. search needs) rem-result returns returns-2)

@@ -13,7 +13,4 @@ pub mark-byte-spec : {M : Type 1} → statement M
 mark-byte-spec =
     tie.close
     (tie.spec
-    (λ c. search needs)
-    (λ c. search needs)
-    (λ c. search needs)
-    returns)
+    (λ c. search needs) (λ c. search needs) (λ c. search needs) returns)

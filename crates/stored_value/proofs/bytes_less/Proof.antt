@@ -51,15 +51,5 @@ pub bytes-less-spec : {M : Type 1} → statement M
 bytes-less-spec =
     tie.close
     (tie.spec
-    Inv-loop
-    μ-loop
-    loop-holds
-    returns
-    (λ c. omega arith)
-    (λ c. omega arith)
-    returns-2
-    returns-3
-    (λ c. omega arith)
-    (λ c. omega arith)
-    loop-again
+    Inv-loop μ-loop loop-holds returns (λ c. omega arith) (λ c. omega arith) returns-2 returns-3 (λ c. omega arith) (λ c. omega arith) loop-again
     returns-4)

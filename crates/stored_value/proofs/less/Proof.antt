@@ -27,10 +27,4 @@ pub less-spec : {M : Type 1} → statement M
 less-spec =
     tie.close
     (tie.spec
-    returns
-    (λ c κs. search needs)
-    (λ c κs. search needs)
-    returns-2
-    (λ c κs. omega arith)
-    (λ c κs. omega arith)
-    returns-3)
+    returns (λ c κs. search needs) (λ c κs. search needs) returns-2 (λ c κs. omega arith) (λ c κs. omega arith) returns-3)

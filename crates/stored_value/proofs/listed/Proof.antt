@@ -93,19 +93,5 @@ pub listed-spec : {M : Type 1} → statement M
 listed-spec =
     tie.close
     (tie.spec
-    Inv-loop
-    μ-loop
-    loop-holds
-    (λ c κs. search needs)
-    (λ c. search needs)
-    returns
-    (λ c. search needs)
-    add-e
-    (λ c. omega arith)
-    (λ c. omega arith)
-    part-same-end
-    (λ c κs. search needs)
-    returns-2
-    loop-less
-    loop-again
-    returns-3)
+    Inv-loop μ-loop loop-holds (λ c κs. search needs) (λ c. search needs) returns (λ c. search needs) add-e (λ c. omega arith) (λ c. omega arith)
+    part-same-end (λ c κs. search needs) returns-2 loop-less loop-again returns-3)

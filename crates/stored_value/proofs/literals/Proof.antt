@@ -95,16 +95,5 @@ pub literals-spec : {M : Type 1} → statement M
 literals-spec =
     tie.close
     (tie.spec
-    Inv-loop
-    μ-loop
-    loop-holds
-    returns
-    (λ c κs. search needs)
-    (λ c. search needs)
-    returns-2
-    (λ c. search needs)
-    add-p
-    (λ c. omega arith)
-    loop-less
-    loop-again
-    returns-3)
+    Inv-loop μ-loop loop-holds returns (λ c κs. search needs) (λ c. search needs) returns-2 (λ c. search needs) add-p (λ c. omega arith) loop-less
+    loop-again returns-3)

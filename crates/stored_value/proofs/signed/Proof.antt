@@ -63,20 +63,5 @@ pub signed-spec : {M : Type 1} → statement M
 signed-spec =
     tie.close
     (tie.spec
-    Inv-loop
-    μ-loop
-    loop-holds
-    mul-x
-    (λ c κs. search needs)
-    add-x
-    mul-last
-    add-last
-    (λ c. omega arith)
-    (λ c. omega arith)
-    loop-again
-    cast-result
-    returns
-    (λ c. omega arith)
-    cast-result-2
-    sub-result-2
-    returns-2)
+    Inv-loop μ-loop loop-holds mul-x (λ c κs. search needs) add-x mul-last add-last (λ c. omega arith) (λ c. omega arith) loop-again cast-result
+    returns (λ c. omega arith) cast-result-2 sub-result-2 returns-2)

@@ -60,19 +60,5 @@ pub size-spec : {M : Type 1} → statement M
 size-spec =
     tie.close
     (tie.spec
-    returns
-    returns-2
-    (λ c. search needs)
-    (λ c κs. search needs)
-    returns-3
-    (λ c κs. search needs)
-    returns-4
-    returns-5
-    returns-6
-    (λ c. search needs)
-    returns-7
-    returns-8
-    (λ c. search needs)
-    returns-9
-    returns-10
-    returns-11)
+    returns returns-2 (λ c. search needs) (λ c κs. search needs) returns-3 (λ c κs. search needs) returns-4 returns-5 returns-6 (λ c. search needs)
+    returns-7 returns-8 (λ c. search needs) returns-9 returns-10 returns-11)

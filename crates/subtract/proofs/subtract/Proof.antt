@@ -140,16 +140,5 @@ pub subtract-spec : {M : Type 1} → statement M
 subtract-spec =
     tie.close
     (tie.spec
-    returns
-    (λ c κs. search needs)
-    (λ c. search needs)
-    returns-2
-    (λ c κs. search needs)
-    (λ c. search needs)
-    returns-3
-    (λ c κs. search needs)
-    subtract-rows-requires
-    (λ c κs. search needs)
-    sub-removed
-    (λ c. search needs)
-    returns-4)
+    returns (λ c κs. search needs) (λ c. search needs) returns-2 (λ c κs. search needs) (λ c. search needs) returns-3 (λ c κs. search needs)
+    subtract-rows-requires (λ c κs. search needs) sub-removed (λ c. search needs) returns-4)

@@ -44,13 +44,4 @@ pub subtract-bytes-spec : {M : Type 1} → statement M
 subtract-bytes-spec =
     tie.close
     (tie.spec
-    Inv-loop
-    μ-loop
-    loop-holds
-    (λ c. omega arith)
-    clear-bits-requires
-    (λ c. omega arith)
-    (λ c. omega arith)
-    loop-again
-    same-length
-    returns)
+    Inv-loop μ-loop loop-holds (λ c. omega arith) clear-bits-requires (λ c. omega arith) (λ c. omega arith) loop-again same-length returns)
