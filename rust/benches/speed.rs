@@ -3,11 +3,19 @@
 //! Both are given the same bytes and a cleared field, one call at a time and in changing order, and the median of all times counts.
 //! Clearing the field is not timed. Before that, answers, counts and fields of both are compared.
 //!
-//! Without cargo's `--bench`, as in `cargo test --benches`, or with PODDURANCE_QUICK set, inputs are smaller and each call is timed a few
-//! times only, to see that everything runs.
+//! The whole table is measured PODDURANCE_RUNS times, three unless that is set, and each line shows the run whose ratio is the median.
+//! Then calls on more and more rows are timed for the plot `docs/speed.svg`.
+//!
+//! Without cargo's `--bench`, as in `cargo test --benches`, or with PODDURANCE_QUICK set, inputs are smaller, each call is timed a few
+//! times only, in one run, and no plot is written, to see that everything runs.
+
+mod plot;
+#[path = "../examples/svg/mod.rs"]
+mod svg;
 
 use std::fs;
 use std::hint::black_box;
+use std::path::Path;
 use std::process::Command;
 use std::time::{Duration, Instant};
 
@@ -15,76 +23,183 @@ use poddurance::raw;
 use reference::random::Random;
 use reference::reader;
 use reference::types;
-use reference::writer::{bitmap, body, deletion_file, BitmapForm, ContainerForm, Groups, Layout};
+use reference::writer::{bitmap, body, deletion_file, index_file, BitmapForm, ContainerForm, Groups, Layout};
 
 /// The rows of one Roaring container.
 const CONTAINER: u32 = 65_536;
+/// The most literals of a question.
+const LITERALS: usize = 1_024;
+/// The entries of a block in version 2.
+const BLOCK: usize = 500;
+/// The kind of the indexes in a head.
+const KIND: &str = "bitmap";
+
+/// How large the inputs are.
+struct Sizes {
+    /// Distinct values in version 1.
+    one: usize,
+    /// Distinct strings in version 2.
+    two: usize,
+    /// Columns in a head.
+    columns: usize,
+    /// Rows of the large inputs.
+    rows: u32,
+    /// Rows of the inputs for the plot.
+    plotted: &'static [u32],
+}
+
+const FULL: Sizes = Sizes {
+    one: 4_096,
+    two: 10_000,
+    columns: 1_000,
+    rows: 10_000_000,
+    // Two points for each power of ten, equally far from each other on a logarithmic axis.
+    plotted: &[10_000, 31_623, 100_000, 316_228, 1_000_000, 3_162_278, 10_000_000],
+};
+const QUICK: Sizes = Sizes { one: 1_000, two: 1_000, columns: 1_000, rows: 1_000_000, plotted: &[10_000, 100_000] };
 
 fn main() {
     let quick = !std::env::args().any(|word| word == "--bench") || std::env::var_os("PODDURANCE_QUICK").is_some();
-    let patience = match quick {
-        true => Patience { least: 3, most: 3, time: Duration::ZERO },
-        false => Patience { least: 15, most: 10_001, time: Duration::from_secs(2) },
+    let (sizes, patience, usual_runs) = match quick {
+        true => (QUICK, Patience { least: 3, most: 3, time: Duration::ZERO }, 1),
+        false => (FULL, Patience { least: 15, most: 10_001, time: Duration::from_secs(2) }, 3),
     };
-    // The distinct strings of version 2 and of version 1, and the rows of the large inputs.
-    let (two, one, rows) = if quick { (1_000, 1_000, 1_000_000) } else { (10_000, 4_096, 10_000_000) };
+    let runs = match std::env::var("PODDURANCE_RUNS") {
+        Ok(runs) => runs.parse().ok().filter(|runs| *runs > 0).expect("PODDURANCE_RUNS is a number of runs"),
+        Err(_) => usual_runs,
+    };
 
-    print_machine();
-    print_line("input", "call", ["library", "reference", "ratio", "library/memcpy", "reference/memcpy"].map(str::to_string));
-    print_line("---", "---", ["--:"; 5].map(str::to_string));
-
-    let mut random = Random::new(1);
-    let literal = |value: &str| types::literals(types::STRING, &[value]);
-
-    measure_index("65,536 rows, one run", &one_run(), &literal("running"), false, &patience);
-    measure_index("65,536 rows, bits", &bits(&mut random), &literal("running"), false, &patience);
-    measure_index("65,536 rows, 4,000 scattered", &scattered(&mut random), &literal("fault"), false, &patience);
-
-    let what = format!("{} strings, version 2", grouped(two));
-    let input = strings(&mut random, two, 2);
-    measure_index(&what, &input, &literal(&pump(two / 2)), false, &patience);
-    let every_tenth: Vec<String> = (0..two).step_by(10).map(pump).collect();
-    let literals = types::literals(types::STRING, &every_tenth);
-    let call = Call::Ask { body: &input.body, ty: input.ty, question: types::IN, literals: &literals };
-    measure(&what, &call, input.rows, None, &patience);
-
-    let what = format!("{} strings, version 1", grouped(one));
-    measure_index(&what, &strings(&mut random, one, 1), &literal(&pump(one / 2)), false, &patience);
-
-    let what = format!("{} rows", grouped(rows as usize));
-    let number = types::literals(types::INT, &[42i32.to_be_bytes()]);
-    measure_index(&format!("{what}, 100 values"), &many_rows(&mut random, rows), &number, true, &patience);
-
-    let (file, deleted) = deletions(&mut random, rows);
-    measure(&what, &Call::ReadDeletions { file: &file, rows }, rows, Some(file.len()), &patience);
-    let first = random.bytes(deleted.len());
-    let call = Call::Subtract { first: &first, second: &deleted, rows };
-    measure(&what, &call, rows, Some(first.len()), &patience);
-
+    print_machine(runs);
+    print_cells("input", "call", ["library", "reference", "ratio", "library/memcpy", "reference/memcpy"].map(str::to_string));
+    print_cells("---", "---", ["--:"; 5].map(str::to_string));
+    table(&sizes, &patience, runs);
     print!("{LEGEND}");
+
+    let picture = against_rows(&sizes, &patience);
+    if !quick {
+        let path = Path::new(env!("CARGO_MANIFEST_DIR")).join("../docs/speed.svg");
+        fs::write(path, picture).expect("docs/speed.svg can be written");
+    }
+}
+
+/// Measures all lines in each run, and prints each in the last.
+fn table(sizes: &Sizes, patience: &Patience, runs: usize) {
+    let mut random = Random::new(1);
+    let large = sizes.rows;
+    let rows = format!("{} rows", grouped(large as usize));
+    let of = |number: usize, what: &str| format!("{} {what}", grouped(number));
+    let inputs = [
+        one_run().called("65,536 rows, one run"),
+        bits(&mut random).called("65,536 rows, bits"),
+        scattered(&mut random).called("65,536 rows, 4,000 scattered"),
+        spread(&mut random, types::STRING, pumps(sizes.two), 2).called(&of(sizes.two, "strings, version 2")),
+        spread(&mut random, types::STRING, pumps(sizes.one), 1).called(&of(sizes.one, "strings, version 1")),
+        spread(&mut random, types::INT, ints(sizes.one), 1).called(&of(sizes.one, "INT, version 1")),
+        one_each(&mut random).called("65,536 BIGINT, version 2"),
+        many_rows(&mut random, large).called(&format!("{rows}, 100 values")),
+    ];
+    let mut lines: Vec<Line> = inputs.iter().flat_map(Input::lines).collect();
+
+    let (file, deleted) = deletions(&mut random, large);
+    let read = Call::ReadDeletions { file: &file, rows: large };
+    lines.push(Line { what: rows.clone(), call: read, rows: large, copied: Some(file.len()) });
+    let first = random.bytes(deleted.len());
+    let subtract = Call::Subtract { first: &first, second: &deleted, rows: large };
+    lines.push(Line { what: rows, call: subtract, rows: large, copied: Some(first.len()) });
+
+    let head = head(sizes.columns);
+    let column = sensor(sizes.columns - 2);
+    let locate = Call::Locate { file: &head, column: &column };
+    lines.push(Line { what: of(sizes.columns, "columns"), call: locate, rows: 0, copied: None });
+
+    lines.iter().for_each(compare);
+    let mut measured: Vec<Vec<Times>> = lines.iter().map(|_| Vec::new()).collect();
+    for run in 1..=runs {
+        for (line, times) in lines.iter().zip(&mut measured) {
+            times.push(measure(line, patience));
+            if run == runs {
+                print_line(line, median_run(times));
+            }
+        }
+    }
 }
 
 const LEGEND: &str = "
-Median times. ratio: library's time / reference reader's. /memcpy: share of memcpy's speed, that is, the time of a memcpy of as many bytes as
-the body or file has (Subtract: as the first field has) / the reader's time.
+Median times. ratio: library's time / reference reader's; of several runs, each line shows the one whose ratio is the median. /memcpy: share of
+memcpy's speed, that is, the time of a memcpy of as many bytes as the body or file has (Subtract: as the first field has) / the reader's time.
 one run: all rows have one value. bits: each row has one of two values at random. 4,000 scattered: these rows at random have a value, in an
-array, the others are null, in bits. strings: 65,536 rows, each with a name of 10 bytes at random. Ask IN has every tenth of the names as
-literals, Ask EQUAL one. 100 values: INT, each row with one at random, in arrays. Read deletions: each row is deleted with a chance of 1 in 10, in bits.
-Subtract: these rows from a field with each row set with a chance of 1 in 2.
+array, the others are null, in bits. strings: 65,536 rows, each with one of so many names of 10 bytes at random. INT: the same with numbers.
+BIGINT: 65,536 rows, each with a number of its own, in blocks of 500. Ask EQUAL has one literal, Ask IN 1,024, evenly spread over the values.
+100 values: INT, each row with one at random, in arrays. Read deletions: each row is deleted with a chance of 1 in 10, in bits.
+Subtract: these rows from a field with each row set with a chance of 1 in 2. columns: an index file whose head lists so many, each with one
+index; Locate asks for the last but one.
 ";
+
+/// Times calls on more and more rows, and draws them.
+fn against_rows(sizes: &Sizes, patience: &Patience) -> String {
+    let mut random = Random::new(2);
+    let inputs: Vec<Input> = sizes.plotted.iter().map(|rows| many_rows(&mut random, *rows)).collect();
+    let calls: [fn(&Input) -> Line; 2] = [Input::audit, Input::ask_equal];
+    let series = calls.map(|call| {
+        let lines: Vec<Line> = inputs.iter().map(call).collect();
+        let points = lines.iter().map(|line| {
+            compare(line);
+            let Times { library, reference, .. } = measure(line, patience);
+            plot::Point { rows: line.rows, library, reference }
+        });
+        plot::Series { call: lines[0].call.name(), points: points.collect() }
+    });
+    plot::svg("INT column of 100 values", &series)
+}
 
 // Inputs
 
-/// A body and what it is to be read with.
+/// A body, what it is to be read with, and what is asked of it.
 struct Input {
+    name: String,
     body: Vec<u8>,
     ty: u32,
     rows: u32,
+    /// The literal of EQUAL.
+    one: Vec<u8>,
+    /// The literals of IN, if it is asked.
+    many: Option<Vec<u8>>,
+    /// Whether the body is so large that copying it takes a time worth comparing with.
+    large: bool,
 }
 
 impl Input {
-    fn new(groups: &Groups, layout: &Layout) -> Input {
-        Input { body: body(groups, layout), ty: groups.ty, rows: groups.rows }
+    /// The body of these groups, in which value number `asked` is looked for.
+    fn new(groups: &Groups, layout: &Layout, asked: usize) -> Input {
+        let one = types::literals(groups.ty, &[&groups.values[asked].0]);
+        let (name, many, large) = (String::new(), None, false);
+        Input { name, body: body(groups, layout), ty: groups.ty, rows: groups.rows, one, many, large }
+    }
+
+    fn called(self, name: &str) -> Input {
+        Input { name: name.to_string(), ..self }
+    }
+
+    fn lines(&self) -> Vec<Line<'_>> {
+        let mut lines = vec![self.audit(), self.ask_equal()];
+        lines.extend(self.many.iter().map(|literals| self.ask(types::IN, literals)));
+        lines
+    }
+
+    fn audit(&self) -> Line<'_> {
+        self.line(Call::Audit { body: &self.body, ty: self.ty })
+    }
+
+    fn ask_equal(&self) -> Line<'_> {
+        self.ask(types::EQUAL, &self.one)
+    }
+
+    fn ask<'a>(&'a self, question: u32, literals: &'a [u8]) -> Line<'a> {
+        self.line(Call::Ask { body: &self.body, ty: self.ty, question, literals })
+    }
+
+    fn line<'a>(&self, call: Call<'a>) -> Line<'a> {
+        Line { what: self.name.clone(), call, rows: self.rows, copied: self.large.then_some(self.body.len()) }
     }
 }
 
@@ -92,47 +207,73 @@ fn one_run() -> Input {
     let values = vec![(b"running".to_vec(), (0..CONTAINER).collect())];
     let groups = Groups { ty: types::STRING, rows: CONTAINER, nulls: Vec::new(), values };
     let as_runs = BitmapForm::WithRuns(vec![ContainerForm::Runs { cuts: Vec::new() }]);
-    Input::new(&groups, &Layout::version(1).with_form(as_runs))
+    Input::new(&groups, &Layout::version(1).with_form(as_runs), 0)
 }
 
 fn bits(random: &mut Random) -> Input {
     let (running, idle) = (0..CONTAINER).partition(|_| random.percent(50));
     let values = vec![(b"idle".to_vec(), idle), (b"running".to_vec(), running)];
     let groups = Groups { ty: types::STRING, rows: CONTAINER, nulls: Vec::new(), values };
-    Input::new(&groups, &Layout::version(1))
+    Input::new(&groups, &Layout::version(1), 1)
 }
 
 fn scattered(random: &mut Random) -> Input {
-    let mut rows: Vec<u32> = (0..CONTAINER).collect();
-    random.shuffle(&mut rows);
+    let mut rows = shuffled_rows(random);
     let mut nulls = rows.split_off(4_000);
     rows.sort_unstable();
     nulls.sort_unstable();
     let groups = Groups { ty: types::STRING, rows: CONTAINER, nulls, values: vec![(b"fault".to_vec(), rows)] };
-    Input::new(&groups, &Layout::version(1))
+    Input::new(&groups, &Layout::version(1), 0)
 }
 
-fn pump(number: usize) -> String {
-    format!("pump-{number:05}")
+fn shuffled_rows(random: &mut Random) -> Vec<u32> {
+    let mut rows: Vec<u32> = (0..CONTAINER).collect();
+    random.shuffle(&mut rows);
+    rows
 }
 
-/// Names of pumps; a value of a single row has no bitmap.
-fn strings(random: &mut Random, number: usize, version: u8) -> Input {
-    let mut values: Vec<(Vec<u8>, Vec<u32>)> = (0..number).map(|i| (pump(i).into_bytes(), Vec::new())).collect();
-    for row in 0..CONTAINER {
-        values[random.below(number)].1.push(row);
+/// Names of pumps, rising.
+fn pumps(number: usize) -> Vec<Vec<u8>> {
+    (0..number).map(|i| format!("pump-{i:05}").into_bytes()).collect()
+}
+
+/// Numbers of type INT, rising.
+fn ints(number: usize) -> Vec<Vec<u8>> {
+    (0..number as i32).map(|i| i.to_be_bytes().to_vec()).collect()
+}
+
+/// The rows of each value if each row has one of them at random.
+fn at_random(random: &mut Random, values: Vec<Vec<u8>>, rows: u32) -> Vec<(Vec<u8>, Vec<u32>)> {
+    let mut values: Vec<(Vec<u8>, Vec<u32>)> = values.into_iter().map(|value| (value, Vec::new())).collect();
+    for row in 0..rows {
+        let which = random.below(values.len());
+        values[which].1.push(row);
     }
-    let groups = Groups { ty: types::STRING, rows: CONTAINER, nulls: Vec::new(), values };
-    Input::new(&groups, &Layout::version(version).with_blocks_of(500))
+    values
+}
+
+/// Values with few rows each; one of a single row has no bitmap.
+fn spread(random: &mut Random, ty: u32, values: Vec<Vec<u8>>, version: u8) -> Input {
+    let number = values.len();
+    let many: Vec<&[u8]> = (0..LITERALS).map(|i| &values[i * number / LITERALS][..]).collect();
+    let many = types::literals(ty, &many);
+    let values = at_random(random, values, CONTAINER);
+    let groups = Groups { ty, rows: CONTAINER, nulls: Vec::new(), values };
+    let input = Input::new(&groups, &Layout::version(version).with_blocks_of(BLOCK), number / 2);
+    Input { many: Some(many), ..input }
+}
+
+/// As many values as rows, none of which has a bitmap.
+fn one_each(random: &mut Random) -> Input {
+    let values = (0i64..).zip(shuffled_rows(random)).map(|(number, row)| (number.to_be_bytes().to_vec(), vec![row]));
+    let groups = Groups { ty: types::BIGINT, rows: CONTAINER, nulls: Vec::new(), values: values.collect() };
+    Input::new(&groups, &Layout::version(2).with_blocks_of(BLOCK), CONTAINER as usize / 2)
 }
 
 fn many_rows(random: &mut Random, rows: u32) -> Input {
-    let mut values: Vec<(Vec<u8>, Vec<u32>)> = (0..100i32).map(|i| (i.to_be_bytes().to_vec(), Vec::new())).collect();
-    for row in 0..rows {
-        values[random.below(100)].1.push(row);
-    }
+    let values = at_random(random, ints(100), rows);
     let groups = Groups { ty: types::INT, rows, nulls: Vec::new(), values };
-    Input::new(&groups, &Layout::version(2))
+    Input { large: true, ..Input::new(&groups, &Layout::version(2), 42) }
 }
 
 /// A deletion file with one bin, and its rows as a field.
@@ -145,6 +286,17 @@ fn deletions(random: &mut Random, rows: u32) -> (Vec<u8>, Vec<u8>) {
     (deletion_file(&[bitmap(&deleted, &BitmapForm::WithoutRuns)]), field)
 }
 
+fn sensor(number: usize) -> String {
+    format!("sensor-{number:04}")
+}
+
+/// An index file of so many columns. Locate looks at the head alone, so that the bodies may be anything.
+fn head(columns: usize) -> Vec<u8> {
+    let names: Vec<String> = (0..columns).map(sensor).collect();
+    let indexes: Vec<(&str, &str, &[u8])> = names.iter().map(|name| (&name[..], KIND, name.as_bytes())).collect();
+    index_file(&indexes)
+}
+
 fn field_size(rows: u32) -> usize {
     rows.div_ceil(8) as usize
 }
@@ -153,18 +305,20 @@ fn field_size(rows: u32) -> usize {
 
 /// A call that both readers are given.
 enum Call<'a> {
+    Locate { file: &'a [u8], column: &'a str },
     Audit { body: &'a [u8], ty: u32 },
     Ask { body: &'a [u8], ty: u32, question: u32, literals: &'a [u8] },
     ReadDeletions { file: &'a [u8], rows: u32 },
     Subtract { first: &'a [u8], second: &'a [u8], rows: u32 },
 }
 
-/// The answer and up to two counts.
+/// The answer and up to two counts, or start and length.
 type Answer = (u8, u64, u64);
 
 impl Call<'_> {
     fn name(&self) -> &'static str {
         match self {
+            Call::Locate { .. } => "Locate",
             Call::Audit { .. } => "Audit",
             Call::Ask { question: types::IN, .. } => "Ask IN",
             Call::Ask { .. } => "Ask EQUAL",
@@ -184,6 +338,7 @@ impl Call<'_> {
     fn library(&self, field: &mut [u8]) -> Answer {
         let one = |(answer, count)| (answer, count, 0);
         match *self {
+            Call::Locate { file, column } => raw::locate(&[], file, column.as_bytes(), KIND.as_bytes()),
             Call::Audit { body, ty } => one(raw::audit(body, ty, field)),
             Call::Ask { body, ty, question, literals } => one(raw::ask(body, ty, question, literals, field)),
             Call::ReadDeletions { file, rows } => one(raw::read_deletions(file, 0, rows.into(), field)),
@@ -194,6 +349,7 @@ impl Call<'_> {
     fn reference(&self, field: &mut [u8]) -> Answer {
         let one = |(answer, count)| (answer, count, 0);
         match *self {
+            Call::Locate { file, column } => reader::locate(&[], file, column.as_bytes(), KIND.as_bytes()),
             Call::Audit { body, ty } => one(reader::audit(body, ty, field)),
             Call::Ask { body, ty, question, literals } => one(reader::ask(body, ty, question, literals, field)),
             Call::ReadDeletions { file, rows } => one(reader::read_deletions(file, 0, rows.into(), field)),
@@ -202,9 +358,17 @@ impl Call<'_> {
     }
 }
 
+/// A line of the table: a call, how many rows its field is for, and how many bytes memcpy is given, if it is timed too.
+struct Line<'a> {
+    what: String,
+    call: Call<'a>,
+    rows: u32,
+    copied: Option<usize>,
+}
+
 /// Both readers accept, with the same counts, the same field and nothing written behind it.
-fn compare(call: &Call, rows: u32) {
-    let size = field_size(rows);
+fn compare(Line { call, rows, .. }: &Line) {
+    let size = field_size(*rows);
     let lent = || {
         let mut buffer = vec![0xAA; size + 8];
         if let Call::Subtract { .. } = call {
@@ -230,19 +394,23 @@ struct Patience {
     time: Duration,
 }
 
-fn measure_index(what: &str, input: &Input, literal: &[u8], large: bool, patience: &Patience) {
-    let Input { body, ty, rows } = input;
-    let counted = large.then_some(body.len());
-    measure(what, &Call::Audit { body, ty: *ty }, *rows, counted, patience);
-    let call = Call::Ask { body, ty: *ty, question: types::EQUAL, literals: literal };
-    measure(what, &call, *rows, counted, patience);
+/// The medians of one run.
+#[derive(Clone, Copy)]
+struct Times {
+    library: Duration,
+    reference: Duration,
+    memcpy: Option<Duration>,
 }
 
-/// Compares, times and prints a call; `counted` is the number of bytes for memcpy.
-fn measure(what: &str, call: &Call, rows: u32, counted: Option<usize>, patience: &Patience) {
-    compare(call, rows);
-    let (mut ours, mut theirs) = (vec![0; field_size(rows)], vec![0; field_size(rows)]);
-    let mut copy = counted.map(|bytes| (vec![1u8; bytes], vec![0u8; bytes]));
+impl Times {
+    fn ratio(&self) -> f64 {
+        self.library.as_secs_f64() / self.reference.as_secs_f64()
+    }
+}
+
+fn measure(Line { call, rows, copied, .. }: &Line, patience: &Patience) -> Times {
+    let (mut ours, mut theirs) = (vec![0; field_size(*rows)], vec![0; field_size(*rows)]);
+    let mut copy = copied.map(|bytes| (vec![1u8; bytes], vec![0u8; bytes]));
     let (mut library, mut reference, mut memcpy) = (Vec::new(), Vec::new(), Vec::new());
 
     let started = Instant::now();
@@ -262,18 +430,7 @@ fn measure(what: &str, call: &Call, rows: u32, counted: Option<usize>, patience:
             memcpy.push(time(|| black_box(&mut to[..]).copy_from_slice(black_box(from))));
         }
     }
-
-    let (library, reference) = (median(library), median(reference));
-    let shares = match copy {
-        None => ["".to_string(), "".to_string()],
-        Some(_) => {
-            let memcpy = median(memcpy).as_secs_f64();
-            [library, reference].map(|one| format!("{:.1} %", 100.0 * memcpy / one.as_secs_f64()))
-        }
-    };
-    let [of_library, of_reference] = shares;
-    let ratio = format!("{:.2}", library.as_secs_f64() / reference.as_secs_f64());
-    print_line(what, call.name(), [shown(library), shown(reference), ratio, of_library, of_reference]);
+    Times { library: median(library), reference: median(reference), memcpy: copied.map(|_| median(memcpy)) }
 }
 
 fn time<R>(call: impl FnOnce() -> R) -> Duration {
@@ -289,9 +446,24 @@ fn median(mut times: Vec<Duration>) -> Duration {
     times[times.len() / 2]
 }
 
+/// The run whose ratio is the median.
+fn median_run(runs: &[Times]) -> Times {
+    let mut runs = runs.to_vec();
+    runs.sort_by(|one, other| one.ratio().total_cmp(&other.ratio()));
+    runs[runs.len() / 2]
+}
+
 // Printing
 
-fn print_line(what: &str, call: &str, numbers: [String; 5]) {
+fn print_line(line: &Line, times: Times) {
+    let Times { library, reference, memcpy } = times;
+    let share = |one: Duration| memcpy.map(|memcpy| format!("{:.1} %", 100.0 * memcpy.as_secs_f64() / one.as_secs_f64()));
+    let [of_library, of_reference] = [library, reference].map(|one| share(one).unwrap_or_default());
+    let ratio = format!("{:.2}", times.ratio());
+    print_cells(&line.what, line.call.name(), [shown(library), shown(reference), ratio, of_library, of_reference]);
+}
+
+fn print_cells(what: &str, call: &str, numbers: [String; 5]) {
     let [library, reference, ratio, of_library, of_reference] = numbers;
     println!("| {what:<28} | {call:<14} | {library:>9} | {reference:>9} | {ratio:>7} | {of_library:>14} | {of_reference:>16} |");
 }
@@ -313,7 +485,7 @@ fn grouped(number: usize) -> String {
     }
 }
 
-fn print_machine() {
+fn print_machine(runs: usize) {
     let unknown = || "unknown".to_string();
     let processors = fs::read_to_string("/proc/cpuinfo").unwrap_or_default();
     let model = processors.lines().find_map(|line| line.strip_prefix("model name")?.split_once(": "));
@@ -322,5 +494,5 @@ fn print_machine() {
     let rustc = Command::new("rustc").arg("--version").output().ok().and_then(|output| String::from_utf8(output.stdout).ok());
     let rustc = rustc.map_or_else(unknown, |text| text.trim().to_string());
     let load = fs::read_to_string("/proc/loadavg").ok().and_then(|text| text.split(' ').next().map(str::to_string));
-    println!("{model}, {cores} cores, {rustc}, load {} at the start\n", load.unwrap_or_else(unknown));
+    println!("{model}, {cores} cores, {rustc}, load {} at the start, runs: {runs}\n", load.unwrap_or_else(unknown));
 }

@@ -1,6 +1,7 @@
 //! Writes `docs/graph.svg` from the files of `demo/`. It is the same each time.
 
 mod graph;
+mod svg;
 
 use std::{fs, io, path::Path};
 

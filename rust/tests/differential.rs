@@ -8,6 +8,7 @@
 //! A guard that is touched ends the test program at once. Before each round its seed is written to the file
 //! `target/tmp/differential-seed`, so that the round can be repeated alone: PODDURANCE_SEED is the seed, PODDURANCE_CASES is 1.
 
+mod large;
 mod support;
 
 use std::fs::File;
@@ -248,7 +249,9 @@ fn round(both: &mut Comparison, random: &mut Random) {
         lender.place_next(random.percent(50));
     }
     match random.below(100) {
-        0..=39 => sound_column(both, random),
+        0..=34 => sound_column(both, random),
+        35..=38 => large::many_values(both, random),
+        39 => large::several_containers(both, random),
         40..=64 => damaged_body(both, random),
         65..=67 => misfit_questions(both, random),
         68..=79 => index_files(both, random),
@@ -1035,6 +1038,13 @@ fn library_and_reference_reader_agree() {
         limits(&mut both, random);
         containers(&mut both, random);
         bitmap_inside_bits(&mut both, random);
+        large::values_listed_twice(&mut both);
+        large::many_literals(&mut both);
+        large::one_byte_apart(&mut both);
+        large::each_two_values(&mut both);
+        large::rows_of_containers(&mut both, random);
+        large::last_row_of_bits(&mut both);
+        large::fault_in_a_container(&mut both);
         most_rows(&mut both);
         buffers_past_the_limit(&mut both);
         fixed = both.tally.calls();

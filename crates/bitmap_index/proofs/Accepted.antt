@@ -31,11 +31,12 @@ use Rattle.bitmap_index.specs.Meaning.{Cells}
 use Rattle.bitmap_index.specs.Layout.{rowsWith, ExactRows, Covers, ColumnEntries, ColumnBody, version1, version2}
 use Rattle.bitmap_index.specs.Claims.{times, RowsOfEach, OnePlaceEach}
 use Rattle.bitmap_index.specs.Reading.{placeEntry, placeEntries}
+use Rattle.bitmap_index.specs.Promises.{rowsAt}
 use Rattle.bitmap_index.proofs.Rows.{rowsWhere, rows-with, rows-rising, rows-below, member-rows, markAll-same}
 use Rattle.bitmap_index.proofs.ScanAnswers.{other-cell}
 use Rattle.bitmap_index.proofs.SameColumn.{cellAt, passes-at, Typed}
 use Rattle.refusal.proofs.Laws.{then-ok}
-use Rattle.bitmap_index.proofs.AcceptedStages.{rowsAt, EntryPlaced, entry-placed, AllRowsPlaced, AuditPassed}
+use Rattle.bitmap_index.proofs.AcceptedStages.{EntryPlaced, entry-placed, AllRowsPlaced, AuditPassed}
 
 -- ---- the column that entries have: row r holds the cell of the first entry that has r
 

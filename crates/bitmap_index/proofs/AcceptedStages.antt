@@ -4,7 +4,7 @@ use Prim.Native.Nat.{ℕ, _-_, _<_, _≤_}
 use mathlib.Core.Path.{_≡_, refl, sym, ap, _∙_}
 use mathlib.Core.Logic.{_⊎_, inl, inr}
 use mathlib.Core.Bool.{Bool, true, false, cond}
-use mathlib.Core.List.{List, [], _∷_, _++_}
+use mathlib.Core.List.{List, [], _++_}
 use native.Mathlib.Omega.{arith}
 use borrow.Author.Tests.{ltb-true, ltb-false, eqb-true, leb-true}
 use lib.Dec.{eqb, ltb}
@@ -12,40 +12,26 @@ use lib.IntN.{ℤ, pos, negsuc}
 use lib.ListN.{length, take, drop, length-append, length-drop, take-append-drop}
 use lib.Seq.{length-take-le}
 use Rattle.numbers.specs.Meaning.{signed32, Bytes, minusOne, signBit, fourBytes}
-use Rattle.numbers.proofs.Booleans.{and-both, not-true}
+use Rattle.numbers.proofs.Booleans.{and-both}
 use Rattle.numbers.proofs.ByteLists.{bytes-drop}
 use Rattle.refusal.specs.Meaning.{limit}
-use Rattle.refusal.specs.declared.Refusal.the-variants.{Bitmap}
-use Rattle.row_field.specs.Meaning.{bit, mark, markAll, anySet, size, cleared, count, Rising}
-use Rattle.row_field.proofs.RowLists.{rising-within}
+use Rattle.row_field.specs.Meaning.{markAll, anySet, size, cleared, count, Rising}
 use Rattle.roaring.specs.declared.Extent.{Extent}
 use Rattle.roaring.specs.declared.Extent.the-variants.{AsLong, Exactly}
 use Rattle.roaring.specs.Layout as roaring
-use Rattle.roaring.specs.Reading.{Unsound, Parsed, read, lengthIs, measured}
-use Rattle.roaring.proofs.Measured.{measured-back}
-use Rattle.roaring.proofs.Theorems.{read-was-laid-out, bitmap-rising}
+use Rattle.roaring.specs.Claims.{ExtentIs}
+use Rattle.roaring.proofs.Measuring.{measured-back, rows-measured}
 use Rattle.refusal.proofs.Laws.{check-ok, then-ok}
-use Rattle.refusal.specs.Reading.{Out, refuse, ok, andThen}
+use Rattle.refusal.specs.Reading.{ok, andThen}
 use Rattle.stored_value.specs.Meaning.{types, mostLiterals}
 use Rattle.stored_value.specs.Reading.{literals}
 use Rattle.dictionary.specs.Layout.{Entry}
 use Rattle.dictionary.specs.Reading.{Dictionary, dictionary}
 use Rattle.bitmap_index.specs.Meaning.{questions, takes}
 use Rattle.bitmap_index.specs.Layout.{EntryRows, single, bitmap}
-use Rattle.bitmap_index.specs.Reading.{extentOf, placeBitmap, placeAt, placeEntry, placeEntries, roomFor, prepared, audited, audit, wellFormed, Answer, auditedAnswer, ask}
-
--- ---- an entry's rows, read at its place: the single row of a negative offset, or those of the bitmap there
-
-unfoldable pub rowsGot : Out Unsound Parsed → List ℕ
-rowsGot (refuse why) = []
-rowsGot (ok b) = b .rows
-
-unfoldable pub rowsFor : ℤ → List ℕ → List ℕ
-rowsFor (negsuc r) region = r ∷ []
-rowsFor (pos o) region = rowsGot (read (drop o region))
-
-unfoldable pub rowsAt : List ℕ → Entry → List ℕ
-rowsAt region e = rowsFor (signed32 (e .offset)) region
+use Rattle.bitmap_index.specs.Reading.{extentOf, placeAt, placeEntry, placeEntries, roomFor, prepared, audited, audit, wellFormed, Answer, auditedAnswer, ask}
+use Rattle.bitmap_index.specs.Promises.{rowsFor, rowsAt}
+use Rattle.bitmap_index.proofs.PlacedRows.{bitmap-back, placed-at}
 
 -- ---- a place that was accepted
 
@@ -71,74 +57,44 @@ signed-positive x o e = go (ltb x signBit) e
     go true q = cc
     go false q = absurd (let z : _≡_ {A = ℕ} 0 1 = cc in omega arith)
 
-extent-back : (extent long : ℕ) → lengthIs (extentOf extent) long ≡ true → (extent ≡ minusOne) ⊎ (extent ≡ long)
-unfolding extentOf lengthIs
+extent-back : (extent long : ℕ) → ExtentIs (extentOf extent) long → (extent ≡ minusOne) ⊎ (extent ≡ long)
+unfolding extentOf
 extent-back extent long e = go (eqb extent minusOne) refl e
   where
-    go : (b : Bool) → eqb extent minusOne ≡ b → lengthIs (cond b AsLong (Exactly extent)) long ≡ true → (extent ≡ minusOne) ⊎ (extent ≡ long)
+    go : (b : Bool) → eqb extent minusOne ≡ b → ExtentIs (cond b AsLong (Exactly extent)) long → (extent ≡ minusOne) ⊎ (extent ≡ long)
     go true q f = inl (eqb-true extent minusOne q)
-    go false q f = inr (sym (eqb-true long extent f))
+    go false q f = inr f
 
 bitmap-some : {rows bytes : List ℕ} → roaring.Bitmap rows bytes → 1 ≤ length bytes
 bitmap-some (roaring.plain-bitmap cs h e f) = omega arith
 bitmap-some (roaring.flagged-bitmap cs h h′ f) = omega arith
 
--- a bitmap that was placed: it was measured, none of its rows was set, and they are marked
-bitmap-back : (extent : Extent) (n : ℕ) (bytes f f′ : List ℕ) → placeBitmap extent n bytes f ≡ ok f′
-    → (b : Parsed) × (measured extent n bytes ≡ ok b) × (anySet f (b .rows) ≡ false) × (f′ ≡ markAll f (b .rows))
-unfolding placeBitmap
-bitmap-back extent n bytes f f′ e =
-    let (b, found, rest) = then-ok (measured extent n bytes) _ f′ e in
-    let (free, last) = check-ok _ _ _ f′ rest in
-    (b, found, not-true _ free, cc)
-
 module _ (n : ℕ) (region f f′ : List ℕ) (e : Entry) (b : Bytes region) (p : e .offset < fourBytes) (x : e .extent < fourBytes) where
-  single-is-placed : (r : ℕ) → signed32 (e .offset) ≡ negsuc r → placeAt (negsuc r) (e .extent) n region f ≡ ok f′ → EntryPlaced n region f (r ∷ []) e × (f′ ≡ markAll f (r ∷ []))
-  unfolding placeAt anySet markAll
-  single-is-placed r s q =
-      let h = check-ok _ _ _ f′ q in
-      let k = check-ok _ _ _ f′ (h .1) in
-      let m = signed-negative (e .offset) r p s in
-      let g : f′ ≡ mark f r = cc in (
-        record {
-          placed = single r refl (m .0) (m .1) x;
-          rising = (omega arith, ltb-true r n (h .0), tt);
-          free = rw (not-true (bit f r) (k .0));
-        },
-        g,
-      )
-
-  bitmap-placed : (o : ℕ) (rows bytes rest : List ℕ) → e .offset ≡ o → drop o region ≡ bytes ++ rest → roaring.Bitmap rows bytes
-      → lengthIs (extentOf (e .extent)) (length bytes) ≡ true → EntryRows region rows e
-  bitmap-placed o rows bytes rest s d m g =
+  bitmap-there : (o : ℕ) (rows bytes rest : List ℕ) → e .offset ≡ o → drop o region ≡ bytes ++ rest → roaring.Bitmap rows bytes
+      → ExtentIs (extentOf (e .extent)) (length bytes) → EntryRows region rows e
+  bitmap-there o rows bytes rest s d m g =
       let k = simp (length-drop, length-append) at (ap length d) in
       let i : o ≤ length region = omega (arith, bitmap-some m) in
       bitmap (take o region) bytes rest (sym (take-append-drop o region) ∙ ap (λ (y : List ℕ). take o region ++ y) d) m
       (s ∙ sym (length-take-le o region i)) (extent-back (e .extent) (length bytes) g)
 
-  bitmap-is-placed : (o : ℕ) → signed32 (e .offset) ≡ pos o → placeAt (pos o) (e .extent) n region f ≡ ok f′ → EntryPlaced n region f (rowsFor (pos o) region) e × (f′ ≡ markAll f (rowsFor (pos o) region))
-  unfolding placeAt rowsFor rowsGot
-  bitmap-is-placed o s q =
-      let (b′, measured, free, marked) = bitmap-back (extentOf (e .extent)) n (drop o region) f f′ q in
-      let (found, fit, below) = measured-back (extentOf (e .extent)) n (drop o region) b′ measured in
-      let (bytes, m, l, d) = read-was-laid-out (drop o region) b′ (bytes-drop o region b) found in
-      rw found (
-        record {
-          placed = bitmap-placed o (b′ .rows) bytes (b′ .behind) (signed-positive (e .offset) o s) d m (rw l at fit);
-          rising = rising-within 0 fourBytes n (b′ .rows) (bitmap-rising m) below;
-          free = free;
-        },
-        marked,
-      )
-
-  placed-at : (z : ℤ) → signed32 (e .offset) ≡ z → placeAt z (e .extent) n region f ≡ ok f′ → EntryPlaced n region f (rowsFor z region) e × (f′ ≡ markAll f (rowsFor z region))
-  unfolding rowsFor
-  placed-at (negsuc r) s q = single-is-placed r s q
-  placed-at (pos o) s q = bitmap-is-placed o s q
+  rows-there : (z : ℤ) → signed32 (e .offset) ≡ z → placeAt z (e .extent) n region f ≡ ok f′ → EntryRows region (rowsFor z region) e
+  unfolding placeAt rowsFor
+  rows-there (negsuc r) s q =
+      let m = signed-negative (e .offset) r p s in
+      single r refl (m .0) (m .1) x
+  rows-there (pos o) s q =
+      let extent : Extent = extentOf (e .extent) in
+      let known = bytes-drop o region b in
+      let (p, m, below, free, marked) = bitmap-back extent n (drop o region) f f′ q in
+      let (bytes, behind, laid, is, fit) = measured-back extent (drop o region) p known m in
+      rw (rows-measured extent (drop o region) p known m) (bitmap-there o (p .rows) bytes behind (signed-positive (e .offset) o s) is laid fit)
 
   pub entry-placed : placeEntry n region f e ≡ ok f′ → EntryPlaced n region f (rowsAt region e) e × (f′ ≡ markAll f (rowsAt region e))
   unfolding placeEntry rowsAt
-  entry-placed q = placed-at (signed32 (e .offset)) refl q
+  entry-placed q =
+      let w = placed-at (e .extent) n region f f′ (signed32 (e .offset)) b q in
+      (record { placed = rows-there (signed32 (e .offset)) refl q; rising = w .rising; free = w .free }, w .marked)
 
 -- ---- the audit, taken apart
 
@@ -163,7 +119,7 @@ audited-back field d n e h =
     let (counted, last) = check-ok _ _ _ n rest in
     (record { room = h; full = full; placed = placed; counted = eqb-true _ _ counted }, cc)
 
-prepared-back : (t : ℕ) (body field : List ℕ) (d : Dictionary) → prepared t body field ≡ ok d
+pub prepared-back : (t : ℕ) (body field : List ℕ) (d : Dictionary) → prepared t body field ≡ ok d
     → (length body ≤ limit) × (dictionary t body ≡ ok d) × (size (d .rows) ≤ length field)
 unfolding prepared roomFor
 prepared-back t body field d e =
@@ -184,7 +140,7 @@ audit-passed t body field n e =
 -- ---- a question that was answered, taken apart
 
 pub asked-back : (t q : ℕ) (literal body : List ℕ) (ls : List (List ℕ)) → wellFormed t q literal body ≡ ok ls
-    → (length body ≤ limit) × (t < types) × (q < questions) × (literals t mostLiterals [] literal ≡ ok ls) × (takes q (length ls) ≡ true)
+    → (length body ≤ limit) × (length literal ≤ limit) × (t < types) × (q < questions) × (literals t mostLiterals [] literal ≡ ok ls) × (takes q (length ls) ≡ true)
 unfolding wellFormed
 asked-back t q literal body ls e =
     let (short, names) = check-ok _ _ _ ls e in
@@ -194,7 +150,7 @@ asked-back t q literal body ls e =
     let i : ls′ ≡ ls = cc in
     let s = and-both _ _ short in
     let k = and-both _ _ known in
-    (leb-true (length body) limit (s .0), ltb-true t types (k .0), ltb-true q questions (k .1), read ∙ ap ok i, rw i at takes)
+    (leb-true (length body) limit (s .0), leb-true (length literal) limit (s .1), ltb-true t types (k .0), ltb-true q questions (k .1), read ∙ ap ok i, rw i at takes)
 
 audit-joined : (t : ℕ) (body field : List ℕ) (d : Dictionary) (n : ℕ) → prepared t body field ≡ ok d → audited d (cleared (d .rows) field) ≡ ok n → audit t body field ≡ ok n
 unfolding audit andThen

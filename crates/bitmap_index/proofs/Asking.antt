@@ -1,36 +1,40 @@
 -- Ask, stage by stage: the question, the audit, then the rows of the chosen entries and their count.
 use Prim.Native.Nat.{ℕ, zero, suc, _<_, _≤_}
 use mathlib.Core.Path.{_≡_, refl, sym, _∙_}
+use mathlib.Core.Logic.{_⊎_, ⊎-elim}
 use mathlib.Core.Bool.{Bool, true, false, cond}
 use mathlib.Core.List.{List, []}
 use native.Mathlib.Omega.{arith}
 use lib.Dec.{eqb}
-use lib.ListN.{length}
-use borrow.Author.Tests.{eq-eqb, ne-eqb, le-leb, lt-leb, le-ltb, lt-ltb}
+use lib.ListN.{length, replicate, length-replicate}
+use borrow.Author.Tests.{eq-eqb, ne-eqb, eqb-true, le-leb, lt-leb, le-ltb, lt-ltb}
 use Rattle.refusal.specs.Meaning.{limit}
 use Rattle.refusal.specs.declared.Refusal.{Refusal}
 use Rattle.refusal.specs.declared.Refusal.the-variants.{Literal, Limit}
+use Rattle.refusal.specs.Reading.{Out, refuse, ok, check, andThen, numbersOf}
 use Rattle.row_field.specs.Meaning.{cleared, count, size}
+use Rattle.hash_table.specs.Promises.{slot}
+use Rattle.hash_table.proofs.Chaining.{holds-none}
 use Rattle.stored_value.specs.declared.Counted.{Counted}
 use Rattle.stored_value.specs.declared.Counted.the-variants.{Count}
-use Rattle.refusal.specs.Reading.{Out, refuse, ok, check, andThen, numbersOf}
-use Rattle.stored_value.specs.Promises.{countedBy, CountPromise}
+use Rattle.stored_value.specs.Promises.{countedBy, CountPromise, Enterable, Enters}
 use Rattle.stored_value.specs.Meaning.{types, mostLiterals}
 use Rattle.stored_value.specs.Reading.{literals}
+use Rattle.stored_value.proofs.Laws.{listed-alone}
 use Rattle.dictionary.specs.declared.Checked.{Checked}
 use Rattle.dictionary.specs.declared.Checked.the-variants.{Found}
 use Rattle.dictionary.specs.declared.Summary.{Summary}
 use Rattle.dictionary.specs.Reading.{Dictionary}
 use Rattle.bitmap_index.specs.Meaning.{questions, takes, keeps}
-use Rattle.bitmap_index.specs.Reading.{placeEntries, prepared, audited, zeroedFrom, Answer, answered, auditedAnswer, wellFormed, ask, answerBuffer, askBuffer, auditedBy, answeredBy, askOut, askNumbers}
+use Rattle.bitmap_index.specs.Reading.{prepared, audited, zeroedFrom, Answer, answered, auditedAnswer, wellFormed, ask, answerBuffer, askBuffer, auditedBy, answeredBy, askOut, askNumbers}
 use Rattle.bitmap_index.specs.declared.Audited.{Audited}
 use Rattle.bitmap_index.specs.declared.Audited.the-variants.{Rows}
 use Rattle.bitmap_index.specs.declared.Answered.{Answered}
 use Rattle.bitmap_index.specs.declared.Answered.the-variants.{Skip, Keep}
 use Rattle.bitmap_index.specs.declared.Outcome.{Outcome}
 use Rattle.bitmap_index.specs.declared.Outcome.the-variants.{Done}
-use Rattle.bitmap_index.specs.declared.Entries.the-variants.{Chosen}
-use Rattle.bitmap_index.specs.Promises.{AskPromise, ForDictionary, Prepares, TestsQuestion, Places, those, AuditsField, Answers, AnswersField}
+use Rattle.bitmap_index.specs.Promises.{AskPromise, ForDictionary, Prepares, Asked, TestsQuestion, Lookup, AuditsField, Answers, AnswersField}
+use Rattle.bitmap_index.proofs.AcceptedStages.{asked-back}
 use Rattle.bitmap_index.proofs.Auditing.{zeroed-again}
 
 -- ---- the question
@@ -101,31 +105,44 @@ module _ (t q : ℕ) (s body : List ℕ) where
             pub fits-question : b ≡ true → TestsQuestion t q s body Done
             fits-question h =
                 let z = are-counted (literals t mostLiterals [] s) (sym (o .answer) ∙ e) in
-                (z .0, z .1, right-number (z .0) (z .1) (z .2) h)
+                (z .0, right-number (z .0) (z .1) (z .2) h)
+
+-- ---- the literals as the code looks them up
+
+module _ (t q : ℕ) (s body table : List ℕ) (ls : List (List ℕ)) (w : wellFormed t q s body ≡ ok ls) where
+  -- EQUAL and NOT EQUAL have one literal, which is the whole buffer; IS NULL and IS NOT NULL have none
+  pub no-table : (q < 2) ⊎ (3 < q) → Lookup q s table ls
+  unfolding takes
+  no-table h =
+      let (short, short-literals, known, name, is, fits) = asked-back t q s body ls w in
+      record {
+        one = λ l v. listed-alone t v s ls is (eqb-true (length ls) 1 (rw (lt-ltb q 2 l) at fits));
+        many = λ k l. absurd (⊎-elim (λ i. omega arith) (λ i. omega arith) h);
+      }
+
+  pub in-table : 2 ≤ q → Enters t s table → Lookup q s table ls
+  in-table h e =
+      let (short, short-literals, known, name, is, fits) = asked-back t q s body ls w in
+      record { one = λ l. absurd (omega arith); many = λ k l. e ls is }
+
+-- the question's literals are accepted, and a table of zeros holds nothing
+pub may-enter : (t q : ℕ) (s body : List ℕ) → Asked t q s body → Enterable t s (replicate (slot mostLiterals) 0)
+may-enter t q s body w =
+    let (short, short-literals, known, name, is, fits) = asked-back t q s body (w .0) (w .1) in
+    record { ls = w .0; accepted = is; empty = holds-none s (slot mostLiterals) (omega arith); room = rw length-replicate (omega arith); short = omega arith }
 
 -- ---- the chosen entries
 
-module _ (q : ℕ) (ls : List (List ℕ)) (d : Dictionary) (f : List ℕ) {r : Outcome} {after : List ℕ}
-    (p : Places (d .rows) (placeEntries (d .rows) (d .region) (those (Chosen q) ls (d .entries))) f after r) where
-  pub zero-refused : {why : Refusal} → r ≡ Outcome.Refused why → {zero : List ℕ} → zero ≡ cleared (d .rows) after
-      → Answers (answered q ls d f) (cleared (d .rows) f) zero (Answered.Refused why)
-  unfolding answered those andThen answeredBy answerBuffer
-  zero-refused e z =
-      let w = rw e at p in
-      record { answer = rw (w .outcome); buffer = rw (w .outcome) (z ∙ w .behind) }
+module _ (q : ℕ) (ls : List (List ℕ)) (d : Dictionary) (f : List ℕ) {after : List ℕ}
+    (a : answered q ls d f ≡ ok (record { buffer = after; matched = count after (d .rows) }))
+    {k : ℕ} (o : k ≡ count after (d .rows)) where
+  pub zero-skip : k ≡ 0 → Answers (answered q ls d f) (cleared (d .rows) f) after Skip
+  unfolding answeredBy answerBuffer keeps
+  zero-skip h = record { answer = rw (a, ← o, eq-eqb k 0 h); buffer = rw a }
 
-  module _ (e : r ≡ Done) {k : ℕ} (o : k ≡ count after (d .rows)) where
-    pub zero-skip : k ≡ 0 → Answers (answered q ls d f) (cleared (d .rows) f) after Skip
-    unfolding answered those andThen answeredBy answerBuffer keeps
-    zero-skip h =
-        let w = rw e at p in
-        record { answer = rw (w .outcome, ← o, eq-eqb k 0 h); buffer = rw (w .outcome) }
-
-    pub zero-keep : (k ≡ 0 → ⊥) → Answers (answered q ls d f) (cleared (d .rows) f) after (Keep k)
-    unfolding answered those andThen answeredBy answerBuffer keeps
-    zero-keep h =
-        let w = rw e at p in
-        record { answer = rw (w .outcome, ← o, ne-eqb k 0 h); buffer = rw (w .outcome) }
+  pub zero-keep : (k ≡ 0 → ⊥) → Answers (answered q ls d f) (cleared (d .rows) f) after (Keep k)
+  unfolding answeredBy answerBuffer keeps
+  zero-keep h = record { answer = rw (a, ← o, ne-eqb k 0 h); buffer = rw a }
 
 -- ---- after the audit
 
@@ -139,8 +156,12 @@ unfolding auditedBy
 audit-accepted (refuse r) e = absurd (let w : _≡_ {A = ℕ} 0 1 = cc in omega arith)
 audit-accepted (ok n) e = cc
 
+pub then-accepted : (d : Dictionary) (f : List ℕ) {a : Audited} {mid : List ℕ} → AuditsField d f mid a → {n : ℕ} → a ≡ Rows n → audited d mid ≡ ok n
+then-accepted d f w e = rw (w .buffer) (audit-accepted (audited d (cleared (d .rows) f)) (sym (w .answer) ∙ e))
+
 module _ (q : ℕ) (ls : List (List ℕ)) (d : Dictionary) (f : List ℕ) {a : Audited} {mid : List ℕ} (w : AuditsField d f mid a) where
-  pub not-audited : {r : Refusal} → a ≡ Audited.Refused r → Answers (auditedAnswer q ls d (cleared (d .rows) f)) (cleared (d .rows) f) mid (Answered.Refused r)
+  pub not-audited : {r : Refusal} → a ≡ Audited.Refused r
+      → Answers (auditedAnswer q ls d (cleared (d .rows) f)) (cleared (d .rows) f) mid (Answered.Refused r)
   unfolding auditedAnswer andThen answeredBy answerBuffer
   not-audited e =
       let z = audit-refused (audited d (cleared (d .rows) f)) (sym (w .answer) ∙ e) in
@@ -176,19 +197,22 @@ module _ (t q : ℕ) (s body f : List ℕ) where
       let d : wellFormed t q s body ≡ refuse r = rw e at w in
       ask-says (rw d) (rw d)
 
+  pub ask-asked : {o : Outcome} → o ≡ Done → TestsQuestion t q s body o → Asked t q s body
+  ask-asked e w = rw e at w
+
   module _ {o : Outcome} (e : o ≡ Done) (w : TestsQuestion t q s body o) {c : Checked} where
     pub ask-unprepared : {r : Refusal} → c ≡ Checked.Refused r → Prepares t body f c → AskPromise t q s body f f (Answered.Refused r)
     unfolding ask askBuffer zeroedFrom answerBuffer answeredBy andThen
     ask-unprepared {r} k p =
         let y : TestsQuestion t q s body Done = rw e at w in
         let d : prepared t body f ≡ refuse r = rw k at p in
-        ask-says (rw (y .2, d)) (rw (y .2, d))
+        ask-says (rw (y .1, d)) (rw (y .1, d))
 
     pub ask-found : {h : Summary} → c ≡ Found h → Prepares t body f c → {r : Answered} {after : List ℕ}
-        → ForDictionary t body h (λ d. AnswersField t q s d f after r) → AskPromise t q s body f after r
+        → ForDictionary t body h (λ d. AnswersField t q s body d f after r) → AskPromise t q s body f after r
     unfolding ask askBuffer zeroedFrom andThen
     ask-found {h} k p g =
         let y : TestsQuestion t q s body Done = rw e at w in
         let d : Prepares t body f (Found h) = rw k at p in
         let z = g (d .0 .entries) (d .0 .summary) (y .0) (y .1) in
-        ask-says (rw (y .2, d .1) (z .answer)) (rw (y .2, d .1) (z .buffer))
+        ask-says (rw (y .1, d .1) (z .answer)) (rw (y .1, d .1) (z .buffer))

@@ -1,8 +1,9 @@
--- Audit, stage by stage: what was placed and counted is what the reading says, and the field is zero again.
-use Prim.Native.Nat.{ℕ, zero, suc, _<_, _≤_}
+-- Audit, stage by stage: what was placed is what the reading says, and the field is zero again.
+use Prim.Native.Nat.{ℕ, zero, suc, _+_, _-_, _<_, _≤_}
 use mathlib.Core.Path.{_≡_, refl, ap, _∙_}
 use mathlib.Core.Bool.{Bool, true, false}
 use mathlib.Core.List.{List, [], _∷_}
+use native.Mathlib.Omega.{arith}
 use lib.Dec.{leb}
 use lib.ListN.{length}
 use borrow.Author.Tests.{eq-eqb, ne-eqb, le-leb, lt-leb}
@@ -10,45 +11,61 @@ use Rattle.refusal.specs.Meaning.{limit}
 use Rattle.refusal.specs.declared.Refusal.{Refusal}
 use Rattle.refusal.specs.declared.Refusal.the-variants.{Missing, Room, Limit}
 use Rattle.row_field.specs.Meaning.{zeroed, cleared, size, count}
+use Rattle.row_field.proofs.Counts.{rows-tally, tally-none, count-le, length-zeroed, bit-zeroed}
 use Rattle.refusal.specs.Reading.{Out, refuse, ok, check, andThen, numbersOf}
-use Rattle.stored_value.specs.Reading.{literals}
 use Rattle.dictionary.specs.declared.Checked.{Checked}
 use Rattle.dictionary.specs.declared.Checked.the-variants.{Found}
 use Rattle.dictionary.specs.declared.Summary.{Summary}
 use Rattle.dictionary.specs.Reading.{Dictionary, dictionary}
-use Rattle.dictionary.specs.Promises.{IsRead, ReadsDictionary}
-use Rattle.bitmap_index.specs.Reading.{placeEntries, roomFor, prepared, audited, audit, zeroedFrom, auditBuffer, auditedBy, auditOut, auditNumbers}
+use Rattle.dictionary.specs.Layout.{Entry}
+use Rattle.dictionary.specs.Promises.{dictionaryOf, IsRead, ReadsDictionary}
+use Rattle.bitmap_index.specs.Reading.{roomFor, prepared, audited, audit, zeroedFrom, auditBuffer, auditedBy, auditOut, auditNumbers}
 use Rattle.bitmap_index.specs.declared.Audited.{Audited}
 use Rattle.bitmap_index.specs.declared.Audited.the-variants.{Rows}
-use Rattle.bitmap_index.specs.declared.Outcome.{Outcome}
-use Rattle.bitmap_index.specs.declared.Outcome.the-variants.{Done}
-use Rattle.bitmap_index.specs.declared.Entries.the-variants.{Every}
-use Rattle.bitmap_index.specs.Promises.{AuditPromise, ForDictionary, Prepares, ReadAs, Places, those, AuditsZero, AuditsField}
+use Rattle.bitmap_index.specs.declared.Placing.{Placing}
+use Rattle.bitmap_index.specs.declared.Placing.the-variants.{Placed}
+use Rattle.bitmap_index.specs.Promises.{AuditPromise, ForDictionary, Prepares, Ready, Places, placeIn, PlacesNull, AuditsZero, AuditsField}
+use Rattle.bitmap_index.proofs.PlacingEntries.{null-refused, values-refused, both-placed}
+use Rattle.bitmap_index.proofs.AcceptedStages.{prepared-back}
 
--- an audit places the rows of every entry, whatever the literals
-pub no-literals : (t : ℕ) → ReadAs t [] []
-unfolding literals
-no-literals t = refl
+-- null's rows, then the values'
+module _ (h : Summary) (body f : List ℕ) {r : Placing} {mid : List ℕ} (p : PlacesNull body h f mid r) (es : List Entry) where
+  abbrev read : Dictionary
+  read = dictionaryOf body h es
 
-module _ (d : Dictionary) (f : List ℕ) {r : Outcome} {after : List ℕ} (p : Places (d .rows) (placeEntries (d .rows) (d .region) (those Every [] (d .entries))) f after r) where
-  pub zero-refused : {why : Refusal} → r ≡ Outcome.Refused why → AuditsZero d f after (Audited.Refused why)
-  unfolding audited those auditedBy andThen
-  zero-refused e =
-      let w = rw e at p in
+  pub nulls-refuse : {why : Refusal} → r ≡ Placing.Refused why → AuditsZero read f mid (Audited.Refused why)
+  unfolding audited auditedBy andThen
+  nulls-refuse e =
+      let w = null-refused h body f p e es in
       record { answer = rw (w .outcome); behind = w .behind }
 
-  module _ (e : r ≡ Done) {k : ℕ} (o : k ≡ count after (d .rows)) where
-    pub zero-missing : (k ≡ d .rows → ⊥) → AuditsZero d f after (Audited.Refused Missing)
-    unfolding audited those auditedBy andThen check
-    zero-missing h =
-        let w = rw e at p in
-        record { answer = rw (w .outcome, ← o, ne-eqb k (d .rows) h); behind = w .behind }
+  module _ {n : ℕ} (e : r ≡ Placed n) {r′ : Placing} {after : List ℕ} (q : Places (h .rows) (placeIn body h es) mid after r′) where
+    pub values-refuse : {why : Refusal} → r′ ≡ Placing.Refused why → AuditsZero read f after (Audited.Refused why)
+    unfolding audited auditedBy andThen
+    values-refuse t =
+        let w = values-refused h body f p e es q t in
+        record { answer = rw (w .outcome); behind = w .behind }
 
-    pub zero-full : k ≡ d .rows → AuditsZero d f after (Rows (d .rows))
-    unfolding audited those auditedBy andThen check
-    zero-full h =
-        let w = rw e at p in
-        record { answer = rw (w .outcome, ← o, eq-eqb k (d .rows) h); behind = w .behind }
+    -- in a field with no row set, as many were placed as are then set
+    module _ {m : ℕ} (t : r′ ≡ Placed m) (z : count f (h .rows) ≡ 0) where
+      so-many : count after (h .rows) ≡ n + m
+      so-many = omega (arith, both-placed h body f p e es q t .outcome .1)
+
+      pub nulls-fit : n ≤ h .rows
+      nulls-fit = omega (arith, so-many, count-le after (h .rows))
+
+      pub some-missing : (m ≡ h .rows - n → ⊥) → AuditsZero read f after (Audited.Refused Missing)
+      unfolding audited auditedBy andThen check
+      some-missing l =
+          let w = both-placed h body f p e es q t in
+          record { answer = rw (w .outcome .0, so-many, ne-eqb (n + m) (h .rows) (λ i. l (omega arith))); behind = w .behind }
+
+      pub none-missing : m ≡ h .rows - n → AuditsZero read f after (Rows (h .rows))
+      unfolding audited auditedBy andThen check
+      none-missing l =
+          let w = both-placed h body f p e es q t in
+          let i : n + m ≡ h .rows = omega (arith, nulls-fit) in
+          record { answer = rw (w .outcome .0, so-many, eq-eqb (n + m) (h .rows) i); behind = w .behind }
 
 -- ---- the field is clear before, and again after
 
@@ -57,6 +74,14 @@ unfolding zeroed
 zeroed-again zero f = refl
 zeroed-again (suc k) [] = refl
 zeroed-again (suc k) (x ∷ f) = ap (λ (t : List ℕ). 0 ∷ t) (zeroed-again k f)
+
+pub zero-ready : (t : ℕ) (body : List ℕ) (h : Summary) (f : List ℕ) {zero : List ℕ} → zero ≡ cleared (h .rows) f → Ready t body h f
+    → Ready t body h zero × (count zero (h .rows) ≡ 0)
+zero-ready t body h f c y =
+    rw c (
+      record { is-read = y .is-read; room = rw (length-zeroed (size (h .rows)) f) (y .room) },
+      rows-tally (cleared (h .rows) f) 0 (h .rows) ∙ tally-none _ 0 (h .rows) (λ r a b. bit-zeroed (size (h .rows)) f r (omega arith)),
+    )
 
 pub then-zero : (d : Dictionary) (f full : List ℕ) {zero after : List ℕ} {r : Audited} → zero ≡ cleared (d .rows) f → AuditsZero d zero full r
     → after ≡ cleared (d .rows) full → AuditsField d f after r
@@ -106,8 +131,10 @@ module _ (t : ℕ) (s f : List ℕ) where
   audit-says e b = record { answer = e; buffer = b; numbers = rw e (audit-numbers (audit t s f)) }
 
   module _ {c : Checked} where
-    pub is-dictionary : {h : Summary} → c ≡ Found h → Prepares t s f c → IsRead t s h
-    is-dictionary {h} e w = let d : Prepares t s f (Found h) = rw e at w in d .0
+    pub is-ready : {h : Summary} → c ≡ Found h → Prepares t s f c → Ready t s h f
+    is-ready {h} e w =
+        let d : Prepares t s f (Found h) = rw e at w in
+        record { is-read = d .0; room = prepared-back t s f _ (d .1) .2 }
 
     pub audit-refused : {r : Refusal} → c ≡ Checked.Refused r → Prepares t s f c → AuditPromise t s f f (Audited.Refused r)
     unfolding audit auditBuffer zeroedFrom auditedBy andThen
@@ -115,7 +142,8 @@ module _ (t : ℕ) (s f : List ℕ) where
         let d : prepared t s f ≡ refuse r = rw e at w in
         audit-says (rw d) (rw d)
 
-    pub audit-found : {h : Summary} → c ≡ Found h → Prepares t s f c → {r : Audited} {after : List ℕ} → ForDictionary t s h (λ d. AuditsField d f after r) → AuditPromise t s f after r
+    pub audit-found : {h : Summary} → c ≡ Found h → Prepares t s f c → {r : Audited} {after : List ℕ}
+        → ForDictionary t s h (λ d. AuditsField d f after r) → AuditPromise t s f after r
     unfolding audit auditBuffer zeroedFrom andThen
     audit-found {h} e w g =
         let d : Prepares t s f (Found h) = rw e at w in

@@ -1,32 +1,50 @@
--- Which entries a question chooses, by the code's cases on its number.
-use Prim.Native.Nat.{ℕ}
-use mathlib.Core.Path.{_≡_, refl, ap}
+-- Which cells a question chooses, by the code's cases on its number.
+use Prim.Native.Nat.{ℕ, _<_, _≤_}
+use mathlib.Core.Path.{_≡_, sym, ap, _∙_}
 use mathlib.Core.Logic.{inl, inr, ⊎-elim}
-use mathlib.Core.Bool.{Bool, true, false, not, cond}
+use mathlib.Core.Bool.{Bool, true, false, not}
 use mathlib.Core.List.{List, [], _∷_}
+use native.Mathlib.Omega.{arith}
 use lib.Dec.{eqb}
 use types.Run.{OneOf}
 use borrow.Author.Tests.{ne-eqb}
-use Rattle.stored_value.specs.Meaning.{Cell, null, value, listed}
-use Rattle.dictionary.specs.Layout.{Entry}
+use Rattle.numbers.specs.Meaning.{same}
+use Rattle.hash_table.specs.Promises.{HoldsSome, Finds}
+use Rattle.stored_value.specs.Meaning.{null, value, listed}
 use Rattle.bitmap_index.specs.Meaning.{chosen}
-use Rattle.bitmap_index.specs.Reading.{chosenOf}
-use Rattle.bitmap_index.specs.declared.Entries.{Entries}
-use Rattle.bitmap_index.specs.declared.Entries.the-variants.{Every, Chosen}
-use Rattle.bitmap_index.specs.Promises.{among, those}
+use Rattle.bitmap_index.specs.Promises.{Lookup, SomeLookup}
 
-module _ (q : ℕ) (v : List ℕ) (ls : List (List ℕ)) {found : Bool} where
-  pub is-listed : OneOf (0 ∷ 2 ∷ []) q → found ≡ listed v ls → found ≡ chosen q ls (value v)
+-- ---- a value
+
+module _ (q : ℕ) (v literal table : List ℕ) (ls : List (List ℕ)) (w : Lookup q literal table ls) {found : Bool} where
+  pub is-one : q ≡ 0 → found ≡ same v literal → found ≡ chosen q ls (value v)
   unfolding chosen
-  is-listed k h = ⊎-elim (λ e. rw e h) (λ e. rw e h) k
+  is-one k e = let z = w .one (omega arith) v in rw k (e ∙ sym z)
 
-  pub not-listed : OneOf (1 ∷ 3 ∷ []) q → found ≡ listed v ls → not found ≡ chosen q ls (value v)
+  pub not-one : q ≡ 1 → found ≡ same v literal → not found ≡ chosen q ls (value v)
   unfolding chosen
-  not-listed k h = ⊎-elim (λ e. rw e (ap not h)) (λ e. rw e (ap not h)) k
+  not-one k e = let z = w .one (omega arith) v in rw k (ap not (e ∙ sym z))
 
-pub neither : (q : ℕ) (v : List ℕ) (ls : List (List ℕ)) → (OneOf (0 ∷ 2 ∷ []) q → ⊥) → (OneOf (1 ∷ 3 ∷ []) q → ⊥) → eqb q 5 ≡ chosen q ls (value v)
+  -- the table holds exactly what is listed
+  listed-in : 2 ≤ q → q < 4 → Finds literal table v found → found ≡ listed v ls
+  listed-in h l f = let t = w .many h l in f (t .vs) (t .holds) ∙ t .lists v
+
+  pub is-in : q ≡ 2 → Finds literal table v found → found ≡ chosen q ls (value v)
+  unfolding chosen
+  is-in k f = let z = listed-in (omega arith) (omega arith) f in rw k z
+
+  pub not-in : q ≡ 3 → Finds literal table v found → not found ≡ chosen q ls (value v)
+  unfolding chosen
+  not-in k f = let z = listed-in (omega arith) (omega arith) f in rw k (ap not z)
+
+pub holds-some : (q : ℕ) (literal table : List ℕ) → SomeLookup q literal table → 2 ≤ q → q < 4 → HoldsSome literal table
+holds-some q literal table w h l = let t = w .1 .many h l in (t .vs, t .holds)
+
+pub neither : (q : ℕ) (v : List ℕ) (ls : List (List ℕ)) → (q ≡ 0 → ⊥) → (q ≡ 1 → ⊥) → (q ≡ 2 → ⊥) → (q ≡ 3 → ⊥) → eqb q 5 ≡ chosen q ls (value v)
 unfolding chosen
-neither q v ls h k = rw (ne-eqb q 0 (λ e. h (inl e)), ne-eqb q 2 (λ e. h (inr e)), ne-eqb q 1 (λ e. k (inl e)), ne-eqb q 3 (λ e. k (inr e)))
+neither q v ls a b c d = rw (ne-eqb q 0 a, ne-eqb q 1 b, ne-eqb q 2 c, ne-eqb q 3 d)
+
+-- ---- null
 
 module _ (q : ℕ) (ls : List (List ℕ)) where
   pub null-unlisted : OneOf (1 ∷ 3 ∷ []) q → true ≡ chosen q ls null
@@ -40,25 +58,3 @@ module _ (q : ℕ) (ls : List (List ℕ)) where
   pub null-not : (OneOf (1 ∷ 3 ∷ []) q → ⊥) → (q ≡ 4 → ⊥) → false ≡ chosen q ls null
   unfolding chosen
   null-not h k = rw (ne-eqb q 1 (λ e. h (inl e)), ne-eqb q 3 (λ e. h (inr e)), ne-eqb q 4 k)
-
--- ---- which entries are asked for
-
-module _ {which : Entries} (ls : List (List ℕ)) (c : Cell) where
-  pub among-every : which ≡ Every → true ≡ among which ls c
-  unfolding among
-  among-every e = rw e
-
-  pub among-chosen : {q : ℕ} → which ≡ Chosen q → {b : Bool} → b ≡ chosen q ls c → b ≡ among which ls c
-  unfolding among
-  among-chosen e h = rw e h
-
-pub those-none : (which : Entries) (ls : List (List ℕ)) → those which ls [] ≡ []
-unfolding those chosenOf
-those-none Every ls = refl
-those-none (Chosen q) ls = refl
-
-pub those-next : (which : Entries) (ls : List (List ℕ)) (e : Entry) (es : List Entry)
-    → those which ls (e ∷ es) ≡ cond (among which ls (e .cell)) (e ∷ those which ls es) (those which ls es)
-unfolding those among chosenOf
-those-next Every ls e es = refl
-those-next (Chosen q) ls e es = refl

@@ -1,31 +1,37 @@
--- Placing rows: what marking answers, put into the reading, and that no byte behind a field of n rows changes.
-use Prim.Native.Nat.{ℕ, zero, suc, _-_, _/_, _<_, _≤_}
+-- Placing rows: what measuring and marking answer, put into the reading, and that no byte behind a field of n rows changes.
+use Prim.Native.Nat.{ℕ, zero, suc, _+_, _-_, _/_, _<_, _≤_}
 use mathlib.Core.Path.{_≡_, refl, sym, ap, _∙_}
 use mathlib.Core.Bool.{Bool, true, false}
 use mathlib.Core.List.{List, [], _∷_}
 use native.Mathlib.Omega.{arith}
+use lib.Dec.{leb}
 use lib.IntN.{ℤ, pos, negsuc, _-ℤ_, natAbs}
 use lib.ListN.{length, take, drop, set, length-drop, drop-of-length-le}
-use lib.Seq.{take-all}
+use lib.Seq.{take-all, take-nil}
 use lib.Signed.{ltZ}
 use mir.Syntax.{w32}
 use mir.Val.{SFits, toZ, ofZ}
-use borrow.Author.Tests.{lt-ltb, le-ltb, eq-eqb, ne-eqb}
-use Rattle.numbers.specs.Meaning.{number, minusOne}
-use Rattle.refusal.specs.declared.Refusal.{Refusal}
-use Rattle.row_field.specs.Meaning.{bit, mark, markAll, anySet, Below, zeroed, cleared, size}
+use borrow.Author.Tests.{lt-ltb, le-ltb, le-leb, lt-leb, eq-eqb, ne-eqb}
+use Rattle.numbers.specs.Meaning.{Bytes, number, minusOne}
+use Rattle.numbers.proofs.ByteLists.{bytes-drop}
+use Rattle.refusal.specs.declared.Refusal.the-variants.{Bitmap, Range, Twice}
+use Rattle.refusal.specs.Reading.{Out, refuse, ok, check, andThen, refusedAs}
+use Rattle.row_field.specs.Meaning.{bit, mark, markAll, anySet, Below, zeroed, cleared, size, count}
+use Rattle.row_field.specs.Promises.{MarkedRows}
+use Rattle.row_field.proofs.RowLists.{rising-below}
+use Rattle.row_field.proofs.Counts.{count-mark}
 use Rattle.roaring.specs.declared.Extent.{Extent}
 use Rattle.roaring.specs.declared.Extent.the-variants.{AsLong, Exactly}
-use Rattle.roaring.specs.declared.Marked.{Marked}
-use Rattle.roaring.specs.declared.Marked.the-variants.{Refused, Done}
-use Rattle.roaring.specs.Reading.{Parsed, read, formed, measured, marking, markRows, markBuffer, markedBy}
-use Rattle.roaring.specs.Promises.{MarkPromise}
-use Rattle.roaring.proofs.Measured.{measured-back}
-use Rattle.refusal.specs.Reading.{Out, refuse, ok, check, andThen}
+use Rattle.roaring.specs.declared.Measured.{Measured}
+use Rattle.roaring.specs.Reading.{Fault, unsound, Parsed, read, measured, endOf}
+use Rattle.roaring.specs.Promises.{MeasurePromise, SoundBelow, rowsRead}
+use Rattle.roaring.proofs.Measuring.{not-sound, is-sound, rows-measured, measured-sound}
 use Rattle.bitmap_index.specs.Reading.{extentOf, placeBitmap, placeAt}
-use Rattle.bitmap_index.specs.declared.Outcome.{Outcome}
+use Rattle.bitmap_index.specs.declared.Placing.{Placing}
+use Rattle.bitmap_index.specs.declared.Placing.the-variants.{Placed}
 use Rattle.bitmap_index.specs.Promises.{Places}
 use Rattle.bitmap_index.proofs.Offsets.{of, row-is, at, place-is}
+use Rattle.bitmap_index.proofs.PlacedRows.{count-besides, measured-rise}
 
 -- ---- no byte behind the field changes
 
@@ -45,29 +51,23 @@ unfolding markAll
 cleared-marks n f [] b = refl
 cleared-marks n f (r ∷ rs) b = cleared-marks n (mark f r) rs (b .1) ∙ cleared-mark n f r (b .0)
 
-cleared-after : (extent : Extent) (n : ℕ) (f bytes : List ℕ) → cleared n (markBuffer extent n f bytes) ≡ cleared n f
-unfolding markBuffer markRows
-cleared-after extent n f bytes = go (measured extent n bytes) refl
-  where
-    go : (o : Out Refusal Parsed) → measured extent n bytes ≡ o → cleared n (markRows f o) ≡ cleared n f
-    go (refuse r) e = refl
-    go (ok b) e = cleared-marks n f (b .rows) (measured-back extent n bytes b e .2)
-
 -- ---- a single row
 
 module _ (r n : ℕ) (f : List ℕ) where
-  pub row-range : n ≤ r → Places n (placeAt (negsuc r) 0 n []) f f (Outcome.Refused Refusal.Range)
+  pub row-range : n ≤ r → Places n (placeAt (negsuc r) 0 n []) f f (Placing.Refused Range)
   unfolding placeAt check
   row-range h = record { outcome = rw (le-ltb r n h); behind = refl }
 
   module _ (h : r < n) {was : Bool} {after : List ℕ} (b : was ≡ bit f r) (m : after ≡ mark f r) where
-    pub row-twice : was ≡ true → Places n (placeAt (negsuc r) 0 n []) f after (Outcome.Refused Refusal.Twice)
+    pub row-twice : was ≡ true → Places n (placeAt (negsuc r) 0 n []) f after (Placing.Refused Twice)
     unfolding placeAt check
     row-twice t = record { outcome = rw (lt-ltb r n h, ← b, t); behind = rw m (cleared-mark n f r h) }
 
-    pub row-done : was ≡ false → Places n (placeAt (negsuc r) 0 n []) f after Outcome.Done
+    pub row-done : size n ≤ length f → was ≡ false → Places n (placeAt (negsuc r) 0 n []) f after (Placed 1)
     unfolding placeAt check
-    row-done t = record { outcome = rw (lt-ltb r n h, ← b, t) (ap ok (sym m)); behind = rw m (cleared-mark n f r h) }
+    row-done room t =
+        let e : bit f r ≡ false = sym b ∙ t in
+        record { outcome = (rw (lt-ltb r n h, e) (ap ok (sym m)), rw m (count-mark f r n h (omega arith) e)); behind = rw m (cleared-mark n f r h) }
 
 -- ---- a bitmap
 
@@ -83,56 +83,74 @@ pub exactly : (extent : ℕ) → (extent ≡ minusOne → ⊥) → Exactly exten
 unfolding extentOf
 exactly extent h = rw (ne-eqb extent minusOne h)
 
--- what roaring's answer says of the bitmap
-module _ (extent : Extent) (n : ℕ) (f bytes : List ℕ) {m : Marked} (a : m ≡ markedBy (marking extent n f bytes)) where
-  is-refused : {r : Refusal} → m ≡ Refused r → measured extent n bytes ≡ refuse r
-  unfolding marking markedBy andThen
-  is-refused {r} t = go (measured extent n bytes) (sym a ∙ t)
-    where
-      go : (o : Out Refusal Parsed) → markedBy (andThen o (λ b. ok (record { length = b .end; twice = anySet f (b .rows) }))) ≡ Refused r → o ≡ refuse r
-      go (refuse w) e = cc
-      go (ok b) e = absurd (let z : _≡_ {A = ℕ} 0 1 = cc in omega arith)
-
-  is-marked : {long : ℕ} {twice : Bool} → m ≡ Done long twice → (b : Parsed) × (measured extent n bytes ≡ ok b) × (twice ≡ anySet f (b .rows))
-  unfolding marking markedBy andThen
-  is-marked {long} {twice} t = go (measured extent n bytes) (sym a ∙ t)
-    where
-      go : (o : Out Refusal Parsed) → markedBy (andThen o (λ b. ok (record { length = b .end; twice = anySet f (b .rows) }))) ≡ Done long twice
-          → (b : Parsed) × (o ≡ ok b) × (twice ≡ anySet f (b .rows))
-      go (refuse w) e = absurd (let z : _≡_ {A = ℕ} 0 1 = cc in omega arith)
-      go (ok b) e = (b, refl, cc)
+-- no bitmap stands where there are no bytes
+pub none-measured : (extent : Extent) → measured extent [] ≡ refuse (unsound 0)
+unfolding measured read number check andThen
+none-measured AsLong = refl
+none-measured (Exactly w) = rw take-nil (go (leb w 0))
+  where
+    go : (b : Bool) → _≡_ {A = Out Fault Parsed} (check b (unsound 0) (refuse (unsound 0))) (refuse (unsound 0))
+    go true = refl
+    go false = refl
 
 module _ (o e n : ℕ) (region f : List ℕ) where
-  pub behind-region : length region < o → Places n (placeAt (pos o) e n region) f f (Outcome.Refused Refusal.Bitmap)
-  unfolding placeAt placeBitmap read number measured formed andThen
-  behind-region h = record { outcome = rw (drop-of-length-le region (let l : length region ≤ o = omega arith in l)); behind = refl }
+  pub behind-region : length region < o → Places n (placeAt (pos o) e n region) f f (Placing.Refused Bitmap)
+  unfolding placeAt placeBitmap refusedAs andThen
+  behind-region h =
+      let none = drop-of-length-le region (let l : length region ≤ o = omega arith in l) in
+      record { outcome = rw (none, none-measured (extentOf e)); behind = refl }
 
-  module _ {bytes : List ℕ} {extent : Extent} {m : Marked} {after : List ℕ} (p : bytes ≡ drop o region) (x : extent ≡ extentOf e) (a : MarkPromise extent n f bytes after m) where
-    kept : cleared n after ≡ cleared n f
-    kept = rw (a .buffer) (cleared-after extent n f bytes)
+  module _ {bytes : List ℕ} {extent : Extent} {m : Measured} (p : bytes ≡ drop o region) (x : extent ≡ extentOf e) (a : MeasurePromise extent bytes m) where
+    pub bitmap-unsound : {i : ℕ} → m ≡ Measured.Unsound i → Places n (placeAt (pos o) e n region) f f (Placing.Refused Bitmap)
+    unfolding placeAt placeBitmap refusedAs andThen
+    bitmap-unsound t = let u = not-sound (measured extent bytes) (sym t ∙ a .answer) in record { outcome = rw (← p, ← x, u); behind = refl }
 
-    pub bitmap-refused : {r : Refusal} → m ≡ Refused r → Places n (placeAt (pos o) e n region) f after (Outcome.Refused r)
-    unfolding placeAt placeBitmap andThen
-    bitmap-refused t = record { outcome = rw (← p, ← x, is-refused extent n f bytes (a .answer) t); behind = kept }
+    module _ {long rows end : ℕ} (t : m ≡ Measured.Sound long rows end) where
+      pub bitmap-range : n < end → Places n (placeAt (pos o) e n region) f f (Placing.Refused Range)
+      unfolding placeAt placeBitmap refusedAs andThen check
+      bitmap-range l =
+          let (b, g, many, last, whole) = is-sound (measured extent bytes) (sym t ∙ a .answer) in
+          record { outcome = rw (← p, ← x, g, lt-leb (endOf (b .rows)) n (rw last at l)); behind = refl }
 
-    pub bitmap-twice : {long : ℕ} {twice : Bool} → m ≡ Done long twice → twice ≡ true → Places n (placeAt (pos o) e n region) f after (Outcome.Refused Refusal.Twice)
-    unfolding placeAt placeBitmap andThen check
-    bitmap-twice t w =
-        let (b, g, s) = is-marked extent n f bytes (a .answer) t in
-        let set : anySet f (b .rows) ≡ true = sym s ∙ w in
-        record { outcome = rw (← p, ← x, g, set); behind = kept }
+      module _ (bytes-region : Bytes region) (l : end ≤ n) where
+        known : Bytes bytes
+        known = rw p (bytes-drop o region bytes-region)
 
-    pub bitmap-done : {long : ℕ} {twice : Bool} → m ≡ Done long twice → twice ≡ false → Places n (placeAt (pos o) e n region) f after Outcome.Done
-    unfolding placeAt placeBitmap andThen check markBuffer markRows
-    bitmap-done t w =
-        let (b, g, s) = is-marked extent n f bytes (a .answer) t in
-        let z : after ≡ markAll f (b .rows) = rw g at (a .buffer) in
-        let free : anySet f (b .rows) ≡ false = sym s ∙ w in
-        record { outcome = rw (← p, ← x, g, free) (ap ok (sym z)); behind = kept }
+        below : endOf (is-sound (measured extent bytes) (sym t ∙ a .answer) .0 .rows) ≤ n
+        below = rw (is-sound (measured extent bytes) (sym t ∙ a .answer) .3) at l
+
+        pub bitmap-sound : SoundBelow n bytes
+        bitmap-sound = let (b, g, many, last, whole) = is-sound (measured extent bytes) (sym t ∙ a .answer) in measured-sound extent bytes b known g n below
+
+        module _ {seen : Bool} {after : List ℕ} (w : MarkedRows f after (rowsRead (read bytes)) seen) where
+          marked : MarkedRows f after (is-sound (measured extent bytes) (sym t ∙ a .answer) .0 .rows) seen
+          marked = let (b, g, many, last, whole) = is-sound (measured extent bytes) (sym t ∙ a .answer) in rw (rows-measured extent bytes b known g) at w
+
+          kept : cleared n after ≡ cleared n f
+          kept =
+              let (b, g, many, last, whole) = is-sound (measured extent bytes) (sym t ∙ a .answer) in
+              rw (marked .marked) (cleared-marks n f (b .rows) (rising-below 0 n (b .rows) (measured-rise extent bytes b known g n below)))
+
+          pub bitmap-twice : seen ≡ true → Places n (placeAt (pos o) e n region) f after (Placing.Refused Twice)
+          unfolding placeAt placeBitmap refusedAs andThen check
+          bitmap-twice s =
+              let (b, g, many, last, whole) = is-sound (measured extent bytes) (sym t ∙ a .answer) in
+              record { outcome = rw (← p, ← x, g, le-leb (endOf (b .rows)) n below, ← marked .seen, s); behind = kept }
+
+          pub bitmap-done : size n ≤ length f → seen ≡ false → Places n (placeAt (pos o) e n region) f after (Placed rows)
+          unfolding placeAt placeBitmap refusedAs andThen check
+          bitmap-done room s =
+              let (b, g, many, last, whole) = is-sound (measured extent bytes) (sym t ∙ a .answer) in
+              let none : anySet f (b .rows) ≡ false = sym (marked .seen) ∙ s in
+              let more : count after n ≡ count f n + rows =
+              ap (λ (y : List ℕ). count y n) (marked .marked)
+              ∙ count-besides f 0 n (b .rows) (measured-rise extent bytes b known g n below) room none
+              ∙ ap (λ (k : ℕ). count f n + k) (sym many) in
+              record { outcome = (rw (← p, ← x, g, le-leb (endOf (b .rows)) n below, none) (ap ok (sym (marked .marked))), more); behind = kept }
 
 -- ---- an entry's rows
 
-module _ (z : ℤ) (e n : ℕ) (region f : List ℕ) (k : SFits w32 z) {r : Outcome} {after : List ℕ} where
+module _ (z : ℤ) (e n : ℕ) (region f : List ℕ) (k : SFits w32 z) {r : Placing} {after : List ℕ} where
   pub as-row : (t : ltZ (toZ w32 (ofZ w32 z)) (pos 0) ≡ true)
       → Places n (placeAt (negsuc (natAbs (toZ w32 (ofZ w32 (negsuc 0 -ℤ toZ w32 (ofZ w32 z)))))) 0 n []) f after r
       → Places n (placeAt z e n region) f after r

@@ -7,7 +7,7 @@ use mathlib.Core.Bool.{Bool, true, false, _&&_, _||_, cond, or-assoc, or-false, 
 use mathlib.Core.List.{List, [], _∷_, _++_}
 use native.Mathlib.Nat.{zero-add, add-zero}
 use native.Mathlib.Omega.{arith}
-use borrow.Author.Tests.{eq-eqb, ne-eqb, lt-ltb, le-ltb}
+use borrow.Author.Tests.{eq-eqb, ne-eqb, lt-ltb, le-ltb, le-leb}
 use lib.Dec.{eqb}
 use lib.IntN.{ℤ, pos, negsuc}
 use lib.ListN.{length, drop, replicate, length-append}
@@ -17,13 +17,14 @@ use Rattle.numbers.proofs.Booleans.{or-neither}
 use Rattle.row_field.specs.Meaning.{size, bit, mark, markAll, anySet, fieldOf, cleared, count, Below}
 use Rattle.roaring.specs.declared.Extent.{Extent}
 use Rattle.roaring.specs.Layout.{Bitmap}
-use Rattle.roaring.specs.Reading.{lengthIs}
-use Rattle.roaring.proofs.Measured.{measured-laid}
+use Rattle.roaring.specs.Reading.{endOf}
+use Rattle.roaring.specs.Claims.{ExtentIs}
+use Rattle.roaring.proofs.Measuring.{measured-laid, below-end}
 use Rattle.stored_value.specs.Meaning.{Cell, sameCell}
 use Rattle.refusal.specs.Meaning.{limit}
 use Rattle.refusal.specs.declared.Refusal.{Refusal}
 use Rattle.refusal.specs.declared.Refusal.the-variants.{Missing}
-use Rattle.refusal.specs.Reading.{Out, ok, check, andThen}
+use Rattle.refusal.specs.Reading.{Out, ok, check, andThen, refusedAs}
 use Rattle.stored_value.proofs.Laws.{sameCell→eq, sameCell-sym}
 use Rattle.dictionary.specs.Layout.{Entry, someHas}
 use Rattle.dictionary.specs.Claims.{Once}
@@ -50,15 +51,19 @@ placed-there : (n : ℕ) (region f : List ℕ) (extent o : ℕ) {bytes : List �
 unfolding placeAt
 placed-there n region f extent o h = ap (λ (s : List ℕ). placeBitmap (extentOf extent) n s f) h
 
-extent-fits : (extent long : ℕ) → long ≤ limit → (extent ≡ minusOne) ⊎ (extent ≡ long) → lengthIs (extentOf extent) long ≡ true
-unfolding extentOf lengthIs
-extent-fits extent long h (inl e) = rw (eq-eqb extent minusOne e)
-extent-fits extent long h (inr e) = rw (ne-eqb extent minusOne (omega arith)) (eq-eqb long extent (sym e))
+extent-fits : (extent long : ℕ) → long ≤ limit → (extent ≡ minusOne) ⊎ (extent ≡ long) → ExtentIs (extentOf extent) long
+unfolding extentOf
+extent-fits extent long h (inl e) = rw (eq-eqb extent minusOne e) tt
+extent-fits extent long h (inr e) = rw (ne-eqb extent minusOne (omega arith)) e
 
-place-bitmap : (extent : Extent) (n : ℕ) {rows bytes : List ℕ} (f t : List ℕ) → Bitmap rows bytes → lengthIs extent (length bytes) ≡ true → Below n rows → anySet f rows ≡ false
+place-bitmap : (extent : Extent) (n : ℕ) {rows bytes : List ℕ} (f t : List ℕ) → Bitmap rows bytes → ExtentIs extent (length bytes) → Below n rows → anySet f rows ≡ false
     → placeBitmap extent n (bytes ++ t) f ≡ ok (markAll f rows)
-unfolding placeBitmap andThen check
-place-bitmap extent n f t m e b s = rw (measured-laid extent n m t e b, s)
+unfolding placeBitmap refusedAs andThen check
+place-bitmap extent n {rows} f t m e b s =
+    let (p, is, same) = measured-laid extent m t e in
+    let l : endOf (p .rows) ≤ n = rw same (below-end n rows b) in
+    let none : anySet f (p .rows) ≡ false = rw same s in
+    rw (is, le-leb (endOf (p .rows)) n l, none) (ap (λ (rs : List ℕ). ok (markAll f rs)) same)
 
 module _ (n : ℕ) (region f : List ℕ) (e : Entry) where
   place-at : (x : ℤ) → signed32 (e .offset) ≡ x → placeEntry n region f e ≡ placeAt x (e .extent) n region f

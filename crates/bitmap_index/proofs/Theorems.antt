@@ -78,7 +78,7 @@ accepted-is-answered t body field n b bf e =
 pub answered-as-the-scan : AnsweredAsTheScan
 answered-as-the-scan t q literal body field a bl b bf e =
     let (ls, n, first, whole) = ask-parts t q literal body field a e in
-    let (short, known, name, read, fit) = asked-back t q literal body ls first in
+    let (short, short-literals, known, name, read, fit) = asked-back t q literal body ls first in
     let (spelled, fits, few) = literals-back t literal ls bl read in
     let (cells, column, rows, answers) = accepted-is-answered t body field n b bf whole in
     let g : Question t q ls = (known, name, few, fits, fit) in

@@ -66,7 +66,7 @@ module _ (t v : ℕ) (s field : List ℕ) (n : v ≡ 1 → ⊥) (n′ : v ≡ 2 
     version-after : (ls : List (List ℕ)) → wellFormed t q literal (v ∷ s) ≡ ok ls → prepared t (v ∷ s) field ≡ refuse Version
     unfolding check
     version-after ls e =
-        let (short, known, name, read, fit) = asked-back t q literal (v ∷ s) ls e in
+        let (short, short-literals, known, name, read, fit) = asked-back t q literal (v ∷ s) ls e in
         version-prepared ∙ rw (le-leb (length (v ∷ s)) limit short, lt-ltb t types known)
 
     pub version-asked : ask t q literal (v ∷ s) field ≡ andThen (wellFormed t q literal (v ∷ s)) (λ ls. refuse Version)

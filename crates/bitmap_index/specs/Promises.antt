@@ -1,14 +1,17 @@
 -- What contracts say, in the reading's terms: of Audit and Ask, then of the functions that they are made of.
 use mathlib.Core.Path.{_≡_}
-use Prim.Native.Nat.{ℕ, _≤_}
-use mathlib.Core.Bool.{Bool, true}
+use Prim.Native.Nat.{ℕ, _+_, _<_, _≤_}
 use mathlib.Core.List.{List, [], _∷_, _++_}
+use lib.IntN.{ℤ, pos, negsuc}
 use lib.ListN.{length, drop}
+use Rattle.numbers.specs.Meaning.{All, same, signed32}
 use Rattle.refusal.specs.declared.Refusal.{Refusal}
 use Rattle.refusal.specs.Reading.{Out, refuse, ok, numbersOf}
-use Rattle.row_field.specs.Meaning.{cleared}
-use Rattle.stored_value.specs.Meaning.{mostLiterals, Cell}
-use Rattle.stored_value.specs.Reading.{literals}
+use Rattle.row_field.specs.Meaning.{size, markAll, count, cleared}
+use Rattle.roaring.specs.Reading.{read}
+use Rattle.roaring.specs.Promises.{SoundBelow, rowsRead}
+use Rattle.stored_value.specs.Meaning.{listed}
+use Rattle.stored_value.specs.Promises.{Entered}
 use Rattle.dictionary.specs.declared.Checked.{Checked}
 use Rattle.dictionary.specs.declared.Checked.the-variants.{Found}
 use Rattle.dictionary.specs.declared.EntryAt.{EntryAt}
@@ -20,9 +23,8 @@ use Rattle.bitmap_index.specs.declared.Audited.{Audited}
 use Rattle.bitmap_index.specs.declared.Answered.{Answered}
 use Rattle.bitmap_index.specs.declared.Outcome.{Outcome}
 use Rattle.bitmap_index.specs.declared.Outcome.the-variants.{Done}
-use Rattle.bitmap_index.specs.declared.Entries.{Entries}
-use Rattle.bitmap_index.specs.declared.Entries.the-variants.{Every, Chosen}
-use Rattle.bitmap_index.specs.Meaning.{chosen}
+use Rattle.bitmap_index.specs.declared.Placing.{Placing}
+use Rattle.bitmap_index.specs.declared.Placing.the-variants.{Placed}
 use Rattle.bitmap_index.specs.Reading.{placeEntries, prepared, audited, audit, auditBuffer, chosenOf, Answer, answered, auditedAnswer, wellFormed, ask, answerBuffer, askBuffer, auditedBy, auditOut, auditNumbers, answeredBy, askOut, askNumbers}
 
 -- ---- Audit and Ask (01), for any bytes: the answer, what the lent buffer then holds, and the answer's number and count
@@ -52,65 +54,105 @@ abbrev pub Prepares : ℕ → List ℕ → List ℕ → Checked → Type 0
 Prepares t body field (Checked.Refused r) = prepared t body field ≡ refuse r
 Prepares t body field (Found h) = (is : IsRead t body h) × (prepared t body field ≡ ok (dictionaryOf body h (is .entries)))
 
--- bytes are read as the literals ls
-abbrev pub ReadAs : ℕ → List ℕ → List (List ℕ) → Type 0
-ReadAs t literal ls = literals t mostLiterals [] literal ≡ ok ls
+-- the bytes are read as a dictionary with this summary, and the lent field has room for its rows
+pub record Ready (t : ℕ) (body : List ℕ) (h : Summary) (field : List ℕ) : Type 0 where
+  pub is-read : IsRead t body h
+  pub room : size (h .rows) ≤ length field
 
--- what holds of the literals, if they are read as any
-abbrev pub ForLiterals : ℕ → List ℕ → (List (List ℕ) → Type 0) → Type 0
-ForLiterals t literal P = (ls : List (List ℕ)) → ReadAs t literal ls → P ls
+-- the question is well formed, with some literals
+abbrev pub Asked : ℕ → ℕ → List ℕ → List ℕ → Type 0
+Asked t q literal body = (ls : List (List ℕ)) × (wellFormed t q literal body ≡ ok ls)
 
--- `test_question`: the refusal, or that the literals are read as some
+-- what holds of its literals
+abbrev pub ForQuestion : ℕ → ℕ → List ℕ → List ℕ → (List (List ℕ) → Type 0) → Type 0
+ForQuestion t q literal body P = (ls : List (List ℕ)) → wellFormed t q literal body ≡ ok ls → P ls
+
+-- `test_question`: the refusal, or that the question is well formed
 abbrev pub TestsQuestion : ℕ → ℕ → List ℕ → List ℕ → Outcome → Type 0
 TestsQuestion t q literal body (Outcome.Refused r) = wellFormed t q literal body ≡ refuse r
-TestsQuestion t q literal body Done = (ls : List (List ℕ)) × ReadAs t literal ls × (wellFormed t q literal body ≡ ok ls)
+TestsQuestion t q literal body Done = Asked t q literal body
 
 -- ---- placing rows in a field of n rows
 
--- what placing rows comes to, and what it leaves
-abbrev pub ComesTo : Out Refusal (List ℕ) → List ℕ → Outcome → Type 0
-ComesTo o after (Outcome.Refused r) = o ≡ refuse r
-ComesTo o after Done = o ≡ ok after
+-- what placing rows comes to: a refusal; or what it leaves, in which so many more rows are set
+abbrev pub ComesTo : ℕ → Out Refusal (List ℕ) → List ℕ → List ℕ → Placing → Type 0
+ComesTo n o before after (Placing.Refused r) = o ≡ refuse r
+ComesTo n o before after (Placed k) = (o ≡ ok after) × (count after n ≡ count before n + k)
 
 -- rows are placed as `step` says of the field before; and refused or not, no byte behind the field has changed
-pub record Places (n : ℕ) (step : List ℕ → Out Refusal (List ℕ)) (before after : List ℕ) (r : Outcome) : Type 0 where
-  pub outcome : ComesTo (step before) after r
+pub record Places (n : ℕ) (step : List ℕ → Out Refusal (List ℕ)) (before after : List ℕ) (r : Placing) : Type 0 where
+  pub outcome : ComesTo n (step before) before after r
   pub behind : cleared n after ≡ cleared n before
 
--- whether an entry of this cell is among those asked for, and those entries: every one for an audit, and for an answer those that the question chooses
-unfoldable pub among : Entries → List (List ℕ) → Cell → Bool
-among Every ls c = true
-among (Chosen q) ls c = chosen q ls c
+-- entries of a body with this summary, placed in a field
+abbrev pub placeIn : List ℕ → Summary → List Entry → List ℕ → Out Refusal (List ℕ)
+placeIn body h es = placeEntries (h .rows) (drop (h .region .0) body) es
 
-unfoldable pub those : Entries → List (List ℕ) → List Entry → List Entry
-those Every ls es = es
-those (Chosen q) ls es = chosenOf q ls es
+-- the rows of null's entry, if there is one, and of the values' entries
+abbrev pub PlacesNull : List ℕ → Summary → List ℕ → List ℕ → Placing → Type 0
+PlacesNull body h before after r = Places (h .rows) (placeIn body h (nullsOf h)) before after r
 
-abbrev pub placeThose : List ℕ → Summary → Entries → List (List ℕ) → List Entry → List ℕ → Out Refusal (List ℕ)
-placeThose body h which ls es = placeEntries (h .rows) (drop (h .region .0) body) (those which ls es)
+abbrev pub PlacesValues : ℕ → List ℕ → Summary → List ℕ → List ℕ → Placing → Type 0
+PlacesValues t body h before after r = ForEntries t body h (λ es. Places (h .rows) (placeIn body h es) before after r)
 
--- an entry's value and the region of bitmaps lie in the body
-pub record EntryInside (body : List ℕ) (h : Summary) (e : EntryAt) : Type 0 where
+-- ---- marking the rows of chosen entries, once an audit has placed every entry's
+
+-- the rows at an entry's place: the single row of a negative offset, or those of the bitmap there
+unfoldable pub rowsFor : ℤ → List ℕ → List ℕ
+rowsFor (negsuc r) region = r ∷ []
+rowsFor (pos o) region = rowsRead (read (drop o region))
+
+unfoldable pub rowsAt : List ℕ → Entry → List ℕ
+rowsAt region e = rowsFor (signed32 (e .offset)) region
+
+unfoldable pub markEntries : List ℕ → List Entry → List ℕ → List ℕ
+markEntries region [] field = field
+markEntries region (e ∷ es) field = markEntries region es (markAll field (rowsAt region e))
+
+-- where an offset is not negative, a bitmap stands at its place, with all its rows below n
+abbrev pub SoundAt : ℕ → List ℕ → ℤ → Type 0
+SoundAt n region (negsuc r) = Unit {0}
+SoundAt n region (pos o) = SoundBelow n (drop o region)
+
+abbrev pub SoundEntry : List ℕ → Summary → Entry → Type 0
+SoundEntry body h e = SoundAt (h .rows) (drop (h .region .0) body) (signed32 (e .offset))
+
+-- so it is with one entry, whose value lies in the body; with null's, if there is one; and with all
+pub record SoundEntryAt (body : List ℕ) (h : Summary) (e : EntryAt) : Type 0 where
   pub region : h .region .0 ≤ length body
   pub start : e .start .0 ≤ e .end .0
   pub end : e .end .0 ≤ length body
+  pub sound : SoundEntry body h (entryAt body e)
 
--- the rows of one entry, of null's entry if there is one, of the values' entries, of all
-abbrev pub PlacesEntry : ℕ → List ℕ → Summary → EntryAt → Entries → List ℕ → List ℕ → List ℕ → Outcome → Type 0
-PlacesEntry t body h e which literal before after r = ForLiterals t literal (λ ls. Places (h .rows) (placeThose body h which ls (entryAt body e ∷ [])) before after r)
+pub record SoundNull (body : List ℕ) (h : Summary) : Type 0 where
+  pub region : h .region .0 ≤ length body
+  pub sound : All (SoundEntry body h) (nullsOf h)
 
-abbrev pub PlacesNull : List ℕ → Summary → Entries → List ℕ → List ℕ → Outcome → Type 0
-PlacesNull body h which before after r = (ls : List (List ℕ)) → Places (h .rows) (placeThose body h which ls (nullsOf h)) before after r
+pub record AllSound (t : ℕ) (body : List ℕ) (h : Summary) : Type 0 where
+  pub is-read : IsRead t body h
+  pub sound : ForEntries t body h (λ es. All (SoundEntry body h) (nullsOf h ++ es))
 
-abbrev pub PlacesValues : ℕ → List ℕ → Summary → Entries → List ℕ → List ℕ → List ℕ → Outcome → Type 0
-PlacesValues t body h which literal before after r =
-    ForEntries t body h (λ es. ForLiterals t literal (λ ls. Places (h .rows) (placeThose body h which ls es) before after r))
+-- how the code looks literals up: the one of EQUAL and NOT EQUAL is the whole buffer, and those of IN and NOT IN are held by a table
+pub record Lookup (q : ℕ) (literal table : List ℕ) (ls : List (List ℕ)) : Type 0 where
+  pub one : q < 2 → (v : List ℕ) → listed v ls ≡ same v literal
+  pub many : 2 ≤ q → q < 4 → Entered literal table ls
 
-abbrev pub PlacesEntries : ℕ → List ℕ → Summary → Entries → List ℕ → List ℕ → List ℕ → Outcome → Type 0
-PlacesEntries t body h which literal before after r =
-    ForEntries t body h (λ es. ForLiterals t literal (λ ls. Places (h .rows) (placeThose body h which ls (nullsOf h ++ es)) before after r))
+abbrev pub SomeLookup : ℕ → List ℕ → List ℕ → Type 0
+SomeLookup q literal table = (ls : List (List ℕ)) × Lookup q literal table ls
 
--- ---- what is said once rows are placed
+abbrev pub ForLookup : ℕ → List ℕ → List ℕ → (List (List ℕ) → Type 0) → Type 0
+ForLookup q literal table P = (ls : List (List ℕ)) → Lookup q literal table ls → P ls
+
+-- the rows of those of the entries es that are chosen are marked
+abbrev pub MarksChosen : List ℕ → Summary → ℕ → List (List ℕ) → List Entry → List ℕ → List ℕ → Type 0
+MarksChosen body h q ls es before after = after ≡ markEntries (drop (h .region .0) body) (chosenOf q ls es) before
+
+-- those of all entries, to a question that is well formed
+abbrev pub MarksAsked : ℕ → List ℕ → Summary → ℕ → List ℕ → List ℕ → List ℕ → Type 0
+MarksAsked t body h q literal before after =
+    ForEntries t body h (λ es. ForQuestion t q literal body (λ ls. MarksChosen body h q ls (nullsOf h ++ es) before after))
+
+-- ---- what is said once rows are placed or marked
 
 -- an audit of the dictionary d in a field that is zero; no byte behind the field has changed
 pub record AuditsZero (d : Dictionary) (zero after : List ℕ) (r : Audited) : Type 0 where
@@ -127,10 +169,15 @@ pub record Answers (o : Out Refusal Answer) (otherwise after : List ℕ) (r : An
   pub answer : r ≡ answeredBy o
   pub buffer : after ≡ answerBuffer o otherwise
 
--- an answer in a field that is zero, and one in any field, which is audited first: with a refusal the field is zero
-abbrev pub AnswersZero : ℕ → ℕ → List ℕ → Dictionary → List ℕ → List ℕ → Answered → Type 0
-AnswersZero t q literal d zero after r = ForLiterals t literal (λ ls. Answers (answered q ls d zero) (cleared (d .rows) zero) after r)
+-- an audit in this field accepted the dictionary
+pub record AuditAccepts (t : ℕ) (body : List ℕ) (h : Summary) (zero : List ℕ) : Type 0 where
+  pub is-read : IsRead t body h
+  pub accepts : ForDictionary t body h (λ d. (n : ℕ) × (audited d zero ≡ ok n))
 
-abbrev pub AnswersField : ℕ → ℕ → List ℕ → Dictionary → List ℕ → List ℕ → Answered → Type 0
-AnswersField t q literal d before after r =
-    ForLiterals t literal (λ ls. Answers (auditedAnswer q ls d (cleared (d .rows) before)) (cleared (d .rows) before) after r)
+-- an answer in a field that is zero, and one in any field, which is audited first: with a refusal the field is zero
+abbrev pub AnswersZero : ℕ → ℕ → List ℕ → List ℕ → Dictionary → List ℕ → List ℕ → Answered → Type 0
+AnswersZero t q literal body d zero after r = ForQuestion t q literal body (λ ls. Answers (answered q ls d zero) (cleared (d .rows) zero) after r)
+
+abbrev pub AnswersField : ℕ → ℕ → List ℕ → List ℕ → Dictionary → List ℕ → List ℕ → Answered → Type 0
+AnswersField t q literal body d before after r =
+    ForQuestion t q literal body (λ ls. Answers (auditedAnswer q ls d (cleared (d .rows) before)) (cleared (d .rows) before) after r)

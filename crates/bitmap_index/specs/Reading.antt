@@ -8,12 +8,12 @@ use lib.ListN.{length, drop}
 use Rattle.numbers.specs.Meaning.{signed32, minusOne}
 use Rattle.refusal.specs.declared.Refusal.{Refusal}
 use Rattle.refusal.specs.Meaning.{limit, numberOf}
-use Rattle.refusal.specs.declared.Refusal.the-variants.{Range, Twice, Missing, Room, Literal, Limit}
+use Rattle.refusal.specs.declared.Refusal.the-variants.{Bitmap, Range, Twice, Missing, Room, Literal, Limit}
 use Rattle.row_field.specs.Meaning.{size, bit, mark, markAll, anySet, count, cleared}
 use Rattle.roaring.specs.declared.Extent.{Extent}
 use Rattle.roaring.specs.declared.Extent.the-variants.{AsLong, Exactly}
-use Rattle.roaring.specs.Reading.{measured}
-use Rattle.refusal.specs.Reading.{Out, refuse, ok, check, andThen}
+use Rattle.roaring.specs.Reading.{measured, endOf}
+use Rattle.refusal.specs.Reading.{Out, refuse, ok, check, andThen, refusedAs}
 use Rattle.stored_value.specs.Meaning.{types, mostLiterals}
 use Rattle.stored_value.specs.Reading.{literals}
 use Rattle.dictionary.specs.Layout.{Entry}
@@ -26,14 +26,16 @@ use Rattle.bitmap_index.specs.Meaning.{questions, chosen, takes, keeps}
 
 -- ---- the bitmaps
 
--- "Length −1, and every version 1 entry, means as long as the bitmap is; any other length must be exactly the bitmap's"
+-- "Length −1, and every version 1 entry, means as long as the bitmap is; any other length must be exactly the bitmap's". One below −1 is then longer than any
+-- body within the limit
 unfoldable pub extentOf : ℕ → Extent
 extentOf extent = cond (eqb extent minusOne) AsLong (Exactly extent)
 
--- a bitmap's rows placed in a field of n rows: "BITMAP, else RANGE, else TWICE", the first two as roaring says them
+-- a bitmap's rows placed in a field of n rows: "BITMAP, else RANGE, else TWICE"
 unfoldable pub placeBitmap : Extent → ℕ → List ℕ → List ℕ → Out Refusal (List ℕ)
 placeBitmap extent n bytes field =
-    andThen (measured extent n bytes) (λ bitmap. check (not (anySet field (bitmap .rows))) Twice (ok (markAll field (bitmap .rows))))
+    andThen (refusedAs (λ container. Bitmap) (measured extent bytes)) (λ bitmap. check (leb (endOf (bitmap .rows)) n) Range
+    (check (not (anySet field (bitmap .rows))) Twice (ok (markAll field (bitmap .rows)))))
 
 -- "a negative offset means the single row −1 − offset, and the length isn't looked at .. Otherwise the bitmap starts at the body plus the offset"
 unfoldable pub placeAt : ℤ → ℕ → ℕ → List ℕ → List ℕ → Out Refusal (List ℕ)

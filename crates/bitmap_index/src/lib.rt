@@ -1,17 +1,18 @@
 // The bitmap body of one column (document 01, "Bitmap body" and "Questions"): Audit and Ask.
 ghost use mathlib.Core.Path.{_≡_};
-ghost use mathlib.Core.List.{List, []};
-ghost use Prim.Native.Nat.{ℕ, _<_, _≤_};
+ghost use mathlib.Core.List.{List, [], _∷_, _++_};
+ghost use Prim.Native.Nat.{ℕ, _≤_};
 ghost use lib.IntN.{pos, negsuc};
 ghost use lib.ListN.{length};
+ghost use Rattle.row_field.specs.Meaning.{size, count, markAll};
 ghost use Rattle.stored_value.specs.Meaning.{null, value};
-ghost use Rattle.dictionary.specs.Promises.{IsRead};
+ghost use Rattle.dictionary.specs.Promises.{nullsOf, entryAt};
 ghost use Rattle.bitmap_index.specs.Meaning as meaning;
 ghost use Rattle.bitmap_index.specs.Reading.{extentOf, placeAt};
-ghost use Rattle.bitmap_index.specs.Promises as promises;
-ghost use Rattle.bitmap_index.specs.Promises.{AuditPromise, AskPromise, ForDictionary, Prepares, ForLiterals, TestsQuestion};
-ghost use Rattle.bitmap_index.specs.Promises.{Places, EntryInside, PlacesEntry, PlacesNull, PlacesValues, PlacesEntries};
-ghost use Rattle.bitmap_index.specs.Promises.{AuditsZero, AuditsField, AnswersZero, AnswersField};
+ghost use Rattle.bitmap_index.specs.Promises.{AuditPromise, AskPromise, ForEntries, ForDictionary, Prepares, Ready, Asked, TestsQuestion};
+ghost use Rattle.bitmap_index.specs.Promises.{Places, PlacesNull, PlacesValues, AuditsZero, AuditsField};
+ghost use Rattle.bitmap_index.specs.Promises.{rowsFor, SoundAt, SoundEntryAt, SoundNull, AllSound, SomeLookup, ForLookup, MarksChosen, MarksAsked};
+ghost use Rattle.bitmap_index.specs.Promises.{AuditAccepts, AnswersZero, AnswersField};
 use dictionary::Checked;
 use dictionary::EntryAt;
 use dictionary::Summary;
@@ -19,11 +20,15 @@ use numbers::Position;
 use numbers::Row;
 use refusal::Refusal;
 use roaring::Extent;
-use roaring::Marked;
+use roaring::Measured;
 use stored_value::Counted;
 
 // How many questions there are (document 01, "Questions").
 const QUESTIONS: u32 = 6;
+
+// The numbers of a hash table with room for as many literals as there may be.
+const TABLE: usize = hash_table::CHAINS
+    + hash_table::NUMBERS * stored_value::MOST_LITERALS as usize;
 
 // What Audit answers: a refusal, or the row count.
 pub enum Audited {
@@ -44,25 +49,25 @@ enum Outcome {
     Done,
 }
 
-// Which entries' rows are placed: those of every entry for an audit, and for an answer those of the entries that a question chooses. The question's literals
-// stand beside it, since an enum can't hold a slice.
-enum Entries {
-    Every,
-    Chosen(u32),
+// What placing rows comes to: a refusal, or how many were placed.
+enum Placing {
+    Refused(Refusal),
+    Placed(u64),
 }
 
 // Places a single row in a field for `rows` rows: RANGE, TWICE.
-fn place_row(field: &mut [u8], row: Row, rows: u64) -> Outcome
+fn place_row(field: &mut [u8], row: Row, rows: u64) -> Placing
+    requires { ⌜ size rows ≤ length (now field) ⌝ }
     ensures { λ r. ⌜ Places rows (placeAt (negsuc (row .0)) 0 rows []) (now (field .entry)) (now (field .exit)) r ⌝ }
 {
     let number = row.0;
     if rows <= number {
-        return Outcome::Refused(Refusal::Range);
+        return Placing::Refused(Refusal::Range);
     }
     if row_field::mark(field, row) {
-        return Outcome::Refused(Refusal::Twice);
+        return Placing::Refused(Refusal::Twice);
     }
-    Outcome::Done
+    Placing::Placed(1)
 }
 
 // How long a bitmap must be: -1 says as long as it is.
@@ -75,28 +80,37 @@ fn extent_of(extent: u64) -> Extent
     Extent::Exactly(extent as usize)
 }
 
-// Places the rows of the bitmap at a position of the region of bitmaps: BITMAP, RANGE, TWICE.
-fn place_bitmap(field: &mut [u8], region: &[u8], at: Position, extent: u64, rows: u64) -> Outcome
+// Places the rows of the bitmap at a position of the region of bitmaps: BITMAP, RANGE, TWICE. The field is not touched before the bitmap is measured.
+fn place_bitmap(field: &mut [u8], region: &[u8], at: Position, extent: u64, rows: u64) -> Placing
+    requires { ⌜ size rows ≤ length (now field) ⌝ }
     ensures { λ r. ⌜ Places rows (placeAt (pos (at .0)) extent rows (now (region .entry))) (now (field .entry)) (now (field .exit)) r ⌝ }
 {
     let offset = at.0;
     if region.len() < offset {
-        return Outcome::Refused(Refusal::Bitmap);
+        return Placing::Refused(Refusal::Bitmap);
     }
-    let marked = roaring::mark(field, &region[offset..], extent_of(extent), rows);
-    match marked {
-        Marked::Refused(r) => Outcome::Refused(r),
-        Marked::Done { length: _, twice } => {
-            if twice {
-                return Outcome::Refused(Refusal::Twice);
+    let measured = roaring::measure(&region[offset..], extent_of(extent));
+    match measured {
+        Measured::Unsound(_) => Placing::Refused(Refusal::Bitmap),
+        Measured::Sound {
+            length: _,
+            rows: many,
+            end,
+        } => {
+            if rows < end {
+                return Placing::Refused(Refusal::Range);
             }
-            Outcome::Done
+            if roaring_mark::mark(field, &region[offset..], rows) {
+                return Placing::Refused(Refusal::Twice);
+            }
+            Placing::Placed(many)
         }
     }
 }
 
 // Places an entry's rows. A negative offset stands for the single row -1 - offset, and its extent isn't looked at.
-fn place_at(field: &mut [u8], region: &[u8], offset: i32, extent: u64, rows: u64) -> Outcome
+fn place_at(field: &mut [u8], region: &[u8], offset: i32, extent: u64, rows: u64) -> Placing
+    requires { ⌜ size rows ≤ length (now field) ⌝ }
     ensures { λ r. ⌜ Places rows (placeAt offset extent rows (now (region .entry))) (now (field .entry)) (now (field .exit)) r ⌝ }
 {
     if offset < 0 {
@@ -105,86 +119,13 @@ fn place_at(field: &mut [u8], region: &[u8], offset: i32, extent: u64, rows: u64
     place_bitmap(field, region, Position(offset as usize), extent, rows)
 }
 
-// Whether the question chooses the value v: EQUAL 0, NOT EQUAL 1, IN 2, NOT IN 3, IS NULL 4, IS NOT NULL 5.
-fn chosen(question: u32, v: &[u8], literals: &[u8], t: u32) -> bool
-    ensures { λ r. ⌜ ForLiterals t (now (literals .entry)) (λ ls. r ≡ meaning.chosen question ls (value (now (v .entry)))) ⌝ }
-{
-    match question {
-        0 | 2 => stored_value::listed(v, literals, t),
-        1 | 3 => !stored_value::listed(v, literals, t),
-        _ => question == 5,
-    }
-}
-
-// Whether the question chooses null: NOT EQUAL and NOT IN do, as does IS NULL.
-fn chosen_null(question: u32) -> bool
-    ensures { λ r. ⌜ ((ls : List (List ℕ)) → r ≡ meaning.chosen question ls null) ⌝ }
-{
-    match question {
-        1 | 3 => true,
-        4 => true,
-        _ => false,
-    }
-}
-
-// Whether the entry of the value v is among those whose rows are placed.
-fn among(which: Entries, v: &[u8], literals: &[u8], t: u32) -> bool
-    ensures { λ r. ⌜ ForLiterals t (now (literals .entry)) (λ ls. r ≡ promises.among which ls (value (now (v .entry)))) ⌝ }
-{
-    match which {
-        Entries::Every => true,
-        Entries::Chosen(question) => chosen(question, v, literals, t),
-    }
-}
-
-// Whether null's entry is.
-fn null_among(which: Entries) -> bool
-    ensures { λ r. ⌜ ((ls : List (List ℕ)) → r ≡ promises.among which ls null) ⌝ }
-{
-    match which {
-        Entries::Every => true,
-        Entries::Chosen(question) => chosen_null(question),
-    }
-}
-
-// Places the rows of one entry, if they are to be placed.
-fn place_entry(
-    field: &mut [u8],
-    body: &[u8],
-    summary: Summary,
-    entry: EntryAt,
-    t: u32,
-    which: Entries,
-    literals: &[u8],
-) -> Outcome
-    requires { ⌜ EntryInside (now body) summary entry ⌝ }
-    ensures { λ r. ⌜ PlacesEntry t (now (body .entry)) summary entry which (now (literals .entry)) (now (field .entry)) (now (field .exit)) r ⌝ }
-{
-    let start = entry.start.0;
-    let end = entry.end.0;
-    if !among(which, &body[start..end], literals, t) {
-        return Outcome::Done;
-    }
-    let region = summary.region.0;
-    place_at(
-        field,
-        &body[region..],
-        entry.offset,
-        entry.extent,
-        summary.rows,
-    )
-}
-
-// Places null's rows, if it has an entry and they are to be placed.
-fn place_null(field: &mut [u8], body: &[u8], summary: Summary, which: Entries) -> Outcome
-    requires { ⌜ summary .region .0 ≤ length (now body) ⌝ }
-    ensures { λ r. ⌜ PlacesNull (now (body .entry)) summary which (now (field .entry)) (now (field .exit)) r ⌝ }
+// Places null's rows, if it has an entry.
+fn place_null(field: &mut [u8], body: &[u8], summary: Summary) -> Placing
+    requires { ⌜ (summary .region .0 ≤ length (now body)) × (size (summary .rows) ≤ length (now field)) ⌝ }
+    ensures { λ r. ⌜ PlacesNull (now (body .entry)) summary (now (field .entry)) (now (field .exit)) r ⌝ }
 {
     if !summary.has_null {
-        return Outcome::Done;
-    }
-    if !null_among(which) {
-        return Outcome::Done;
+        return Placing::Placed(0);
     }
     let region = summary.region.0;
     place_at(
@@ -196,69 +137,63 @@ fn place_null(field: &mut [u8], body: &[u8], summary: Summary, which: Entries) -
     )
 }
 
-// Places the rows of the values' entries, in their order.
-fn place_values(
-    field: &mut [u8],
-    body: &[u8],
-    summary: Summary,
-    t: u32,
-    which: Entries,
-    literals: &[u8],
-) -> Outcome
-    requires { ⌜ IsRead t (now body) summary ⌝ }
-    ensures { λ r. ⌜ PlacesValues t (now (body .entry)) summary which (now (literals .entry)) (now (field .entry)) (now (field .exit)) r ⌝ }
+// Places the rows of the values' entries, in their order, and adds up how many they are.
+fn place_values(field: &mut [u8], body: &[u8], summary: Summary, t: u32) -> Placing
+    requires { ⌜ Ready t (now body) summary (now field) ⌝ }
+    ensures { λ r. ⌜ PlacesValues t (now (body .entry)) summary (now (field .entry)) (now (field .exit)) r ⌝ }
 {
+    let region = summary.region.0;
     let mut cursor = summary.first;
     let mut i: u64 = 0;
+    let mut sum: u64 = 0;
     while i < summary.values {
         let entry = dictionary::next(body, t, summary.version2, cursor);
-        let placed = place_entry(field, body, summary, entry, t, which, literals);
-        if let Outcome::Refused(r) = placed {
-            return Outcome::Refused(r);
+        let placing = place_at(
+            field,
+            &body[region..],
+            entry.offset,
+            entry.extent,
+            summary.rows,
+        );
+        match placing {
+            Placing::Refused(r) => return Placing::Refused(r),
+            Placing::Placed(n) => {
+                sum += n;
+                cursor = entry.next;
+                i += 1;
+            }
         }
-        cursor = entry.next;
-        i += 1;
     }
-    Outcome::Done
+    Placing::Placed(sum)
 }
 
-// Places the rows of all entries, or of those that the question chooses: null's first, then the values' in their order.
-fn place_entries(
-    field: &mut [u8],
-    body: &[u8],
-    summary: Summary,
-    t: u32,
-    which: Entries,
-    literals: &[u8],
-) -> Outcome
-    requires { ⌜ IsRead t (now body) summary ⌝ }
-    ensures { λ r. ⌜ PlacesEntries t (now (body .entry)) summary which (now (literals .entry)) (now (field .entry)) (now (field .exit)) r ⌝ }
-{
-    let placed = place_null(field, body, summary, which);
-    match placed {
-        Outcome::Refused(r) => Outcome::Refused(r),
-        Outcome::Done => place_values(field, body, summary, t, which, literals),
-    }
-}
-
-// Places the rows of every entry in a field that is clear, and tests that no row is missing.
+// Places the rows of all entries in a field that is clear: null's first, then the values' in their order. None is placed twice, so none is
+// missing exactly if the values have as many rows as null leaves.
 fn audit_zero(field: &mut [u8], body: &[u8], summary: Summary, t: u32) -> Audited
-    requires { ⌜ IsRead t (now body) summary ⌝ }
+    requires { ⌜ Ready t (now body) summary (now field) × (count (now field) (summary .rows) ≡ 0) ⌝ }
     ensures { λ r. ⌜ ForDictionary t (now (body .entry)) summary (λ d. AuditsZero d (now (field .entry)) (now (field .exit)) r) ⌝ }
 {
-    let placed = place_entries(field, body, summary, t, Entries::Every, &body[0..0]);
-    if let Outcome::Refused(r) = placed {
-        return Audited::Refused(r);
+    let nulls = place_null(field, body, summary);
+    match nulls {
+        Placing::Refused(r) => Audited::Refused(r),
+        Placing::Placed(n) => {
+            let values = place_values(field, body, summary, t);
+            match values {
+                Placing::Refused(r) => Audited::Refused(r),
+                Placing::Placed(m) => {
+                    if m != summary.rows - n {
+                        return Audited::Refused(Refusal::Missing);
+                    }
+                    Audited::Rows(summary.rows)
+                }
+            }
+        }
     }
-    if row_field::count(field, summary.rows) != summary.rows {
-        return Audited::Refused(Refusal::Missing);
-    }
-    Audited::Rows(summary.rows)
 }
 
 // Audits the bitmaps of a dictionary in a field that has room, and leaves the field zero.
 fn audit_field(field: &mut [u8], body: &[u8], summary: Summary, t: u32) -> Audited
-    requires { ⌜ IsRead t (now body) summary ⌝ }
+    requires { ⌜ Ready t (now body) summary (now field) ⌝ }
     ensures { λ r. ⌜ ForDictionary t (now (body .entry)) summary (λ d. AuditsField d (now (field .entry)) (now (field .exit)) r) ⌝ }
 {
     let rows = summary.rows;
@@ -340,7 +275,165 @@ fn test_question(body: &[u8], t: u32, question: u32, literals: &[u8]) -> Outcome
     }
 }
 
-// Places the rows of each chosen entry in a field that is clear, and counts them. After an audit none is refused.
+// Whether the question chooses the value v: EQUAL 0, NOT EQUAL 1, IN 2, NOT IN 3, IS NULL 4, IS NOT NULL 5. The one literal of EQUAL and NOT EQUAL is
+// all of `literals`; those of IN and NOT IN are held by the table.
+fn chosen(question: u32, v: &[u8], literals: &[u8], table: &[u32]) -> bool
+    requires { ⌜ SomeLookup question (now literals) (now table) ⌝ }
+    ensures { λ r. ⌜ ForLookup question (now (literals .entry)) (now (table .entry)) (λ ls. r ≡ meaning.chosen question ls (value (now (v .entry)))) ⌝ }
+{
+    match question {
+        0 => numbers::same(v, literals),
+        1 => !numbers::same(v, literals),
+        2 => hash_table::find(literals, table, v),
+        3 => !hash_table::find(literals, table, v),
+        _ => question == 5,
+    }
+}
+
+// Whether the question chooses null: NOT EQUAL and NOT IN do, as does IS NULL.
+fn chosen_null(question: u32) -> bool
+    ensures { λ r. ⌜ ((ls : List (List ℕ)) → r ≡ meaning.chosen question ls null) ⌝ }
+{
+    match question {
+        1 | 3 => true,
+        4 => true,
+        _ => false,
+    }
+}
+
+// Marks the rows of an entry that an audit has placed: the single row -1 - offset, or those of the bitmap at its place, which isn't measured again.
+fn mark_at(field: &mut [u8], region: &[u8], offset: i32, rows: u64)
+    requires { ⌜ SoundAt rows (now region) offset ⌝ }
+    ensures { λ _. ⌜ now (field .exit) ≡ markAll (now (field .entry)) (rowsFor offset (now (region .entry))) ⌝ }
+{
+    if offset < 0 {
+        let _ = row_field::mark(field, Row((-1 - offset) as u64));
+        return;
+    }
+    let start = offset as usize;
+    let _ = roaring_mark::mark(field, &region[start..], rows);
+}
+
+// Marks the rows of an entry, if the question chooses its value.
+fn mark_entry(
+    field: &mut [u8],
+    body: &[u8],
+    summary: Summary,
+    entry: EntryAt,
+    question: u32,
+    literals: &[u8],
+    table: &[u32],
+)
+    requires { ⌜ SoundEntryAt (now body) summary entry × SomeLookup question (now literals) (now table) ⌝ }
+    ensures { λ _. ⌜ ForLookup question (now (literals .entry)) (now (table .entry))
+        (λ ls. MarksChosen (now (body .entry)) summary question ls (entryAt (now (body .entry)) entry ∷ []) (now (field .entry)) (now (field .exit))) ⌝ }
+{
+    let start = entry.start.0;
+    let end = entry.end.0;
+    if !chosen(question, &body[start..end], literals, table) {
+        return;
+    }
+    let region = summary.region.0;
+    mark_at(field, &body[region..], entry.offset, summary.rows);
+}
+
+// Marks null's rows, if it has an entry and the question chooses it.
+fn mark_null(field: &mut [u8], body: &[u8], summary: Summary, question: u32)
+    requires { ⌜ SoundNull (now body) summary ⌝ }
+    ensures { λ _. ⌜ ((ls : List (List ℕ))
+        → MarksChosen (now (body .entry)) summary question ls (nullsOf summary) (now (field .entry)) (now (field .exit))) ⌝ }
+{
+    if !summary.has_null {
+        return;
+    }
+    if !chosen_null(question) {
+        return;
+    }
+    let region = summary.region.0;
+    mark_at(field, &body[region..], summary.null_offset, summary.rows);
+}
+
+// Marks the rows of the chosen values' entries, in their order.
+fn mark_values(
+    field: &mut [u8],
+    body: &[u8],
+    summary: Summary,
+    t: u32,
+    question: u32,
+    literals: &[u8],
+    table: &[u32],
+)
+    requires { ⌜ AllSound t (now body) summary × SomeLookup question (now literals) (now table) ⌝ }
+    ensures { λ _. ⌜ ForEntries t (now (body .entry)) summary (λ es. ForLookup question (now (literals .entry)) (now (table .entry))
+        (λ ls. MarksChosen (now (body .entry)) summary question ls es (now (field .entry)) (now (field .exit)))) ⌝ }
+{
+    let mut cursor = summary.first;
+    let mut i: u64 = 0;
+    while i < summary.values {
+        let entry = dictionary::next(body, t, summary.version2, cursor);
+        mark_entry(field, body, summary, entry, question, literals, table);
+        cursor = entry.next;
+        i += 1;
+    }
+}
+
+// Marks the rows of the chosen entries: null's, then the values'.
+fn mark_chosen(
+    field: &mut [u8],
+    body: &[u8],
+    summary: Summary,
+    t: u32,
+    question: u32,
+    literals: &[u8],
+    table: &[u32],
+)
+    requires { ⌜ AllSound t (now body) summary × SomeLookup question (now literals) (now table) ⌝ }
+    ensures { λ _. ⌜ ForEntries t (now (body .entry)) summary (λ es. ForLookup question (now (literals .entry)) (now (table .entry))
+        (λ ls. MarksChosen (now (body .entry)) summary question ls (nullsOf summary ++ es) (now (field .entry)) (now (field .exit)))) ⌝ }
+{
+    mark_null(field, body, summary, question);
+    mark_values(field, body, summary, t, question, literals, table);
+}
+
+// The same for IN and NOT IN. Their literals are entered in a hash table once, and each value is looked up there.
+fn mark_listed(
+    field: &mut [u8],
+    body: &[u8],
+    summary: Summary,
+    t: u32,
+    question: u32,
+    literals: &[u8],
+)
+    requires { ⌜ AllSound t (now body) summary × Asked t question (now literals) (now body) × (2 ≤ question) ⌝ }
+    ensures { λ _. ⌜ MarksAsked t (now (body .entry)) summary question (now (literals .entry)) (now (field .entry)) (now (field .exit)) ⌝ }
+{
+    let mut table = [0u32; TABLE];
+    stored_value::enter(literals, t, &mut table);
+    mark_chosen(field, body, summary, t, question, literals, &table);
+}
+
+// The same for any question. Only IN and NOT IN have use for a table.
+fn mark_asked(
+    field: &mut [u8],
+    body: &[u8],
+    summary: Summary,
+    t: u32,
+    question: u32,
+    literals: &[u8],
+)
+    requires { ⌜ AllSound t (now body) summary × Asked t question (now literals) (now body) ⌝ }
+    ensures { λ _. ⌜ MarksAsked t (now (body .entry)) summary question (now (literals .entry)) (now (field .entry)) (now (field .exit)) ⌝ }
+{
+    match question {
+        2 | 3 => mark_listed(field, body, summary, t, question, literals),
+        _ => {
+            let none = [0u32; 1];
+            mark_chosen(field, body, summary, t, question, literals, &none);
+        }
+    }
+}
+
+// Marks the rows of each chosen entry in a field that is clear and was audited in, and counts them.
 fn answer_zero(
     field: &mut [u8],
     body: &[u8],
@@ -349,15 +442,11 @@ fn answer_zero(
     question: u32,
     literals: &[u8],
 ) -> Answered
-    requires { ⌜ IsRead t (now body) summary ⌝ }
+    requires { ⌜ AuditAccepts t (now body) summary (now field) × Asked t question (now literals) (now body) ⌝ }
     ensures { λ r. ⌜ ForDictionary t (now (body .entry)) summary
-        (λ d. AnswersZero t question (now (literals .entry)) d (now (field .entry)) (now (field .exit)) r) ⌝ }
+        (λ d. AnswersZero t question (now (literals .entry)) (now (body .entry)) d (now (field .entry)) (now (field .exit)) r) ⌝ }
 {
-    let placed = place_entries(field, body, summary, t, Entries::Chosen(question), literals);
-    if let Outcome::Refused(r) = placed {
-        row_field::clear(field, summary.rows);
-        return Answered::Refused(r);
-    }
+    mark_asked(field, body, summary, t, question, literals);
     let matched = row_field::count(field, summary.rows);
     if matched == 0 {
         return Answered::Skip;
@@ -374,9 +463,9 @@ fn ask_field(
     question: u32,
     literals: &[u8],
 ) -> Answered
-    requires { ⌜ IsRead t (now body) summary ⌝ }
+    requires { ⌜ Ready t (now body) summary (now field) × Asked t question (now literals) (now body) ⌝ }
     ensures { λ r. ⌜ ForDictionary t (now (body .entry)) summary
-        (λ d. AnswersField t question (now (literals .entry)) d (now (field .entry)) (now (field .exit)) r) ⌝ }
+        (λ d. AnswersField t question (now (literals .entry)) (now (body .entry)) d (now (field .entry)) (now (field .exit)) r) ⌝ }
 {
     let audit = audit_field(field, body, summary, t);
     match audit {

@@ -7,24 +7,24 @@ use lib.Dec.{eqb, leb}
 use lib.ListN.{length, drop, getD, length-append}
 use lib.Seq.{take-append-seam, drop-append-seam}
 use borrow.Author.Tests.{leb-true, eqb-true}
-use Rattle.numbers.specs.Meaning.{be, big, All, Bytes}
+use Rattle.numbers.specs.Meaning.{be, big, All, Bytes, fourBytes}
 use Rattle.numbers.proofs.ByteLists.{bytes-take, bytes-drop}
 use Rattle.numbers.proofs.Laws.{numberAt-back}
 use Rattle.refusal.specs.Meaning.{limit}
 use Rattle.refusal.specs.declared.Refusal.{Refusal}
-use Rattle.refusal.specs.declared.Refusal.the-variants.{Short, Version, Room, Limit}
+use Rattle.refusal.specs.declared.Refusal.the-variants.{Short, Version, Range, Room, Limit}
 use Rattle.crc32.specs.Meaning.{checksum}
 use Rattle.row_field.specs.Meaning.{size, markAll, cleared, Below}
 use Rattle.roaring.specs.declared.Extent.the-variants.{Exactly}
 use Rattle.roaring.specs.Layout.{Bitmap}
-use Rattle.roaring.specs.Reading.{lengthIs, measured}
-use Rattle.roaring.proofs.Measured.{measured-back}
-use Rattle.roaring.proofs.Theorems.{read-was-laid-out}
+use Rattle.roaring.specs.Reading.{measured, endOf}
+use Rattle.roaring.proofs.Measuring.{measured-back, end-below}
+use Rattle.roaring.proofs.RowsRising.{bitmap-rising}
 use Rattle.deletion_file.specs.declared.Deletions.the-variants.{Deleted}
 use Rattle.deletion_file.specs.Layout.{Bin, binBytes, binOf, frames, Framed}
-use Rattle.refusal.specs.Reading.{Out, refuse, ok, andThen}
+use Rattle.refusal.specs.Reading.{Out, refuse, ok, andThen, refusedAs}
 use Rattle.deletion_file.specs.Reading.{bins, binNumbered, binIn, afterMagic, bitmapIn, markBitmap, deletionsReady, deletionsBy}
-use Rattle.refusal.proofs.Laws.{not-ok, ok-same, check-ok, then-ok}
+use Rattle.refusal.proofs.Laws.{not-ok, ok-same, check-ok, then-ok, refused-as-ok}
 use Rattle.deletion_file.proofs.BinSteps.{magic-back}
 use Rattle.deletion_file.proofs.Frames.{Between, between-first, between-next, nothing, walk-passed}
 
@@ -119,18 +119,17 @@ whole-bitmap rows s x t e l m =
     rw (e, z, append-nil) m
 
 pub bitmap-rows : (n : ℕ) (field bytes after : List ℕ) → Bytes bytes → markBitmap bytes n field ≡ ok after → RowsMarked n field bytes after
-unfolding markBitmap lengthIs
+unfolding markBitmap
 bitmap-rows n field bytes after b m =
-    let w = then-ok (measured (Exactly (length bytes)) n bytes) _ _ m in
+    let w = then-ok (refusedAs (λ _. Refusal.Bitmap) (measured (Exactly (length bytes)) bytes)) _ _ m in
     let p = w .0 in
-    let q = measured-back (Exactly (length bytes)) n bytes p (w .1) in
-    let r = read-was-laid-out bytes p b (q .0) in
-    let whole : p .end ≡ length bytes = eqb-true _ _ (q .1) in
+    let q = measured-back (Exactly (length bytes)) bytes p b (refused-as-ok _ _ _ (w .1)) in
+    let c = check-ok (leb (endOf (p .rows)) n) Range _ _ (w .2) in
     record {
       rows = p .rows;
-      is-bitmap = whole-bitmap (p .rows) bytes (r .0) (p .behind) (r .3) (sym whole ∙ r .2) (r .1);
-      below = q .2;
-      field-is = sym (ok-same _ _ (w .2));
+      is-bitmap = whole-bitmap (p .rows) bytes (q .0) (q .1) (q .3) (q .4) (q .2);
+      below = end-below n 0 fourBytes (p .rows) (bitmap-rising (q .2)) (leb-true _ _ (c .0));
+      field-is = sym (ok-same _ _ (c .1));
     }
 
 -- ---- the call

@@ -1,62 +1,58 @@
--- Marking a bin's bitmap, and the stages before: roaring's promise put into the reading.
-use Prim.Native.Nat.{ℕ, _-_, _<_, _≤_}
+-- Measuring and marking a bin's bitmap, and the stages before: roaring's promises put into the reading.
+use Prim.Native.Nat.{ℕ, _<_, _≤_}
 use mathlib.Core.Path.{_≡_, refl, sym, ap, _∙_}
 use mathlib.Core.Bool.{Bool, true, false}
 use mathlib.Core.List.{List}
-use native.Mathlib.Omega.{arith}
-use lib.ListN.{length, length-take, length-drop}
+use lib.ListN.{length}
+use Rattle.numbers.specs.Meaning.{Bytes}
 use borrow.Author.Tests.{le-leb, lt-leb}
 use Rattle.refusal.specs.Meaning.{limit}
 use Rattle.refusal.specs.declared.Refusal.{Refusal}
-use Rattle.refusal.specs.declared.Refusal.the-variants.{Room, Limit}
-use Rattle.row_field.specs.Meaning.{markAll, anySet, count}
+use Rattle.refusal.specs.declared.Refusal.the-variants.{Bitmap, Range, Room, Limit}
+use Rattle.row_field.specs.Meaning.{count}
+use Rattle.row_field.specs.Promises.{MarkedRows}
 use Rattle.roaring.specs.declared.Extent.the-variants.{Exactly}
-use Rattle.roaring.specs.declared.Marked.{Marked}
-use Rattle.roaring.specs.declared.Marked.the-variants.{Refused, Done}
-use Rattle.roaring.specs.Reading.{Parsed, Marks, measured, marking, markRows, markBuffer, markedBy}
-use Rattle.roaring.specs.Promises.{MarkPromise}
+use Rattle.roaring.specs.declared.Measured.{Measured}
+use Rattle.roaring.specs.Reading.{read, measured, endOf}
+use Rattle.roaring.specs.Promises.{MeasurePromise, SoundBelow, rowsRead}
+use Rattle.roaring.proofs.Measuring.{not-sound, is-sound, rows-measured, measured-sound}
 use Rattle.deletion_file.specs.declared.Deletions.the-variants.{Deleted}
 use Rattle.deletion_file.specs.declared.Deletions.{Deletions}
-use Rattle.refusal.specs.Reading.{Out, refuse, ok, check, andThen, numbersOf}
+use Rattle.refusal.specs.Reading.{Out, refuse, ok, check, andThen, refusedAs, numbersOf}
 use Rattle.deletion_file.specs.Reading.{bitmapIn, markBitmap, markBin, deletionsReady, deletions, leftBy, deletionsBuffer, deletionsBy, deletionsOut, deletionsNumbers}
-use Rattle.deletion_file.specs.Promises.{part, MarksRows, ClearsIfRoom, DeletionsPromise}
+use Rattle.deletion_file.specs.Promises.{MarksRows, ClearsIfRoom, DeletionsPromise}
 
--- ---- what was marked
+-- ---- measured, compared, marked
 
-abbrev marks : List ℕ → Parsed → Marks
-marks field p = record { length = p .end; twice = anySet field (p .rows) }
+module _ (n : ℕ) (field bytes : List ℕ) {m : Measured} (p : MeasurePromise (Exactly (length bytes)) bytes m) where
+  pub unsound-so : {i : ℕ} → m ≡ Measured.Unsound i → MarksRows n (markBitmap bytes n) field field (Deletions.Refused Bitmap)
+  unfolding markBitmap andThen refusedAs deletionsBy leftBy
+  unsound-so e =
+      let u = not-sound (measured (Exactly (length bytes)) bytes) (sym e ∙ p .answer) in
+      record { answer = rw u; field = rw u }
 
-abbrev rowsIn : List ℕ → Out Refusal Parsed → Out Refusal (List ℕ)
-rowsIn field x = andThen x (λ p. ok (markAll field (p .rows)))
+  module _ {long rows end : ℕ} (e : m ≡ Measured.Sound long rows end) where
+    pub beyond-so : n < end → MarksRows n (markBitmap bytes n) field field (Deletions.Refused Range)
+    unfolding markBitmap andThen refusedAs check deletionsBy leftBy
+    beyond-so h =
+        let q = is-sound (measured (Exactly (length bytes)) bytes) (sym e ∙ p .answer) in
+        let t = lt-leb (endOf (q .0 .rows)) n (rw (q .3) at h) in
+        record { answer = rw (q .1, t); field = rw (q .1, t) }
 
--- by what was measured: a refused bitmap leaves the field as it was, any other has its rows marked there
-refused-go : (n : ℕ) (field after : List ℕ) (x : Out Refusal Parsed) {r : Refusal} → Refused r ≡ markedBy (andThen x (λ p. ok (marks field p))) → after ≡ markRows field x
-    → (Deletions.Refused r ≡ deletionsBy n (rowsIn field x)) × (after ≡ leftBy (rowsIn field x) field)
-unfolding markedBy markRows andThen deletionsBy leftBy
-refused-go n field after (refuse q) e f = (cc, f)
-refused-go n field after (ok p) e f = let z : _≡_ {A = ℕ} 0 1 = cc in absurd (omega arith)
+    module _ (h : end ≤ n) (b : Bytes bytes) where
+      pub sound-below : SoundBelow n bytes
+      sound-below =
+          let q = is-sound (measured (Exactly (length bytes)) bytes) (sym e ∙ p .answer) in
+          measured-sound (Exactly (length bytes)) bytes (q .0) b (q .1) n (rw (q .3) at h)
 
-done-go : (n : ℕ) (field after : List ℕ) (x : Out Refusal Parsed) {k : ℕ} {twice : Bool} → Done k twice ≡ markedBy (andThen x (λ p. ok (marks field p)))
-    → after ≡ markRows field x → (Deleted (count after n) ≡ deletionsBy n (rowsIn field x)) × (after ≡ leftBy (rowsIn field x) field)
-unfolding markedBy markRows andThen deletionsBy leftBy
-done-go n field after (refuse q) e f = let z : _≡_ {A = ℕ} 0 1 = cc in absurd (omega arith)
-done-go n field after (ok p) e f = (ap (λ (g : List ℕ). Deleted (count g n)) f, f)
-
-module _ (n : ℕ) (field bytes : List ℕ) {long : ℕ} (l : long ≡ length bytes) {m : Marked} {after : List ℕ} (p : MarkPromise (Exactly long) n field bytes after m) where
-  pub refused-so : {r : Refusal} → m ≡ Refused r → MarksRows n (markBitmap bytes n) field after (Deletions.Refused r)
-  unfolding marking markBuffer markBitmap
-  refused-so e =
-      let s = refused-go n field after (measured (Exactly (length bytes)) n bytes) (sym e ∙ p .answer ∙ rw l) (p .buffer ∙ rw l) in
-      record { answer = s .0; field = s .1 }
-
-  pub done-so : {k : ℕ} {twice : Bool} {ones : ℕ} → m ≡ Done k twice → ones ≡ count after n → MarksRows n (markBitmap bytes n) field after (Deleted ones)
-  unfolding marking markBuffer markBitmap
-  done-so e o =
-      let s = done-go n field after (measured (Exactly (length bytes)) n bytes) (sym e ∙ p .answer ∙ rw l) (p .buffer ∙ rw l) in
-      record { answer = ap Deleted o ∙ s .0; field = s .1 }
-
-pub length-part : (s : List ℕ) (start end : ℕ) → end ≤ length s → end - start ≡ length (part start end s)
-length-part s start end h = simp (length-take, length-drop) (omega arith)
+      pub marked-so : {after : List ℕ} {seen : Bool} {ones : ℕ} → MarkedRows field after (rowsRead (read bytes)) seen → ones ≡ count after n
+          → MarksRows n (markBitmap bytes n) field after (Deleted ones)
+      unfolding markBitmap andThen refusedAs check deletionsBy leftBy
+      marked-so k o =
+          let q = is-sound (measured (Exactly (length bytes)) bytes) (sym e ∙ p .answer) in
+          let t = le-leb (endOf (q .0 .rows)) n (rw (q .3) at h) in
+          let f = rw (rows-measured (Exactly (length bytes)) bytes (q .0) b (q .1)) at (k .marked) in
+          record { answer = rw (q .1, t) (ap Deleted o ∙ ap (λ (g : List ℕ). Deleted (count g n)) f); field = rw (q .1, t) f }
 
 -- ---- the stages
 

@@ -12,12 +12,12 @@ use Rattle.crc32.proofs.Laws.{checksum-lt}
 use Rattle.row_field.specs.Meaning.{markAll, Below}
 use Rattle.roaring.specs.Layout.{Bitmap}
 use Rattle.roaring.specs.declared.Extent.the-variants.{Exactly}
-use Rattle.roaring.specs.Reading.{lengthIs}
-use Rattle.roaring.proofs.Measured.{measured-laid}
+use Rattle.roaring.specs.Reading.{measured, endOf}
+use Rattle.roaring.proofs.Measuring.{measured-laid, below-end}
 use Rattle.roaring.proofs.BitmapBytes.{bytes-bitmap}
 use Rattle.deletion_file.specs.Layout.{Bin, magic, binBytes, binOf, frames, Bins, none, more, DeletionFile, version-1, Framed, HasBin, has-bin}
-use Rattle.refusal.specs.Reading.{ok, check, andThen}
-use Rattle.deletion_file.specs.Reading.{binNumbered, binIn, afterMagic, bitmapIn, markBitmap}
+use Rattle.refusal.specs.Reading.{ok, check, andThen, refusedAs}
+use Rattle.deletion_file.specs.Reading.{binNumbered, binIn, hasMagic, checksumHolds, afterMagic, bitmapIn, markBitmap}
 use Rattle.deletion_file.proofs.Frames.{Between, between-first, between-next, file-has-bin, walk-passes}
 
 bins-framed : {sets : List (List ℕ)} {xs : List Bin} → Bins sets xs → All Framed xs
@@ -51,7 +51,7 @@ bin-there [] x later = refl
 bin-there (y ∷ earlier) x later = bin-there earlier x later
 
 magic-laid : (bitmap : List ℕ) → afterMagic (binOf bitmap) ≡ ok bitmap
-unfolding afterMagic check
+unfolding afterMagic hasMagic checksumHolds check
 magic-laid bitmap = rw (eq-eqb (checksum (binBytes bitmap)) (checksum (binBytes bitmap)) refl)
 
 pub record LaidBitmap (b : ℕ) (rows file : List ℕ) : Type 0 where
@@ -71,7 +71,8 @@ bitmap-laid (has-bin earlier later {bitmap = bitmap} m f) =
     }
 
 pub marked-laid : (n : ℕ) (field : List ℕ) {rows bitmap : List ℕ} → Bitmap rows bitmap → Below n rows → markBitmap bitmap n field ≡ ok (markAll field rows)
-unfolding markBitmap andThen lengthIs
+unfolding markBitmap refusedAs check andThen
 marked-laid n field {rows} {bitmap} m b =
-    let e = measured-laid (Exactly (length bitmap)) n m [] (eq-eqb (length bitmap) (length bitmap) refl) b in
-    rw (rw (append-nil bitmap) at e)
+    let l = measured-laid (Exactly (length bitmap)) m [] refl in
+    let e : measured (Exactly (length bitmap)) bitmap ≡ ok (l .0) = rw (append-nil bitmap) at (l .1) in
+    rw (e, l .2, le-leb (endOf rows) n (below-end n rows b))

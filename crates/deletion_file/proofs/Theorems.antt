@@ -10,16 +10,15 @@ use Rattle.refusal.specs.Meaning.{limit}
 use Rattle.refusal.specs.Reading.{Out, refuse, ok, check, andThen}
 use Rattle.refusal.specs.declared.Refusal.{Refusal}
 use Rattle.refusal.specs.declared.Refusal.the-variants.{Short, Version}
-use Rattle.refusal.proofs.Laws.{check-ok, then-ok}
+use Rattle.refusal.proofs.Laws.{check-ok, then-ok, then-same}
 use Rattle.row_field.specs.Meaning.{size, markAll, cleared, count, Below}
 use Rattle.row_field.proofs.RowLists.{rising-within}
 use Rattle.row_field.proofs.Fronts.{marked-field, marked-count}
 use Rattle.roaring.specs.Layout.{Bitmap}
-use Rattle.roaring.proofs.Theorems.{bitmap-rising}
+use Rattle.roaring.proofs.RowsRising.{bitmap-rising}
 use Rattle.deletion_file.specs.declared.Deletions.the-variants.{Deleted}
 use Rattle.deletion_file.specs.Reading.{bitmapIn, markBitmap, markBin, deletionsReady, deletions, leftBy, deletionsBuffer, deletionsBy}
 use Rattle.deletion_file.specs.Claims.{Allowed, AnswersRows, BinIsRead, LaidOutIsRead, AcceptedWasLaidOut, OtherVersion, RowsHaveVersion1}
-use Rattle.deletion_file.proofs.WalkSteps.{then-same}
 use Rattle.deletion_file.proofs.Frames.{file-has-bin}
 use Rattle.deletion_file.proofs.LaidOut.{set-has-bin, bitmap-laid, marked-laid}
 use Rattle.deletion_file.proofs.Accepted.{bitmap-cut, bitmap-rows, ready-back, deleted-back}

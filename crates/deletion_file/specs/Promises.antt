@@ -7,13 +7,15 @@ use lib.Dec.{leb}
 use lib.ListN.{length, take, drop}
 use Rattle.numbers.specs.Meaning.{beAt}
 use Rattle.refusal.specs.declared.Refusal.{Refusal}
+use Rattle.refusal.specs.declared.Refusal.the-variants.{Short}
 use Rattle.refusal.specs.Reading.{Out, refuse, ok, numbersOf}
 use Rattle.row_field.specs.Meaning.{size, cleared}
+use Rattle.deletion_file.specs.declared.NextBin.{NextBin}
 use Rattle.deletion_file.specs.declared.Place.{Place}
 use Rattle.deletion_file.specs.declared.Place.the-variants.{Refused, At}
 use Rattle.deletion_file.specs.declared.Deletions.{Deletions}
 use Rattle.deletion_file.specs.Layout.{Bin, numberSize}
-use Rattle.deletion_file.specs.Reading.{binIn, afterMagic, bitmapIn, deletions, leftBy, deletionsBuffer, deletionsBy, deletionsOut, deletionsNumbers}
+use Rattle.deletion_file.specs.Reading.{over, bin, nextBin, binIn, afterMagic, bitmapIn, deletions, leftBy, deletionsBuffer, deletionsBy, deletionsOut, deletionsNumbers}
 
 -- ---- a part of the file
 
@@ -33,6 +35,14 @@ pub record BinFits (start end bytes : ℕ) : Type 0 where
 pub record PartFits (start end bytes : ℕ) : Type 0 where
   pub rising : start ≤ end
   pub inside : end ≤ bytes
+
+-- `next_bin`: the step from `at` on. A bin stands right behind its size
+abbrev pub FindsNext : ℕ → List ℕ → NextBin → Type 0
+FindsNext at s NextBin.Short = nextBin (drop at s) ≡ refuse Short
+FindsNext at s NextBin.End = nextBin (drop at s) ≡ ok over
+FindsNext at s (NextBin.Bin start end) =
+    (nextBin (drop at s) ≡ ok (bin (binFrom (start .0) (end .0) s) (drop (end .0 + numberSize) s)))
+    × (start .0 ≡ at + numberSize) × BinFits (start .0) (end .0) (length s)
 
 -- `find_bin`: the refusal, or where the bin stands
 abbrev pub FindsBin : ℕ → List ℕ → Place → Type 0

@@ -1,19 +1,19 @@
 -- What Read deletions answers for any bytes, and what the buffer holds then (01, "Deletion file"). The stages stand in 01's order: "LIMIT, ROOM, SHORT for
 -- an empty file, VERSION, the walk over all sizes (SHORT, also for a size below 4), NOBIN, MAGIC, CHECKSUM, BITMAP, RANGE".
 use Prim.Native.Nat.{ℕ, zero, suc, _+_}
-use mathlib.Core.Bool.{cond}
+use mathlib.Core.Bool.{Bool, cond}
 use mathlib.Core.List.{List, [], _∷_}
 use lib.Dec.{eqb, leb}
 use lib.ListN.{length, take, drop, getD}
 use Rattle.numbers.specs.Meaning.{beAt, big, number}
 use Rattle.refusal.specs.Meaning.{limit, numberOf}
-use Rattle.refusal.specs.Reading.{Out, refuse, ok, check, andThen}
+use Rattle.refusal.specs.Reading.{Out, refuse, ok, check, andThen, refusedAs}
 use Rattle.refusal.specs.declared.Refusal.{Refusal}
-use Rattle.refusal.specs.declared.Refusal.the-variants.{Short, Magic, Version, Room, Limit, Checksum, NoBin}
+use Rattle.refusal.specs.declared.Refusal.the-variants.{Short, Magic, Version, Bitmap, Range, Room, Limit, Checksum, NoBin}
 use Rattle.crc32.specs.Meaning.{checksum}
 use Rattle.row_field.specs.Meaning.{size, markAll, count, cleared}
 use Rattle.roaring.specs.declared.Extent.the-variants.{Exactly}
-use Rattle.roaring.specs.Reading.{measured}
+use Rattle.roaring.specs.Reading.{measured, endOf}
 use Rattle.deletion_file.specs.declared.Deletions.{Deletions}
 use Rattle.deletion_file.specs.declared.Deletions.the-variants.{Deleted}
 use Rattle.deletion_file.specs.Layout.{Bin, numberSize, magic}
@@ -24,14 +24,28 @@ use Rattle.deletion_file.specs.Layout.{Bin, numberSize, magic}
 abbrev pub front : ℕ → List ℕ → Bin
 front long s = record { bytes = take long s; sum = beAt numberSize s long }
 
--- the walk over all sizes to the end of the bytes: SHORT, also for a size below 4, which leaves no room for the magic. A bin takes 12 bytes at least, with
--- its size and checksum, so a number of steps that is no smaller than the number of bytes is enough
-unfoldable pub bins : ℕ → List ℕ → Out Refusal (List Bin)
-bins zero s = cond (eqb (length s) 0) (ok []) (refuse Short)
-bins (suc steps) s =
-    cond (eqb (length s) 0) (ok [])
+-- what the walk finds at the front of the bytes that are left: nothing, where they end; or a bin, and what lies behind its checksum
+pub data Next : Type 0 where
+  over : Next
+  bin : Bin → List ℕ → Next
+
+-- one step of the walk: SHORT, also for a size below 4, which leaves no room for the magic
+unfoldable pub nextBin : List ℕ → Out Refusal Next
+nextBin s =
+    cond (eqb (length s) 0) (ok over)
     (number big numberSize (refuse Short) s (λ long s. check (leb numberSize long) Short (check (leb (long + numberSize) (length s)) Short
-    (andThen (bins steps (drop (long + numberSize) s)) (λ more. ok (front long s ∷ more))))))
+    (ok (bin (front long s) (drop (long + numberSize) s))))))
+
+-- the bins from a step on: those behind it are what `walk` finds there
+unfoldable pub binsBy : (List ℕ → Out Refusal (List Bin)) → Next → Out Refusal (List Bin)
+binsBy walk over = ok []
+binsBy walk (bin x rest) = andThen (walk rest) (λ more. ok (x ∷ more))
+
+-- the walk over all sizes: step by step to the end of the bytes. A bin takes 12 of them at least, with its size and checksum, so a number of steps that is
+-- above the number of bytes is enough
+unfoldable pub bins : ℕ → List ℕ → Out Refusal (List Bin)
+bins zero s = refuse Short
+bins (suc steps) s = andThen (nextBin s) (binsBy (bins steps))
 
 -- the bin of this number, from 0: NOBIN
 unfoldable pub binNumbered : ℕ → List Bin → Out Refusal Bin
@@ -39,15 +53,23 @@ binNumbered b [] = refuse NoBin
 binNumbered zero (x ∷ xs) = ok x
 binNumbered (suc b) (x ∷ xs) = binNumbered b xs
 
--- bin b of a file, whose version is not looked at
+-- bin b of a file that is not empty and whose version is not looked at
 unfoldable pub binIn : ℕ → List ℕ → Out Refusal Bin
 binIn b file = andThen (bins (length file) (drop 1 file)) (binNumbered b)
+
+-- "A bin is magic 1581511376 (big-endian) and one bitmap filling the rest": whether its bytes begin with the magic
+unfoldable pub hasMagic : List ℕ → Bool
+hasMagic bytes = eqb (beAt numberSize bytes 0) magic
+
+-- "The checksum is Java's CRC-32 of the bin": whether the stored one is that of all its bytes, magic included
+unfoldable pub checksumHolds : List ℕ → ℕ → Bool
+checksumHolds bytes sum = eqb (checksum bytes) sum
 
 -- the bytes behind a bin's magic: MAGIC, CHECKSUM
 unfoldable pub afterMagic : Bin → Out Refusal (List ℕ)
 afterMagic x =
-    check (eqb (beAt numberSize (x .bytes) 0) magic) Magic
-    (check (eqb (checksum (x .bytes)) (x .sum)) Checksum
+    check (hasMagic (x .bytes)) Magic
+    (check (checksumHolds (x .bytes) (x .sum)) Checksum
     (ok (drop numberSize (x .bytes))))
 
 -- the bytes that are to be the bitmap of bin b
@@ -59,9 +81,12 @@ bitmapIn b file =
 
 -- ---- the rows
 
--- a field of n rows with a bitmap's rows marked, "one bitmap filling the rest" of its bin: BITMAP, RANGE
+-- a field of n rows with a bitmap's rows marked, "one bitmap filling the rest" of its bin: BITMAP, whichever container is at fault; RANGE, if n is below the
+-- end of the rows
 unfoldable pub markBitmap : List ℕ → ℕ → List ℕ → Out Refusal (List ℕ)
-markBitmap bytes n field = andThen (measured (Exactly (length bytes)) n bytes) (λ p. ok (markAll field (p .rows)))
+markBitmap bytes n field =
+    andThen (refusedAs (λ _. Bitmap) (measured (Exactly (length bytes)) bytes)) (λ p.
+    check (leb (endOf (p .rows)) n) Range (ok (markAll field (p .rows))))
 
 -- a clear field of n rows with the rows of bin b marked
 unfoldable pub markBin : List ℕ → ℕ → ℕ → List ℕ → Out Refusal (List ℕ)

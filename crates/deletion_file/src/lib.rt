@@ -1,13 +1,18 @@
 // Deletion files (document 01, "Deletion file"): the walk over the bins, and Read deletions.
 ghost use Prim.Native.Nat.{_≤_};
+ghost use mathlib.Core.Path.{_≡_};
 ghost use lib.ListN.{length};
-ghost use Rattle.deletion_file.specs.Reading.{markBitmap, markBin};
-ghost use Rattle.deletion_file.specs.Promises.{part, BinFits, PartFits, FindsBin, OpensBin, FindsBitmap, MarksRows, ClearsIfRoom, DeletionsPromise};
+ghost use Rattle.deletion_file.specs.Layout.{numberSize};
+ghost use Rattle.deletion_file.specs.Reading.{hasMagic, checksumHolds, markBitmap, markBin};
+ghost use Rattle.deletion_file.specs.Promises.{BinFits, FindsNext, FindsBin, OpensBin, FindsBitmap, MarksRows, ClearsIfRoom, DeletionsPromise};
 use numbers::Position;
 use refusal::LIMIT;
 use refusal::Refusal;
 use roaring::Extent;
-use roaring::Marked;
+use roaring::Measured;
+
+// The bytes of the version, behind which the bins stand.
+const VERSION_SIZE: usize = 1;
 
 // The number that a bin begins with.
 const MAGIC: u64 = 1_581_511_376;
@@ -24,66 +29,102 @@ pub enum Deletions {
     Deleted(u64),
 }
 
+// What stands at a position of the file where a bin's size is due: the end of the file; a bin, from `start` to `end`, with its checksum right behind it; or
+// bytes that are too short for one. What follows a bin stands behind its checksum.
+enum NextBin {
+    Short,
+    End,
+    Bin { start: Position, end: Position },
+}
+
 // A part of the file: from `start` to `end`.
 enum Place {
     Refused(Refusal),
     At { start: Position, end: Position },
 }
 
-// Where the asked bin stands, behind its size and with its checksum right behind it. Every size to the end of the file is walked first.
+// One step of the walk over the bins.
+fn next_bin(file: &[u8], at: Position) -> NextBin
+    ensures { λ r. ⌜ FindsNext (at .0) (now (file .entry)) r ⌝ }
+{
+    let size_at = at.0;
+    if file.len() <= size_at {
+        return NextBin::End;
+    }
+    let left = file.len() - size_at;
+    if left < NUMBER_SIZE {
+        return NextBin::Short;
+    }
+    let size = numbers::be32(file, Position(size_at)) as usize;
+    if size < NUMBER_SIZE {
+        return NextBin::Short;
+    }
+    if left < size + FRAME_SIZE {
+        return NextBin::Short;
+    }
+    let start = size_at + NUMBER_SIZE;
+    NextBin::Bin {
+        start: Position(start),
+        end: Position(start + size),
+    }
+}
+
+// Where the asked bin stands. Every size to the end of the file is walked first.
 fn find_bin(file: &[u8], bin: u64) -> Place
     requires { ⌜ 1 ≤ length (now file) ⌝ }
     ensures { λ r. ⌜ FindsBin bin (now (file .entry)) r ⌝ }
 {
-    let mut next: usize = 1;
+    let mut next: usize = VERSION_SIZE;
     let mut passed: u64 = 0;
-    let mut start: usize = 0;
-    let mut end: usize = 0;
-    while next < file.len() {
-        let left = file.len() - next;
-        if left < NUMBER_SIZE {
-            return Place::Refused(Refusal::Short);
+    let mut found = Place::Refused(Refusal::NoBin);
+    loop {
+        let step = next_bin(file, Position(next));
+        match step {
+            NextBin::Short => return Place::Refused(Refusal::Short),
+            NextBin::End => return found,
+            NextBin::Bin { start, end } => {
+                if passed == bin {
+                    found = Place::At { start, end };
+                }
+                next = end.0 + NUMBER_SIZE;
+                passed = passed + 1;
+            }
         }
-        let size = numbers::be32(file, Position(next)) as usize;
-        if size < NUMBER_SIZE {
-            return Place::Refused(Refusal::Short);
-        }
-        if left < size + FRAME_SIZE {
-            return Place::Refused(Refusal::Short);
-        }
-        if passed == bin {
-            start = next + NUMBER_SIZE;
-            end = start + size;
-        }
-        next = next + FRAME_SIZE + size;
-        passed = passed + 1;
     }
-    if bin < passed {
-        return Place::At {
-            start: Position(start),
-            end: Position(end),
-        };
-    }
-    Place::Refused(Refusal::NoBin)
 }
 
-// Where the bytes behind a bin's magic stand, if magic and checksum are right. The checksum covers the whole bin.
+// Whether a bin begins with the magic.
+fn has_magic(bin: &[u8]) -> bool
+    requires { ⌜ numberSize ≤ length (now bin) ⌝ }
+    ensures { λ r. ⌜ r ≡ hasMagic (now (bin .entry)) ⌝ }
+{
+    numbers::be32(bin, Position(0)) == MAGIC
+}
+
+// Whether the stored checksum is that of the whole bin.
+fn checksum_holds(bin: &[u8], stored: u64) -> bool
+    ensures { λ r. ⌜ r ≡ checksumHolds (now (bin .entry)) stored ⌝ }
+{
+    crc32::checksum(bin) as u64 == stored
+}
+
+// Where the bytes behind a bin's magic stand, if magic and checksum are right.
 fn open_bin(file: &[u8], start: Position, end: Position) -> Place
     requires { ⌜ BinFits (start .0) (end .0) (length (now file)) ⌝ }
     ensures { λ r. ⌜ OpensBin (start .0) (end .0) (now (file .entry)) r ⌝ }
 {
     let from = start.0;
     let to = end.0;
-    if numbers::be32(file, Position(from)) != MAGIC {
+    let bitmap = from + NUMBER_SIZE;
+    if !has_magic(&file[from..to]) {
         return Place::Refused(Refusal::Magic);
     }
-    let bitmap = from + NUMBER_SIZE;
-    if crc32::checksum(&file[from..to]) as u64 != numbers::be32(file, Position(to)) {
+    if !checksum_holds(&file[from..to], numbers::be32(file, Position(to))) {
         return Place::Refused(Refusal::Checksum);
     }
     Place::At {
         start: Position(bitmap),
-        end: Position(to),
+        end,
     }
 }
 
@@ -104,26 +145,25 @@ fn find_bitmap(file: &[u8], bin: u64) -> Place
     }
 }
 
-// Marks the rows of the bitmap that stands from `start` to `end` in a field for `rows` rows that is clear, and counts them.
-fn mark_bitmap(
-    file: &[u8],
-    start: Position,
-    end: Position,
-    rows: u64,
-    field: &mut [u8],
-) -> Deletions
-    requires { ⌜ PartFits (start .0) (end .0) (length (now file)) ⌝ }
-    ensures { λ r. ⌜ MarksRows rows (markBitmap (part (start .0) (end .0) (now (file .entry))) rows) (now (field .entry)) (now (field .exit)) r ⌝ }
+// Marks the rows of the bitmap that fills the given bytes in a field for `rows` rows that is clear, and counts them. The field is not touched before the bitmap
+// is measured.
+fn mark_bitmap(bitmap: &[u8], rows: u64, field: &mut [u8]) -> Deletions
+    ensures { λ r. ⌜ MarksRows rows (markBitmap (now (bitmap .entry)) rows) (now (field .entry)) (now (field .exit)) r ⌝ }
 {
-    let from = start.0;
-    let to = end.0;
-    let done = roaring::mark(field, &file[from..to], Extent::Exactly(to - from), rows);
-    match done {
-        Marked::Refused(r) => Deletions::Refused(r),
-        Marked::Done {
+    let measured = roaring::measure(bitmap, Extent::Exactly(bitmap.len()));
+    match measured {
+        Measured::Unsound(_) => Deletions::Refused(Refusal::Bitmap),
+        Measured::Sound {
             length: _,
-            twice: _,
-        } => Deletions::Deleted(row_field::count(field, rows)),
+            rows: _,
+            end,
+        } => {
+            if rows < end {
+                return Deletions::Refused(Refusal::Range);
+            }
+            roaring_mark::mark(field, bitmap, rows);
+            Deletions::Deleted(row_field::count(field, rows))
+        }
     }
 }
 
@@ -134,7 +174,11 @@ fn mark_bin(file: &[u8], bin: u64, rows: u64, field: &mut [u8]) -> Deletions
     let place = find_bitmap(file, bin);
     match place {
         Place::Refused(r) => Deletions::Refused(r),
-        Place::At { start, end } => mark_bitmap(file, start, end, rows, field),
+        Place::At { start, end } => {
+            let from = start.0;
+            let to = end.0;
+            mark_bitmap(&file[from..to], rows, field)
+        }
     }
 }
 

@@ -165,7 +165,7 @@ module _ (s : List ℕ) where
 
             pub fixed-fields : h ≤ 1 → FixedOf s (Fields (eqb v 2) (eqb h 1) rows n)
             unfolding check
-            fixed-fields w = (λ t k. flagged t k ∙ simp (le-leb h 1 w), r, rw e)
+            fixed-fields w = (λ t k. flagged t k ∙ simp (le-leb h 1 w), r, rw e, rw M at (N .2))
 
 -- ---- the whole, by its fields, null's entry and its entries
 

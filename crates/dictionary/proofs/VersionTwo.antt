@@ -1,13 +1,13 @@
 -- The reading of version 2 by the code's steps: the directory, a block's entries, the blocks.
-use Prim.Native.Nat.{ℕ, zero, suc, _+_, _-_, _≤_, _<_}
+use Prim.Native.Nat.{ℕ, _+_, _-_, _≤_, _<_}
 use mathlib.Core.Path.{_≡_, refl, _∙_}
 use mathlib.Core.Bool.{Bool, true, false, _&&_, cond}
 use mathlib.Core.List.{List, [], _∷_, _++_, append-assoc, append-nil}
 use native.Mathlib.Omega.{arith}
 use lib.Dec.{eqb, ltb, leb}
-use lib.ListN.{length, take, drop, length-append, length-drop}
+use lib.ListN.{length, drop, length-append, length-drop}
 use lib.Seq.{drop-drop}
-use borrow.Author.Tests.{leb-true, leb-false, le-leb, lt-leb, lt-ltb, le-ltb, eq-eqb, ne-eqb}
+use borrow.Author.Tests.{le-leb, lt-leb, lt-ltb, le-ltb, eq-eqb, ne-eqb}
 use Rattle.numbers.specs.Meaning.{big, beAt, number, signBit, position}
 use Rattle.numbers.proofs.Laws.{numberAt-drop}
 use Rattle.refusal.specs.declared.Refusal.{Refusal}
@@ -23,69 +23,11 @@ use Rattle.dictionary.specs.declared.Directory.{Directory}
 use Rattle.dictionary.specs.declared.Block.{Block}
 use Rattle.dictionary.specs.declared.Blocks.{Blocks}
 use Rattle.dictionary.specs.declared.AllEntries.{AllEntries}
-use Rattle.dictionary.specs.declared.ValueEnd.{ValueEnd}
 use Rattle.dictionary.specs.Layout.{Entry, mostBlocks}
-use Rattle.dictionary.specs.Reading.{Dictionary, Listing, listings, past, isDue, entriesTwo, behind, blocksOf, blocked}
-use Rattle.dictionary.specs.Promises.{AfterBlock, AfterListings, AfterEntries, entryOf, cursor, EntriesFrom, ValueAt, CountAt, ListingsFrom, DirectoryAt, bytesAt, cellAt, BlockEntriesAt, BlockAt, BlocksAt, AllEntriesAt}
-use Rattle.dictionary.proofs.Steps.{offset-behind, drop-past, value-ok, value-refused, word-at, word-short, stand-cons, stand-opening}
-
--- ---- the directory: i of the n listings from `start` on are read, and `rest` is left
-
-abbrev listing : ℕ → List ℕ → Listing
-listing k s = record { first = take k s; at = beAt 4 s k }
-
-pub record Listings (t n : ℕ) (start : List ℕ) (i : ℕ) (rest : List ℕ) : Type 0 where
-  pub ds : List Listing
-  pub so : (f : AfterListings) → listings t n [] start f ≡ listings t (n - i) ds rest f
-  pub count : length ds ≡ i
-  pub stand : (more : List Listing) → ListingsFrom t rest more → ListingsFrom t start (ds ++ more)
-
-pub listings-first : (t n : ℕ) (s : List ℕ) → Listings t n s 0 s
-listings-first t n s = let z : n - 0 ≡ n = omega arith in record { ds = []; so = λ f. rw z; count = refl; stand = λ more h. h }
-
-listings-turn : (t m : ℕ) (ds : List Listing) (s : List ℕ) (f : AfterListings) (k : ℕ) → 0 < m → valueSize Short Dict t s ≡ ok k
-    → listings t m ds s f ≡ number big 4 (refuse Short) (drop k s) (λ at s'. listings t (m - 1) (ds ++ (record { first = take k s; at = at } ∷ [])) s' f)
-unfolding listings
-listings-turn t zero ds s f k z e = absurd (omega arith)
-listings-turn t (suc m) ds s f k z e = let c : suc m - 1 ≡ m = omega arith in simp c (value-ok t s _ k e)
-
-listings-broken : (t m : ℕ) (ds : List Listing) (s : List ℕ) (f : AfterListings) (r : Refusal) → 0 < m → valueSize Short Dict t s ≡ refuse r
-    → listings t m ds s f ≡ refuse r
-unfolding listings
-listings-broken t zero ds s f r z e = absurd (omega arith)
-listings-broken t (suc m) ds s f r z e = value-refused t s _ r e
-
-module _ {t n : ℕ} {start : List ℕ} {i : ℕ} {rest : List ℕ} (st : Listings t n start i rest) where
-  pub listings-done : n ≤ i → (f : AfterListings) → listings t n [] start f ≡ f (st .ds) rest
-  unfolding listings
-  listings-done e f = let z : n - i ≡ 0 = omega arith in st .so f ∙ simp z
-
-  pub listings-stand : ListingsFrom t start (st .ds)
-  unfolding ListingsFrom
-  listings-stand = rw append-nil at (st .stand [] tt)
-
-  module _ (lt : i < n) where
-    pub listings-refused : {r : Refusal} → valueSize Short Dict t rest ≡ refuse r → (f : AfterListings) → listings t n [] start f ≡ refuse r
-    listings-refused {r} e f = st .so f ∙ listings-broken t (n - i) (st .ds) rest f r (omega arith) e
-
-    module _ {k : ℕ} (e : valueSize Short Dict t rest ≡ ok k) where
-      listings-unrolled : (f : AfterListings) → listings t n [] start f
-          ≡ number big 4 (refuse Short) (drop k rest) (λ at s'. listings t (n - i - 1) (st .ds ++ (record { first = take k rest; at = at } ∷ [])) s' f)
-      listings-unrolled f = st .so f ∙ listings-turn t (n - i) (st .ds) rest f k (omega arith) e
-
-      pub listings-short : length rest - k < 4 → (f : AfterListings) → listings t n [] start f ≡ refuse Short
-      listings-short h f = listings-unrolled f ∙ word-short 4 rest k _ h
-
-      pub listings-next : k + 4 ≤ length rest → Listings t n start (i + 1) (drop (k + 4) rest)
-      unfolding ListingsFrom
-      listings-next h =
-          let c : n - i - 1 ≡ n - (i + 1) = omega arith in
-          record {
-            ds = st .ds ++ (listing k rest ∷ []);
-            so = λ f. listings-unrolled f ∙ word-at 4 rest k _ h ∙ rw c;
-            count = simp length-append (omega (arith, st .count));
-            stand = λ more g. rw append-assoc (st .stand (listing k rest ∷ more) (k, e, h, refl, g));
-          }
+use Rattle.dictionary.specs.Reading.{Dictionary, Listing, listings, entriesTwo, behind, blocksOf, blocked}
+use Rattle.dictionary.specs.Promises.{AfterBlock, AfterEntries, cursor, EntriesFrom, EndsAt, CountAt, ListingsFrom, ListingFrom, DirectoryAt, bytesAt, cellAt, BlockEntriesAt, BlockAt, BlocksAt, AllEntriesAt}
+use Rattle.dictionary.proofs.Steps.{offset-behind, drop-past, word-at, word-short, stand-opening}
+use Rattle.dictionary.proofs.Walks.{Walked, walk-done, walk-stand, listing, directory, inBlock}
 
 -- ---- the value before, and the one that is due: what a test says of a span that may have no bytes
 
@@ -102,105 +44,59 @@ span p e = record { start = position p; end = position e }
 cell-some : (s : List ℕ) (c : Span) → c .start .0 < c .end .0 → cellAt s c ≡ value (bytesAt s c)
 cell-some s c h = rw (lt-ltb (c .start .0) (c .end .0) h)
 
--- ---- a block's entries: i of the n from `start` on are read; behind them the value before is b, and h what the next must be
+-- ---- a directory's listings, and a block's entries, by their walks
 
-pub record InBlock (t n : ℕ) (before due : Cell) (start : List ℕ) (i : ℕ) (b h : Cell) (rest : List ℕ) : Type 0 where
-  pub new : List Entry
-  pub so : (es : List Entry) (f : AfterBlock) → entriesTwo t n before due es start f ≡ entriesTwo t (n - i) b h (es ++ new) rest f
-  pub count : length new ≡ i
-  pub stand : (more : List Entry) → EntriesFrom t true (n - i) rest more → EntriesFrom t true n start (new ++ more)
+pub directory-ends : {t n i : ℕ} (s : List ℕ) (at p : ℕ) → Walked (directory t) n tt (drop at s) i tt (drop p s) → i ≤ n → n ≤ i → p ≤ length s
+    → DirectoryAt t n s at (Directory.Ends (position p))
+unfolding listings
+directory-ends s at p st l m h = (st .items, λ f. walk-done st m f, (walk-stand st, omega (arith, st .count)), h)
 
-pub in-block-first : (t n : ℕ) (before due : Cell) (s : List ℕ) → InBlock t n before due s 0 before due s
-in-block-first t n before due s =
-    let z : n - 0 ≡ n = omega arith in
-    record { new = []; so = λ es f. rw (z, append-nil); count = refl; stand = λ more g. rw z at g }
+-- an entry's rule: its value is past the one before, and the one that is due
+module _ {x a : Bool} (g : x ≡ a) where
+  pub rule-past : (b : Bool) → x ≡ false → (a && b) ≡ false
+  rule-past b f = rw (← g, f)
 
-abbrev numbers : (t m k : ℕ) (es : List Entry) (s : List ℕ) (f : AfterBlock) → Out Refusal Dictionary
-numbers t m k es s f =
-    number big 4 (refuse Short) (drop k s) (λ offset s'. number big 4 (refuse Short) s' (λ extent s'.
-    entriesTwo t m (value (take k s)) null (es ++ (record { cell = value (take k s); offset = offset; extent = extent } ∷ [])) s' f))
+  module _ (p : x ≡ true) {y b : Bool} (h : y ≡ b) where
+    pub rule-due : y ≡ false → (a && b) ≡ false
+    rule-due f = rw (← g, p, ← h, f)
 
-in-block-turn : (t m : ℕ) (b h : Cell) (es : List Entry) (s : List ℕ) (f : AfterBlock) (k : ℕ) → 0 < m → valueSize Short Dict t s ≡ ok k
-    → entriesTwo t m b h es s f ≡ check (past t b (take k s) && isDue h (take k s)) Dict (numbers t (m - 1) k es s f)
+    pub rule-kept : y ≡ true → (a && b) ≡ true
+    rule-kept q = rw (← g, p, ← h, q)
+
+-- behind the value from p to e, that one is before the next, and none is due
+pub block-on : {t n : ℕ} {x₀ : Cell × Cell} {start : List ℕ} {i : ℕ} {rest : List ℕ} (s : List ℕ) (p e : ℕ) → p < e → Walked (inBlock t) n x₀ start i (value (bytesAt s (span p e)), null) rest
+    → Walked (inBlock t) n x₀ start i (cellAt s (span p e), null) rest
+block-on s p e l st = rw (cell-some s (span p e) l) st
+
+pub block-fails : (t n : ℕ) {r : Refusal} (s : List ℕ) (before due : Span) (at : ℕ)
+    → ((q : List Entry × AfterBlock) → inBlock t .reads q n (cellAt s before, cellAt s due) [] (drop at s) ≡ refuse r) → BlockEntriesAt t n before due s at (BlockEntries.Refused r)
+block-fails t n s before due at h es f = rw append-nil at (h (es, f))
+
+pub block-ends : {t n i : ℕ} {h : Cell} (s : List ℕ) (before due : Span) (at p : ℕ) (last : Span)
+    → Walked (inBlock t) n (cellAt s before, cellAt s due) (drop at s) i (cellAt s last, h) (drop p s) → i ≤ n → n ≤ i → at ≤ p → p ≤ length s → last .end .0 ≤ length s
+    → BlockEntriesAt t n before due s at (BlockEntries.To (position p) last)
 unfolding entriesTwo
-in-block-turn t zero b h es s f k z e = absurd (omega arith)
-in-block-turn t (suc m) b h es s f k z e = let c : suc m - 1 ≡ m = omega arith in simp c (value-ok t s _ k e)
-
-in-block-broken : (t m : ℕ) (b h : Cell) (es : List Entry) (s : List ℕ) (f : AfterBlock) (r : Refusal) → 0 < m → valueSize Short Dict t s ≡ refuse r
-    → entriesTwo t m b h es s f ≡ refuse r
-unfolding entriesTwo
-in-block-broken t zero b h es s f r z e = absurd (omega arith)
-in-block-broken t (suc m) b h es s f r z e = value-refused t s _ r e
-
-module _ {t n : ℕ} {before due : Cell} {start : List ℕ} {i : ℕ} {b h : Cell} {rest : List ℕ} (st : InBlock t n before due start i b h rest) where
-  pub in-block-done : n ≤ i → (es : List Entry) (f : AfterBlock) → entriesTwo t n before due es start f ≡ f b (es ++ st .new) rest
-  unfolding entriesTwo
-  in-block-done l es f = let z : n - i ≡ 0 = omega arith in st .so es f ∙ simp z
-
-  pub in-block-stand : n ≤ i → (more : List Entry) → EntriesFrom t true 0 rest more → EntriesFrom t true n start (st .new ++ more)
-  in-block-stand l more g = let z : n - i ≡ 0 = omega arith in st .stand more (rw z g)
-
-  module _ (lt : i < n) where
-    pub in-block-refused : {r : Refusal} → valueSize Short Dict t rest ≡ refuse r
-        → (es : List Entry) (f : AfterBlock) → entriesTwo t n before due es start f ≡ refuse r
-    in-block-refused {r} e es f = st .so es f ∙ in-block-broken t (n - i) b h (es ++ st .new) rest f r (omega arith) e
-
-    module _ {k : ℕ} (e : valueSize Short Dict t rest ≡ ok k) where
-      in-block-unrolled : (es : List Entry) (f : AfterBlock) → entriesTwo t n before due es start f
-          ≡ check (past t b (take k rest) && isDue h (take k rest)) Dict (numbers t (n - i - 1) k (es ++ st .new) rest f)
-      in-block-unrolled es f = st .so es f ∙ in-block-turn t (n - i) b h (es ++ st .new) rest f k (omega arith) e
-
-      pub in-block-low : {x : Bool} → x ≡ past t b (take k rest) → x ≡ false
-          → (es : List Entry) (f : AfterBlock) → entriesTwo t n before due es start f ≡ refuse Dict
-      unfolding check
-      in-block-low g c es f = in-block-unrolled es f ∙ simp (← g, c)
-
-      pub in-block-other : {x y : Bool} → x ≡ past t b (take k rest) → x ≡ true → y ≡ isDue h (take k rest) → y ≡ false
-          → (es : List Entry) (f : AfterBlock) → entriesTwo t n before due es start f ≡ refuse Dict
-      unfolding check
-      in-block-other g c d m es f = in-block-unrolled es f ∙ simp (← g, c, ← d, m)
-
-      module _ {x y : Bool} (g : x ≡ past t b (take k rest)) (higher : x ≡ true) (d : y ≡ isDue h (take k rest)) (listed : y ≡ true) where
-        in-block-admitted : (es : List Entry) (f : AfterBlock) → entriesTwo t n before due es start f ≡ numbers t (n - i - 1) k (es ++ st .new) rest f
-        unfolding check
-        in-block-admitted es f = in-block-unrolled es f ∙ simp (← g, higher, ← d, listed)
-
-        pub in-block-short : length rest - k < 8 → (es : List Entry) (f : AfterBlock) → entriesTwo t n before due es start f ≡ refuse Short
-        in-block-short l es f = in-block-admitted es f ∙ numbers-short (leb (k + 4) (length rest)) refl
-          where
-            numbers-short : (w : Bool) → leb (k + 4) (length rest) ≡ w → numbers t (n - i - 1) k (es ++ st .new) rest f ≡ refuse Short
-            numbers-short true w = word-at 4 rest k _ (leb-true (k + 4) (length rest) w) ∙ word-short 4 rest (k + 4) _ (omega arith)
-            numbers-short false w = let v : length rest < k + 4 = leb-false (k + 4) (length rest) w in word-short 4 rest k _ (omega arith)
-
-        pub in-block-next : k + 8 ≤ length rest → InBlock t n before due start (i + 1) (value (take k rest)) null (drop (k + 8) rest)
-        in-block-next l =
-            let c : n - i - 1 ≡ n - (i + 1) = omega arith in
-            let q : k + 4 + 4 ≡ k + 8 = omega arith in
-            record {
-              new = st .new ++ (entryOf true k rest ∷ []);
-              so = λ es f. in-block-admitted es f ∙ word-at 4 rest k _ (omega arith) ∙ word-at 4 rest (k + 4) _ (omega arith) ∙ simp (c, q, append-assoc);
-              count = simp length-append (omega (arith, st .count));
-              stand = λ more m. rw append-assoc (st .stand (entryOf true k rest ∷ more) (stand-cons t true (n - i) rest k more (omega arith) e l (rw c m)));
-            }
-
--- the same at the code's positions: the value stands from p to e
-pub in-block-on : {t n : ℕ} {before due : Cell} {start : List ℕ} {i : ℕ} {b h : Cell} (s : List ℕ) (p e : ℕ) → InBlock t n before due start i b h (drop p s) → i < n
-    → ValueAt t s p (ValueEnd.To (position e)) → {x y : Bool} → x ≡ past t b (take (e - p) (drop p s)) → x ≡ true → y ≡ isDue h (take (e - p) (drop p s)) → y ≡ true → e + 8 ≤ length s
-    → InBlock t n before due start (i + 1) (cellAt s (span p e)) null (drop (e + 8) s)
-in-block-on s p e st lt v g c d m r =
-    let l : e - p + 8 ≤ length (drop p s) = simp length-drop (omega arith) in
-    rw (drop-past s p e 8 (omega arith), ← cell-some s (span p e) (v .1)) at (in-block-next st lt (v .0) g c d m l)
+block-ends {n = n} {i = i} s before due at p last st l m a r e =
+    let z : n - i ≡ 0 = omega arith in
+    ((st .items, λ es f. rw append-nil at (walk-done st m (es, f)), omega (arith, st .count), λ more g. st .stand more (rw z g)), a, r, e)
 
 -- ---- a block: its listing stands at q, with a value that ends at e, and the block at p
 
 listed-first : (t : ℕ) (s : List ℕ) (k : ℕ) (d : Listing) (ds : List Listing) → valueSize Short Dict t s ≡ ok k → ListingsFrom t s (d ∷ ds)
-    → (d ≡ listing k s) × (k + 4 ≤ length s) × ListingsFrom t (drop (k + 4) s) ds
+    → (d ≡ listing k s) × ListingsFrom t (drop (k + 4) s) ds
 unfolding ListingsFrom
-listed-first t s k d ds e l = let q : l .0 ≡ k = cc (l .1) in (rw q at (l .3), rw q at (l .2), rw q at (l .4))
+listed-first t s k d ds e l = let q : l .0 ≡ k = cc (l .1) in (rw q at (l .3), rw q at (l .4))
 
-pub listed-lost : (t : ℕ) (s : List ℕ) (q : ℕ) (r : Refusal) (d : Listing) (ds : List Listing) → ValueAt t s q (ValueEnd.Refused r) → ListingsFrom t (drop q s) (d ∷ ds) → ⊥
+pub listed-from : (t : ℕ) (s : List ℕ) (ds : List Listing) → ListingsFrom t s ds → 0 < length ds → ListingFrom t s
 unfolding ListingsFrom
-listed-lost t s q r d ds e l = let z : _≡_ {A = ℕ} 0 1 = cc (l .1) in omega arith
+listed-from t s [] l z = absurd (omega arith)
+listed-from t s (d ∷ ds) l z = (l .0, l .1, l .2)
+
+pub listed-end : (t : ℕ) (s : List ℕ) (q e : ℕ) → EndsAt t s q e → ListingFrom t (drop q s) → e + 4 ≤ length s
+listed-end t s q e v l =
+    let z : l .0 ≡ e - q = cc (l .1, v .0) in
+    let r = rw length-drop at (l .2) in
+    omega arith
 
 behind-at : (s : List ℕ) (base p : ℕ) → base ≤ p → p ≤ length s → behind (drop base s) (drop p s) ≡ p - base
 unfolding behind
@@ -210,16 +106,15 @@ behind-at s base p h l = simp length-drop (omega arith)
 pub record AtBlock (t : ℕ) (s : List ℕ) (base q p e : ℕ) (before : Span) (d : Listing) (ds : List Listing) : Type 0 where
   pub from : base ≤ p
   pub to : p ≤ length s
-  pub value : ValueAt t s q (ValueEnd.To (position e))
+  pub value : EndsAt t s q e
   pub listed : ListingsFrom t (drop q s) (d ∷ ds)
 
 module _ {t : ℕ} {s : List ℕ} {base q p e : ℕ} {before : Span} {d : Listing} {ds : List Listing} (here : AtBlock t s base q p e before d ds) where
-  pub block-listed : (e + 4 ≤ length s) × ListingsFrom t (drop (e + 4) s) ds
+  pub block-listed : ListingsFrom t (drop (e + 4) s) ds
   block-listed =
       let h = listed-first t (drop q s) (e - q) d ds (here .value .0) (here .listed) in
-      let r = rw length-drop at (h .1) in
       let v = here .value in
-      (omega arith, rw (drop-past s q e 4 (omega arith)) at (h .2))
+      rw (drop-past s q e 4 (omega arith)) at (h .1)
 
   module _ (es : List Entry) (f : AfterEntries) where
     block-turn : blocksOf t (d ∷ ds) (drop base s) (cellAt s before) es (drop p s) f ≡ check (eqb (beAt 4 s e) (p - base)) Dict
@@ -384,18 +279,18 @@ module _ (t n : ℕ) (s : List ℕ) (at : ℕ) where
           two-opened rows ns = two-fit rows ns ∙ d .1 _ ∙ rw o (word-at 4 s e _ r)
 
           pub two-broken : {r : Refusal} → BlocksAt t b s (at + 4) (e + 4) (Blocks.Refused r) → AllEntriesAt true t n s at (AllEntries.Refused r)
-          two-broken z rows ns = two-opened rows ns ∙ z (d .0) (d .2) (d .3) _
+          two-broken z rows ns = two-opened rows ns ∙ z (d .0) (d .2) _
 
           module _ {next sum : ℕ} (z : BlocksAt t b s (at + 4) (e + 4) (Blocks.End (position next) sum)) where
             es : List Entry
-            es = z .0 (d .0) (d .2) (d .3) .0
+            es = z .0 (d .0) (d .2) .0
 
             two-read : (rows : ℕ) (ns : List Entry) → blocked t rows n ns (drop at s) ≡ check (eqb offset (next - (e + 4))) Dict (check (eqb sum n) Dict
                 (ok (record { rows = rows; entries = ns ++ es; region = drop next s })))
             unfolding es
             two-read rows ns =
-                two-opened rows ns ∙ z .0 (d .0) (d .2) (d .3) .1 _
-                ∙ rw (behind-at s (e + 4) next (z .1) (z .2), z .0 (d .0) (d .2) (d .3) .2)
+                two-opened rows ns ∙ z .0 (d .0) (d .2) .1 _
+                ∙ rw (behind-at s (e + 4) next (z .1) (z .2), z .0 (d .0) (d .2) .2)
 
             pub two-offset : (offset ≡ next - (e + 4) → ⊥) → AllEntriesAt true t n s at (AllEntries.Refused Dict)
             unfolding check
@@ -411,8 +306,8 @@ module _ (t n : ℕ) (s : List ℕ) (at : ℕ) where
               two-ends q = (
                 es,
                 λ rows ns. two-read rows ns ∙ simp (eq-eqb offset (next - (e + 4)) h, eq-eqb sum n q),
-                z .0 (d .0) (d .2) (d .3) .2 ∙ q,
-                z .0 (d .0) (d .2) (d .3) .3,
+                z .0 (d .0) (d .2) .2 ∙ q,
+                z .0 (d .0) (d .2) .3,
                 refl,
                 r,
                 z .2,

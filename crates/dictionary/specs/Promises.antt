@@ -30,7 +30,7 @@ use Rattle.dictionary.specs.declared.BlockEntries.{BlockEntries}
 use Rattle.dictionary.specs.declared.Block.{Block}
 use Rattle.dictionary.specs.declared.Blocks.{Blocks}
 use Rattle.dictionary.specs.declared.AllEntries.{AllEntries}
-use Rattle.dictionary.specs.Layout.{Entry, someHas}
+use Rattle.dictionary.specs.Layout.{Entry, someHas, mostValues1, mostValues2}
 use Rattle.dictionary.specs.Reading.{Dictionary, Listing, countAtMost, nullOf, entriesOne, listings, entriesTwo, blocksOf, blocked, dictionary}
 
 -- ---- where entries stand
@@ -175,14 +175,28 @@ AfterEntries = List Entry → List ℕ → Out Refusal Dictionary
 abbrev pub AfterBlock : Type 0
 AfterBlock = Cell → List Entry → List ℕ → Out Refusal Dictionary
 
--- a value at a position, and where it ends
+-- a value stands at a position, and where it ends
+abbrev pub StandsAt : ℕ → List ℕ → ℕ → Type 0
+StandsAt t s at = (k : ℕ) × (valueSize Short Dict t (drop at s) ≡ ok k)
+
+abbrev pub EndsAt : ℕ → List ℕ → ℕ → ℕ → Type 0
+EndsAt t s at e = (valueSize Short Dict t (drop at s) ≡ ok (e - at)) × (at < e) × (e ≤ length s)
+
+-- what is read of any bytes at a position as a value
 abbrev pub ValueAt : ℕ → List ℕ → ℕ → ValueEnd → Type 0
 ValueAt t s at (ValueEnd.Refused r) = valueSize Short Dict t (drop at s) ≡ refuse r
-ValueAt t s at (ValueEnd.To e) = (valueSize Short Dict t (drop at s) ≡ ok (e .0 - at)) × (at < e .0) × (e .0 ≤ length s)
+ValueAt t s at (ValueEnd.To e) = EndsAt t s at (e .0)
+
+-- i entries es of version 1 stand at the front of s, of `left` in all
+pub record OnesFrom (t i : ℕ) (s : List ℕ) (es : List Entry) : Type 0 where
+  pub left : ℕ
+  pub stand : EntriesFrom t false left s es
+  pub count : length es ≡ i
+  pub within : i ≤ left
 
 -- whether i entries of version 1 that stand at a position have the value v
 abbrev pub HasValueAt : ℕ → ℕ → List ℕ → ℕ → List ℕ → Bool → Type 0
-HasValueAt t i s at v r = (n : ℕ) (es : List Entry) → EntriesFrom t false n (drop at s) es → length es ≡ i → i ≤ n → r ≡ someHas (value v) es
+HasValueAt t i s at v r = (es : List Entry) → OnesFrom t i (drop at s) es → r ≡ someHas (value v) es
 
 -- a count at a position
 abbrev pub CountAt : ℕ → List ℕ → ℕ → Count → Type 0
@@ -205,12 +219,16 @@ NullAt version2 has s at (Null.Numbers offset extent next) =
 abbrev pub entriesOf : Bool → ℕ → ℕ → ℕ → List Entry → List ℕ → Out Refusal Dictionary
 entriesOf version2 t rows n ns s = cond version2 (blocked t rows n ns s) (entriesOne t rows n ns [] s)
 
+-- 01's limit on the value number of each version
+abbrev pub mostValues : Bool → ℕ
+mostValues version2 = cond version2 mostValues2 mostValues1
+
 -- the ten bytes that every dictionary of a known type begins with
 abbrev pub FixedOf : List ℕ → Fixed → Type 0
 FixedOf s (Fixed.Refused r) = (t : ℕ) → t < types → dictionary t s ≡ refuse r
 FixedOf s (Fixed.Fields version2 has rows values) =
     ((t : ℕ) → t < types → dictionary t s ≡ nullOf version2 has (drop 10 s) (λ ns s. entriesOf version2 t rows values ns s)) × (10 ≤ length s)
-    × (version2 ≡ eqb (getD s 0 0) 2)
+    × (version2 ≡ eqb (getD s 0 0) 2) × (values ≤ mostValues version2)
 
 -- ---- version 2
 
@@ -220,12 +238,19 @@ ListingsFrom t s [] = Unit {0}
 ListingsFrom t s (d ∷ ds) =
     (k : ℕ) × (valueSize Short Dict t s ≡ ok k) × (k + 4 ≤ length s) × (d ≡ record { first = take k s; at = beAt 4 s k }) × ListingsFrom t (drop (k + 4) s) ds
 
--- n listings at a position, and where they end
+-- n listings ds stand there; and one does
+abbrev pub DirectoryFrom : ℕ → ℕ → List ℕ → List Listing → Type 0
+DirectoryFrom t n s ds = ListingsFrom t s ds × (length ds ≡ n)
+
+abbrev pub ListingFrom : ℕ → List ℕ → Type 0
+ListingFrom t s = (k : ℕ) × (valueSize Short Dict t s ≡ ok k) × (k + 4 ≤ length s)
+
+-- what is read of any bytes at a position as n listings, and where they end
 abbrev pub DirectoryAt : ℕ → ℕ → List ℕ → ℕ → Directory → Type 0
 DirectoryAt t n s at (Directory.Refused r) = (f : AfterListings) → listings t n [] (drop at s) f ≡ refuse r
 DirectoryAt t n s at (Directory.Ends next) =
     (ds : List Listing) × ((f : AfterListings) → listings t n [] (drop at s) f ≡ f ds (drop (next .0) s))
-    × ListingsFrom t (drop at s) ds × (length ds ≡ n) × (next .0 ≤ length s)
+    × DirectoryFrom t n (drop at s) ds × (next .0 ≤ length s)
 
 -- a span's bytes, and the value that it has: none where it has no bytes
 abbrev pub bytesAt : List ℕ → Span → List ℕ
@@ -259,10 +284,10 @@ BlockAt t before s base q p (Block.Ends listing next last number) =
 -- b blocks from base on, whose directory stands at dir: where the last ends, and the number of entries in all
 abbrev pub BlocksAt : ℕ → ℕ → List ℕ → ℕ → ℕ → Blocks → Type 0
 BlocksAt t b s dir base (Blocks.Refused r) =
-    (ds : List Listing) → ListingsFrom t (drop dir s) ds → length ds ≡ b
+    (ds : List Listing) → DirectoryFrom t b (drop dir s) ds
     → (f : AfterEntries) → blocksOf t ds (drop base s) null [] (drop base s) f ≡ refuse r
 BlocksAt t b s dir base (Blocks.End next sum) =
-    ((ds : List Listing) → ListingsFrom t (drop dir s) ds → length ds ≡ b
+    ((ds : List Listing) → DirectoryFrom t b (drop dir s) ds
     → (es : List Entry) × ((f : AfterEntries) → blocksOf t ds (drop base s) null [] (drop base s) f ≡ f es (drop (next .0) s))
     × (length es ≡ sum) × EntriesFrom t true 0 (drop base s) es)
     × (base ≤ next .0) × (next .0 ≤ length s)

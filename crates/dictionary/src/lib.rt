@@ -1,14 +1,16 @@
 // A body's dictionary (document 01, "Bitmap body"), of either version: its fields and entries checked in byte order, and a cursor over the entries.
 ghost use mathlib.Core.Path.{_≡_};
-ghost use Prim.Native.Nat.{_+_, _<_, _≤_};
+ghost use Prim.Native.Nat.{_+_, _≤_};
 ghost use mathlib.Core.Bool.{true, false, cond};
+ghost use mathlib.Core.List.{List};
 ghost use lib.Dec.{eqb, leb};
-ghost use lib.ListN.{length};
-ghost use Rattle.dictionary.specs.Layout.{mostValues1, mostValues2, mostBlocks};
-ghost use Rattle.dictionary.specs.Reading.{past, isDue};
+ghost use lib.ListN.{length, drop};
+ghost use Rattle.refusal.specs.Meaning.{limit};
+ghost use Rattle.dictionary.specs.Layout.{Entry, mostValues1, mostBlocks};
+ghost use Rattle.dictionary.specs.Reading.{Listing, past, isDue};
 ghost use Rattle.dictionary.specs.Promises.{tail, extentAt, noEntry, entryInBlock, NextAt, ReadsDictionary, cellAt, bytesAt};
-ghost use Rattle.dictionary.specs.Promises.{ValueAt, HasValueAt, CountAt, OffsetAt, NullAt, FixedOf, DirectoryAt};
-ghost use Rattle.dictionary.specs.Promises.{BlockEntriesAt, BlockAt, BlocksAt, AllEntriesAt};
+ghost use Rattle.dictionary.specs.Promises.{StandsAt, EndsAt, ValueAt, OnesFrom, HasValueAt, CountAt, OffsetAt, NullAt, mostValues, FixedOf};
+ghost use Rattle.dictionary.specs.Promises.{ListingFrom, DirectoryFrom, DirectoryAt, BlockEntriesAt, BlockAt, BlocksAt, AllEntriesAt};
 use numbers::Position;
 use refusal::Refusal;
 use stored_value::Sized;
@@ -19,6 +21,12 @@ const MOST_VALUES_1: u64 = 4_096;
 const MOST_VALUES_2: u64 = 65_536;
 
 const MOST_BLOCKS: u64 = 65_536;
+
+// Up to so many values each is compared with those before it: zeroing a table would take longer.
+const FEW_VALUES: u64 = 32;
+
+// The numbers of a hash table with room for as many values as version 1 may have.
+const TABLE: usize = hash_table::CHAINS + hash_table::NUMBERS * MOST_VALUES_1 as usize;
 
 // Where a walk over the values' entries stands: a position, and the number of entries left in the block that is open there, 0 where a block's number is
 // due. Version 1 has no blocks: all its entries are left from the start.
@@ -149,7 +157,7 @@ fn count_at(body: &[u8], at: Position, most: u64) -> Count
 
 // 01's limit on the value number of each version.
 fn most_values(version2: bool) -> u64
-    ensures { λ r. ⌜ r ≡ cond version2 mostValues2 mostValues1 ⌝ }
+    ensures { λ r. ⌜ r ≡ mostValues version2 ⌝ }
 {
     if version2 {
         return MOST_VALUES_2;
@@ -256,32 +264,35 @@ fn value_end(body: &[u8], t: u32, at: Position) -> ValueEnd
     }
 }
 
-// Whether one of the n entries of version 1 from `at` on has the value v.
+// Where the value at `at` ends, which was read as sound before: nothing is tested again.
+fn known_end(body: &[u8], t: u32, at: Position) -> Position
+    requires { ⌜ StandsAt t (now body) (at .0) ⌝ }
+    ensures { λ r. ⌜ EndsAt t (now (body .entry)) (at .0) (r .0) ⌝ }
+{
+    Position(at.0 + stored_value::known_size(body, at, t))
+}
+
+// Whether one of the n entries of version 1 that stand from `at` on has the value v.
 fn has_value(body: &[u8], t: u32, n: u64, at: Position, v: &[u8]) -> bool
+    requires { ⌜ ((es : List Entry) × OnesFrom t n (drop (at .0) (now body)) es) ⌝ }
     ensures { λ r. ⌜ HasValueAt t n (now (body .entry)) (at .0) (now (v .entry)) r ⌝ }
 {
-    let mut i: u64 = 0;
+    let mut j: u64 = 0;
     let mut p = at.0;
-    while i < n {
-        match value_end(body, t, Position(p)) {
-            ValueEnd::Refused(_) => {
-                return false;
-            }
-            ValueEnd::To(to) => {
-                let e = to.0;
-                if numbers::same(v, &body[p..e]) {
-                    return true;
-                }
-                p = e + 4;
-            }
+    while j < n {
+        let to = known_end(body, t, Position(p));
+        let e = to.0;
+        if numbers::same(v, &body[p..e]) {
+            return true;
         }
-        i = i + 1;
+        p = e + 4;
+        j = j + 1;
     }
     false
 }
 
-// Version 1: the n entries from `at` on. Their values are distinct: each is compared with those before it.
-fn entries_one(body: &[u8], t: u32, n: u64, at: Position) -> AllEntries
+// Version 1, few values: the n entries from `at` on. Their values are distinct: each is compared with those before it.
+fn entries_few(body: &[u8], t: u32, n: u64, at: Position) -> AllEntries
     requires { ⌜ at .0 ≤ length (now body) ⌝ }
     ensures { λ r. ⌜ AllEntriesAt false t n (now (body .entry)) (at .0) r ⌝ }
 {
@@ -309,6 +320,52 @@ fn entries_one(body: &[u8], t: u32, n: u64, at: Position) -> AllEntries
         first: Cursor { at: at, left: n },
         region: Position(p),
     }
+}
+
+// Version 1, many values: the same with a hash table of the values so far, which has them by their positions.
+fn entries_many(body: &[u8], t: u32, n: u64, at: Position) -> AllEntries
+    requires { ⌜ (at .0 ≤ length (now body)) × (length (now body) ≤ limit) × (n ≤ mostValues1) ⌝ }
+    ensures { λ r. ⌜ AllEntriesAt false t n (now (body .entry)) (at .0) r ⌝ }
+{
+    let mut table = [0u32; TABLE];
+    let mut i: u64 = 0;
+    let mut p = at.0;
+    while i < n {
+        match value_end(body, t, Position(p)) {
+            ValueEnd::Refused(r) => {
+                return AllEntries::Refused(r);
+            }
+            ValueEnd::To(to) => {
+                let e = to.0;
+                if hash_table::insert(body, &mut table, i, Position(p), to) {
+                    return AllEntries::Refused(Refusal::Dict);
+                }
+                if body.len() - e < 4 {
+                    return AllEntries::Refused(Refusal::Short);
+                }
+                p = e + 4;
+            }
+        }
+        i = i + 1;
+    }
+    AllEntries::Sound {
+        first: Cursor { at: at, left: n },
+        region: Position(p),
+    }
+}
+
+// Version 1: the n entries from `at` on. A table's positions are of 32 bits: no call lends a longer body, but this function may be lent one.
+fn entries_one(body: &[u8], t: u32, n: u64, at: Position) -> AllEntries
+    requires { ⌜ (at .0 ≤ length (now body)) × (n ≤ mostValues1) ⌝ }
+    ensures { λ r. ⌜ AllEntriesAt false t n (now (body .entry)) (at .0) r ⌝ }
+{
+    if n <= FEW_VALUES {
+        return entries_few(body, t, n, at);
+    }
+    if refusal::LIMIT < body.len() as u64 {
+        return entries_few(body, t, n, at);
+    }
+    entries_many(body, t, n, at)
 }
 
 // Version 2: the n listings of the directory from `at` on. Their values and offsets wait for the blocks.
@@ -411,7 +468,7 @@ fn block_entries(body: &[u8], t: u32, n: u64, at: Position, before: Span, due: S
     }
 }
 
-// Version 2: the block at `at`, whose listing stands at `listing`. Its offset, which counts from base, is tested before its number is read.
+// Version 2: the block at `at`, whose listing, read before, stands at `listing`. Its offset, which counts from base, is tested before its number is read.
 fn one_block(
     body: &[u8],
     t: u32,
@@ -420,57 +477,47 @@ fn one_block(
     at: Position,
     before: Span,
 ) -> Block
-    requires { ⌜ (base .0 ≤ at .0) × (at .0 ≤ length (now body)) × (before .end .0 ≤ length (now body)) ⌝ }
+    requires { ⌜ (base .0 ≤ at .0) × (at .0 ≤ length (now body)) × (before .end .0 ≤ length (now body)) × ListingFrom t (drop (listing .0) (now body)) ⌝ }
     ensures { λ r. ⌜ BlockAt t before (now (body .entry)) (base .0) (listing .0) (at .0) r ⌝ }
 {
-    match value_end(body, t, listing) {
-        ValueEnd::Refused(r) => {
+    let to = known_end(body, t, listing);
+    let offset = numbers::be32(body, to);
+    let p = at.0;
+    if offset != (p - base.0) as u64 {
+        return Block::Refused(Refusal::Dict);
+    }
+    if body.len() - p < 4 {
+        return Block::Refused(Refusal::Short);
+    }
+    let n = numbers::be32(body, at);
+    if n < 1 {
+        return Block::Refused(Refusal::Dict);
+    }
+    if numbers::SIGN_BIT <= n {
+        return Block::Refused(Refusal::Dict);
+    }
+    let due = Span {
+        start: listing,
+        end: to,
+    };
+    match block_entries(body, t, n, Position(p + 4), before, due) {
+        BlockEntries::Refused(r) => {
             return Block::Refused(r);
         }
-        ValueEnd::To(to) => {
-            let e = to.0;
-            let p = at.0;
-            if body.len() - e < 4 {
-                return Block::Refused(Refusal::Short);
-            }
-            let offset = numbers::be32(body, to);
-            if offset != (p - base.0) as u64 {
-                return Block::Refused(Refusal::Dict);
-            }
-            if body.len() - p < 4 {
-                return Block::Refused(Refusal::Short);
-            }
-            let n = numbers::be32(body, at);
-            if n < 1 {
-                return Block::Refused(Refusal::Dict);
-            }
-            if numbers::SIGN_BIT <= n {
-                return Block::Refused(Refusal::Dict);
-            }
-            let due = Span {
-                start: listing,
-                end: to,
+        BlockEntries::To { next, last } => {
+            return Block::Ends {
+                listing: Position(to.0 + 4),
+                next: next,
+                last: last,
+                number: n,
             };
-            match block_entries(body, t, n, Position(p + 4), before, due) {
-                BlockEntries::Refused(r) => {
-                    return Block::Refused(r);
-                }
-                BlockEntries::To { next, last } => {
-                    return Block::Ends {
-                        listing: Position(e + 4),
-                        next: next,
-                        last: last,
-                        number: n,
-                    };
-                }
-            }
         }
     }
 }
 
-// Version 2: the b blocks from base on, whose directory stands at `directory`, without gaps.
+// Version 2: the b blocks from base on, whose directory, read before, stands at `directory`, without gaps.
 fn all_blocks(body: &[u8], t: u32, b: u64, directory: Position, base: Position) -> Blocks
-    requires { ⌜ (base .0 ≤ length (now body)) × (b ≤ mostBlocks) ⌝ }
+    requires { ⌜ (base .0 ≤ length (now body)) × (b ≤ mostBlocks) × ((ds : List Listing) × DirectoryFrom t b (drop (directory .0) (now body)) ds) ⌝ }
     ensures { λ r. ⌜ BlocksAt t b (now (body .entry)) (directory .0) (base .0) r ⌝ }
 {
     let mut i: u64 = 0;
@@ -567,7 +614,7 @@ fn entries_two(body: &[u8], t: u32, n: u64, at: Position) -> AllEntries
 
 // The entries of either version.
 fn entries(body: &[u8], t: u32, version2: bool, n: u64, at: Position) -> AllEntries
-    requires { ⌜ at .0 ≤ length (now body) ⌝ }
+    requires { ⌜ (at .0 ≤ length (now body)) × (n ≤ mostValues version2) ⌝ }
     ensures { λ r. ⌜ AllEntriesAt version2 t n (now (body .entry)) (at .0) r ⌝ }
 {
     if version2 {

@@ -102,13 +102,16 @@ pub fn to_signed(x: u32) -> i32
     }
 }
 
-// Whether two slices have the same bytes.
-pub fn same(a: &[u8], b: &[u8]) -> bool
+// The bytes that are compared at once, where there are that many.
+const WORD: usize = 8;
+
+// The same, for fewer than WORD.
+const HALF: usize = 4;
+
+fn same_bytes(a: &[u8], b: &[u8]) -> bool
+    requires { ⌜ length (now a) ≡ length (now b) ⌝ }
     ensures { λ r. ⌜ r ≡ meaning.same (now (a .entry)) (now (b .entry)) ⌝ }
 {
-    if a.len() != b.len() {
-        return false;
-    }
     let mut i = 0;
     while i < a.len() {
         if a[i] != b[i] {
@@ -117,4 +120,47 @@ pub fn same(a: &[u8], b: &[u8]) -> bool
         i += 1;
     }
     true
+}
+
+// The last word may overlap the one before, here and in `same_halves`.
+fn same_words(a: &[u8], b: &[u8]) -> bool
+    requires { ⌜ (length (now a) ≡ length (now b)) × (8 ≤ length (now a)) ⌝ }
+    ensures { λ r. ⌜ r ≡ meaning.same (now (a .entry)) (now (b .entry)) ⌝ }
+{
+    let last = a.len() - WORD;
+    let mut i = 0;
+    while i < last {
+        if le64(a, Position(i)) != le64(b, Position(i)) {
+            return false;
+        }
+        i += WORD;
+    }
+    le64(a, Position(last)) == le64(b, Position(last))
+}
+
+fn same_halves(a: &[u8], b: &[u8]) -> bool
+    requires { ⌜ (length (now a) ≡ length (now b)) × (4 ≤ length (now a)) × (length (now a) ≤ 8) ⌝ }
+    ensures { λ r. ⌜ r ≡ meaning.same (now (a .entry)) (now (b .entry)) ⌝ }
+{
+    let last = a.len() - HALF;
+    if le32(a, Position(0)) != le32(b, Position(0)) {
+        return false;
+    }
+    le32(a, Position(last)) == le32(b, Position(last))
+}
+
+// Whether two slices have the same bytes.
+pub fn same(a: &[u8], b: &[u8]) -> bool
+    ensures { λ r. ⌜ r ≡ meaning.same (now (a .entry)) (now (b .entry)) ⌝ }
+{
+    if a.len() != b.len() {
+        return false;
+    }
+    if WORD <= a.len() {
+        return same_words(a, b);
+    }
+    if HALF <= a.len() {
+        return same_halves(a, b);
+    }
+    same_bytes(a, b)
 }

@@ -3,7 +3,7 @@ use Prim.Native.Nat.{ℕ}
 use mathlib.Core.Path.{_≡_, refl}
 use mathlib.Core.Bool.{Bool, true, false}
 use native.Mathlib.Omega.{arith}
-use Rattle.refusal.specs.Reading.{Out, refuse, ok, check, andThen}
+use Rattle.refusal.specs.Reading.{Out, refuse, ok, check, andThen, refusedAs}
 
 pub not-ok : {R A : Type 0} {r : R} {a : A} → refuse r ≡ ok a → ⊥
 not-ok e = let z : _≡_ {A = ℕ} 0 1 = cc in omega arith
@@ -20,3 +20,14 @@ pub then-ok : {R A B : Type 0} (x : Out R A) (k : A → Out R B) (b : B) → and
 unfolding andThen
 then-ok (refuse r) k b e = absurd (not-ok e)
 then-ok (ok a) k b e = (a, refl, e)
+
+-- stages that come to the same may be put for each other
+pub then-same : {R A B : Type 0} (x : Out R A) (f g : A → Out R B) → ((a : A) → f a ≡ g a) → andThen x f ≡ andThen x g
+unfolding andThen
+then-same (refuse r) f g h = refl
+then-same (ok a) f g h = h a
+
+pub refused-as-ok : {R S A : Type 0} (why : R → S) (x : Out R A) (a : A) → refusedAs why x ≡ ok a → x ≡ ok a
+unfolding refusedAs
+refused-as-ok why (refuse r) a e = absurd (not-ok e)
+refused-as-ok why (ok b) a e = cc

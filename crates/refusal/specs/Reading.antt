@@ -19,6 +19,11 @@ unfoldable pub andThen : {R A B : Type 0} → Out R A → (A → Out R B) → Ou
 andThen (refuse r) k = refuse r
 andThen (ok a) k = k a
 
+-- a reading in another crate's terms: its refusals are said by `why`
+unfoldable pub refusedAs : {R S A : Type 0} → (R → S) → Out R A → Out S A
+refusedAs why (refuse r) = refuse (why r)
+refusedAs why (ok a) = ok a
+
 -- what a reading stands for in numbers, for every call: the answer's number, in 01's table for a refusal, and its values, `none` with a refusal. `accepted`
 -- has both for an accepted answer
 unfoldable pub numbersOf : {A B : Type 0} → B → (A → ℕ × B) → Out Refusal A → ℕ × B

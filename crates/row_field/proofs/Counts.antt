@@ -263,13 +263,6 @@ zeroed-at (suc k) [] i h = refl
 zeroed-at (suc k) (x ∷ f) zero h = refl
 zeroed-at (suc k) (x ∷ f) (suc i) h = zeroed-at k f i (omega arith)
 
-pub zeroed-behind : (k : ℕ) (f : List ℕ) (i : ℕ) → k ≤ i → getD (zeroed k f) i 0 ≡ getD f i 0
-unfolding zeroed
-zeroed-behind zero f i h = refl
-zeroed-behind (suc k) [] i h = refl
-zeroed-behind (suc k) (x ∷ f) zero h = absurd (omega arith)
-zeroed-behind (suc k) (x ∷ f) (suc i) h = zeroed-behind k f i (omega arith)
-
 -- no row of the zeroed bytes is set
 pub bit-zeroed : (k : ℕ) (f : List ℕ) (r : ℕ) → r < 8 * k → bit (zeroed k f) r ≡ false
 unfolding bit

@@ -35,11 +35,6 @@ unfolding markAll
 markAll-append f [] ys = refl
 markAll-append f (x ∷ xs) ys = markAll-append (mark f x) xs ys
 
-pub anySet-append : (f xs ys : List ℕ) → anySet f (xs ++ ys) ≡ anySet f xs || anySet f ys
-unfolding anySet
-anySet-append f [] ys = refl
-anySet-append f (x ∷ xs) ys = rw (anySet-append f xs ys) (sym (or-assoc (bit f x) (anySet f xs) (anySet f ys)))
-
 pub anySeen-append : (f xs ys : List ℕ) → anySeen f (xs ++ ys) ≡ anySeen f xs || anySeen (markAll f xs) ys
 unfolding anySeen markAll
 anySeen-append f [] ys = refl

@@ -1,8 +1,7 @@
 -- Laws of values in stored form: that values and literals which are laid out are read, and that what is read is laid out.
---
 use Prim.Native.Nat.{ℕ, zero, suc, _+_, _<_, _≤_}
 use mathlib.Core.Path.{_≡_, refl, sym, ap, _∙_, subst}
-use mathlib.Core.Bool.{Bool, true, false, cond}
+use mathlib.Core.Bool.{Bool, true, false, or-false, cond}
 use mathlib.Core.List.{List, [], _∷_, _++_, append-assoc, append-nil}
 use native.Mathlib.Omega.{arith}
 use native.Mathlib.Decide.{decLt}
@@ -10,7 +9,7 @@ use lib.Dec.{leb}
 use lib.ListN.{length, getD, take, drop, length-append, length-drop, take-append-drop, List·getD-append, List·getD-eq-default}
 use lib.Seq.{take-at, drop-at, length-take-le, getD-take}
 use borrow.Author.Tests.{lt-ltb, le-ltb, ltb-true, le-leb, ne-eqb, eqb-false, leb-true}
-use Rattle.numbers.specs.Meaning.{be, beAt, big, joined, Bytes, signBit}
+use Rattle.numbers.specs.Meaning.{be, beAt, big, joined, same, Bytes, signBit}
 use Rattle.numbers.specs.Meaning as meaning
 use Rattle.numbers.proofs.ByteLists.{bytes-take, bytes-drop}
 use Rattle.numbers.proofs.Laws.{number-laid, numberAt-back}
@@ -20,7 +19,7 @@ use Rattle.refusal.specs.declared.Refusal.the-variants.{Literal, Limit}
 use Rattle.refusal.specs.Reading.{Out, refuse, ok, check, andThen}
 use Rattle.refusal.proofs.Laws.{not-ok, check-ok}
 use Rattle.stored_value.specs.Meaning.{widths, types, width, isString, longestString, booleanOk, Value, number, string, Cell, null, value, sameCell, listed, mostLiterals, Literals}
-use Rattle.stored_value.specs.Reading.{stringSize, valueSize, valueOf, literals, fitting, readable, listedIn}
+use Rattle.stored_value.specs.Reading.{stringSize, valueSize, valueOf, literals}
 
 -- ---- the same cell
 
@@ -60,7 +59,7 @@ module _ (short broken : Refusal) (t : ℕ) (s : List ℕ) where
     unfolding valueSize check
     size-string e = rw (lt-ltb t types k, e)
 
-pub width-some : (t : ℕ) → isString t ≡ false → 0 < width t
+width-some : (t : ℕ) → isString t ≡ false → 0 < width t
 unfolding isString
 width-some t e = let n = eqb-false (width t) 0 e in omega arith
 
@@ -75,10 +74,6 @@ width-known t h = go (decLt t types)
         let l : types ≤ t = omega arith in
         let e : getD widths t 0 ≡ 0 = List·getD-eq-default widths 0 l in
         absurd (omega arith)
-
-pub value-known : (t : ℕ) (v : List ℕ) → Value t v → t < types
-value-known t v (number v′ n l b o) = width-known t (width-some t n)
-value-known t v (string c k n l b) = k
 
 -- ---- values: laid out, so read; read, so laid out
 
@@ -166,7 +161,7 @@ module _ (short broken : Refusal) (t : ℕ) (s : List ℕ) (k : ℕ) (e : valueS
       by true n = read-string n
       by false n = read-number n
 
-pub value-length : (t : ℕ) (v : List ℕ) → Value t v → 1 ≤ length v
+value-length : (t : ℕ) (v : List ℕ) → Value t v → 1 ≤ length v
 value-length t v (number v′ n l b o) = omega (arith, width-some t n)
 value-length t v (string c k n l b) = omega arith
 
@@ -207,16 +202,16 @@ literals-laid t ls x m = laid-from t mostLiterals [] ls x m
 
 -- what is said of literals that were read behind `acc`, n at most
 abbrev From : ℕ → ℕ → List (List ℕ) → List ℕ → List (List ℕ) → Type 0
-From t n acc s ls = (ms : List (List ℕ)) × (ls ≡ acc ++ ms) × (s ≡ joined ms) × Literals t ms × (length ms ≤ n)
+From t n acc s ls = (ms : List (List ℕ)) × (ls ≡ acc ++ ms) × (s ≡ joined ms) × (Bytes s → Literals t ms) × (length ms ≤ n)
 
 none : (t n : ℕ) (acc ls : List (List ℕ)) → literals t n acc [] ≡ ok ls → From t n acc [] ls
-none t n acc ls e = let q = literals-end t n acc in ([], cc (append-nil acc), refl, tt, omega arith)
+none t n acc ls e = let q = literals-end t n acc in ([], cc (append-nil acc), refl, λ h. tt, omega arith)
 
-back-from : (t n : ℕ) (acc : List (List ℕ)) (s : List ℕ) (ls : List (List ℕ)) → Bytes s → literals t n acc s ≡ ok ls → From t n acc s ls
-back-from t zero acc [] ls h e = none t zero acc ls e
-back-from t zero acc (b ∷ s) ls h e = absurd (not-ok (sym (literals-full t acc (b ∷ s) (omega arith)) ∙ e))
-back-from t (suc n) acc [] ls h e = none t (suc n) acc ls e
-back-from t (suc n) acc (b ∷ s) ls h e = by (valueSize Literal Literal t (b ∷ s)) refl (λ k. back-from t n _ (drop k (b ∷ s)) ls (bytes-drop k (b ∷ s) h))
+back-from : (t n : ℕ) (acc : List (List ℕ)) (s : List ℕ) (ls : List (List ℕ)) → literals t n acc s ≡ ok ls → From t n acc s ls
+back-from t zero acc [] ls e = none t zero acc ls e
+back-from t zero acc (b ∷ s) ls e = absurd (not-ok (sym (literals-full t acc (b ∷ s) (omega arith)) ∙ e))
+back-from t (suc n) acc [] ls e = none t (suc n) acc ls e
+back-from t (suc n) acc (b ∷ s) ls e = by (valueSize Literal Literal t (b ∷ s)) refl (λ k. back-from t n _ (drop k (b ∷ s)) ls)
   where
     by : (o : Out Refusal ℕ) → valueSize Literal Literal t (b ∷ s) ≡ o
         → ((k : ℕ) → literals t n (acc ++ (take k (b ∷ s) ∷ [])) (drop k (b ∷ s)) ≡ ok ls → From t n (acc ++ (take k (b ∷ s) ∷ [])) (drop k (b ∷ s)) ls)
@@ -228,51 +223,22 @@ back-from t (suc n) acc (b ∷ s) ls h e = by (valueSize Literal Literal t (b �
           l ∷ m .0,
           m .1 ∙ append-assoc acc (l ∷ []) (m .0),
           sym (take-append-drop k (b ∷ s)) ∙ ap (λ (x : List ℕ). l ++ x) (m .2),
-          (value-read Literal Literal t (b ∷ s) k v .whole h, m .3),
+          λ h. (value-read Literal Literal t (b ∷ s) k v .whole h, m .3 (bytes-drop k (b ∷ s) h)),
           omega (arith, m .4),
         )
+
+pub literals-joined : (t : ℕ) (s : List ℕ) (ls : List (List ℕ)) → literals t mostLiterals [] s ≡ ok ls → s ≡ joined ls
+literals-joined t s ls e = let m = back-from t mostLiterals [] s ls e in subst (λ (x : List (List ℕ)). s ≡ joined x) (sym (m .1)) (m .2)
 
 pub literals-back : (t : ℕ) (s : List ℕ) (ls : List (List ℕ)) → Bytes s → literals t mostLiterals [] s ≡ ok ls
     → (s ≡ joined ls) × Literals t ls × (length ls ≤ mostLiterals)
 literals-back t s ls h e =
-    let m = back-from t mostLiterals [] s ls h e in
-    subst (λ (x : List (List ℕ)). (s ≡ joined x) × Literals t x × (length x ≤ mostLiterals)) (sym (m .1)) (m .2, m .3, m .4)
+    let m = back-from t mostLiterals [] s ls e in
+    subst (λ (x : List (List ℕ)). (s ≡ joined x) × Literals t x × (length x ≤ mostLiterals)) (sym (m .1)) (m .2, m .3 h, m .4)
 
--- ---- literals that are read are those that can be
-
-pub none-readable : (t n : ℕ) → readable t n [] ≡ []
-unfolding readable
-none-readable t zero = refl
-none-readable t (suc n) = by (valueSize Literal Literal t []) refl
-  where
-    by : (o : Out Refusal ℕ) → valueSize Literal Literal t [] ≡ o → fitting o (λ k. take k [] ∷ readable t n (drop k [])) ≡ []
-    by (refuse r) v = refl
-    by (ok k) v = let r = value-read Literal Literal t [] k v in absurd (omega (arith, r .some, r .fits))
-
--- behind `acc`, with n more that may come and m that are looked for
-readable-from : (t n m : ℕ) (acc : List (List ℕ)) (s : List ℕ) (ls : List (List ℕ)) → length s ≤ m → literals t n acc s ≡ ok ls → ls ≡ acc ++ readable t m s
-unfolding readable
-readable-from t n zero acc [] ls h e = let q = literals-end t n acc in cc (append-nil acc)
-readable-from t n zero acc (b ∷ s) ls h e = absurd (omega arith)
-readable-from t n (suc m) acc [] ls h e = let q = literals-end t n acc in cc (append-nil acc, none-readable t (suc m))
-readable-from t zero (suc m) acc (b ∷ s) ls h e = absurd (not-ok (sym (literals-full t acc (b ∷ s) (omega arith)) ∙ e))
-readable-from t (suc n) (suc m) acc (b ∷ s) ls h e =
-    by (valueSize Literal Literal t (b ∷ s)) refl (λ k. readable-from t n m _ (drop k (b ∷ s)) ls)
-  where
-    by : (o : Out Refusal ℕ) → valueSize Literal Literal t (b ∷ s) ≡ o
-        → ((k : ℕ) → length (drop k (b ∷ s)) ≤ m → literals t n (acc ++ (take k (b ∷ s) ∷ [])) (drop k (b ∷ s)) ≡ ok ls
-        → ls ≡ (acc ++ (take k (b ∷ s) ∷ [])) ++ readable t m (drop k (b ∷ s)))
-        → ls ≡ acc ++ readable t (suc m) (b ∷ s)
-    by (refuse r) v next = absurd (not-ok (sym (literals-refused t acc (b ∷ s) (omega arith) n r v) ∙ e))
-    by (ok k) v next =
-        let r = value-read Literal Literal t (b ∷ s) k v in
-        let l : length (drop k (b ∷ s)) ≤ m = rw length-drop (omega (arith, r .some)) in
-        next k l (sym (literals-next t acc (b ∷ s) (omega arith) n k v) ∙ e) ∙ rw v (append-assoc acc (take k (b ∷ s) ∷ []) (readable t m (drop k (b ∷ s))))
-
-pub readable-literals : (t : ℕ) (s : List ℕ) (ls : List (List ℕ)) → literals t mostLiterals [] s ≡ ok ls → readable t (length s) s ≡ ls
-readable-literals t s ls e = sym (readable-from t mostLiterals (length s) [] s ls (omega arith) e)
-
--- so of accepted literals a value is listed that is one of them
-pub listed-in : (t : ℕ) (v s : List ℕ) (ls : List (List ℕ)) → literals t mostLiterals [] s ≡ ok ls → listedIn t v s ≡ listed v ls
-unfolding listedIn
-listed-in t v s ls e = ap (listed v) (readable-literals t s ls e)
+-- of one literal, a value is listed if it has all the bytes
+pub listed-alone : (t : ℕ) (v s : List ℕ) (ls : List (List ℕ)) → literals t mostLiterals [] s ≡ ok ls → length ls ≡ 1 → listed v ls ≡ same v s
+unfolding listed
+listed-alone t v s [] e n = absurd (omega arith)
+listed-alone t v s (l ∷ []) e n = or-false (same v l) ∙ ap (same v) (sym (literals-joined t s (l ∷ []) e ∙ append-nil l))
+listed-alone t v s (l ∷ k ∷ ls) e n = absurd (omega arith)

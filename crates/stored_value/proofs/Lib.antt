@@ -3,5 +3,5 @@ pub mod Widths
 pub mod TwosComplement
 pub mod Laws
 pub mod Steps
-pub mod Listing
+pub mod Entering
 pub mod Order

@@ -1,8 +1,9 @@
 -- What the code's answers and the turns of its loops see of the definitions.
 use Prim.Native.Nat.{ℕ, suc, _+_, _-_, _<_, _≤_}
-use mathlib.Core.Path.{_≡_, ap, _∙_}
-use mathlib.Core.Bool.{Bool, true, false, _&&_, _||_}
+use mathlib.Core.Path.{_≡_, ap, sym, _∙_}
+use mathlib.Core.Bool.{Bool, true, false, _&&_, _||_, or-false}
 use mathlib.Core.List.{List, [], _∷_, _++_}
+use mathlib.Core.Logic.{_⊎_, ⊎-elim}
 use native.Mathlib.Nat.{add-zero}
 use native.Mathlib.Numerals.{add-one}
 use native.Mathlib.Omega.{arith}
@@ -15,7 +16,7 @@ use mir.Val.{SFits, toZ, ofZ}
 use mir.Facts.{toZ-ofZ}
 use lib.ListN.{length, getD, take, drop, length-drop, drop-of-length-le}
 use lib.Seq.{drop-cons, drop-drop, getD-drop}
-use borrow.Author.Tests.{eq-eqb, ne-eqb, le-leb, lt-leb, lt-ltb, le-ltb}
+use borrow.Author.Tests.{eq-eqb, ne-eqb, le-leb, lt-leb, lt-ltb, le-ltb, ltb-true}
 use Rattle.numbers.specs.Meaning.{beAt, big, signBit}
 use Rattle.numbers.proofs.Laws.{number-at, number-short}
 use Rattle.refusal.specs.declared.Refusal.{Refusal}
@@ -24,6 +25,7 @@ use Rattle.stored_value.specs.declared.Sized.{Sized}
 use Rattle.stored_value.specs.declared.Counted.{Counted}
 use Rattle.stored_value.specs.Meaning.{types, width, isString, longestString, booleanOk, signedNumber, bytesLess, less}
 use Rattle.refusal.specs.Reading.{Out, refuse, ok, check, numbersOf}
+use Rattle.refusal.proofs.Laws.{check-ok, ok-same, not-ok}
 use Rattle.stored_value.specs.Promises.{sizedBy, SizePromise, countedBy, CountPromise}
 use Rattle.stored_value.specs.Reading.{stringSize, valueSize, literals}
 use Rattle.stored_value.proofs.Laws.{size-number, size-string, value-read, literals-end, literals-full, literals-refused, literals-next}
@@ -31,17 +33,20 @@ use Rattle.stored_value.proofs.Laws.{size-number, size-string, value-re
 -- ---- `bytes_less`
 
 module _ (a b : List ℕ) (i : ℕ) where
-  pub less-past : i < length a → length b ≤ i → bytesLess (drop i a) (drop i b) ≡ false
+  -- at the end of one of both
+  pub less-end : (length a ≤ i) ⊎ (length b ≤ i) → bytesLess (drop i a) (drop i b) ≡ ltb i (length b)
   unfolding bytesLess
-  less-past h g = rw (drop-cons a i 0 h, drop-of-length-le b g)
-
-  pub less-end : length a ≤ i → bytesLess (drop i a) (drop i b) ≡ ltb i (length b)
-  unfolding bytesLess
-  less-end h = by (decLt i (length b))
+  less-end h = by (decLt i (length b)) (decLt i (length a))
     where
-      by : Dec (i < length b) → bytesLess (drop i a) (drop i b) ≡ ltb i (length b)
-      by (yes g) = rw (drop-of-length-le a h, drop-cons b i 0 g, lt-ltb i (length b) g)
-      by (no n) = let g : length b ≤ i = omega arith in rw (drop-of-length-le a h, drop-of-length-le b g, le-ltb i (length b) g)
+      by : Dec (i < length b) → Dec (i < length a) → bytesLess (drop i a) (drop i b) ≡ ltb i (length b)
+      by (yes g) d =
+          let l : length a ≤ i = ⊎-elim (λ l. l) (λ l. absurd (omega arith)) h in
+          rw (drop-of-length-le a l, drop-cons b i 0 g, lt-ltb i (length b) g)
+      by (no n) (yes l) = let g : length b ≤ i = omega arith in rw (drop-cons a i 0 l, drop-of-length-le b g, le-ltb i (length b) g)
+      by (no n) (no m) =
+          let g : length b ≤ i = omega arith in
+          let l : length a ≤ i = omega arith in
+          rw (drop-of-length-le a l, drop-of-length-le b g, le-ltb i (length b) g)
 
   module _ (h : i < length a) (g : i < length b) where
     less-step : bytesLess (drop i a) (drop i b)
@@ -49,11 +54,8 @@ module _ (a b : List ℕ) (i : ℕ) where
     unfolding bytesLess
     less-step = rw (add-one, drop-cons a i 0 h, drop-cons b i 0 g)
 
-    pub less-yes : getD a i 0 < getD b i 0 → bytesLess (drop i a) (drop i b) ≡ true
-    less-yes l = less-step ∙ rw (lt-ltb (getD a i 0) (getD b i 0) l)
-
-    pub less-no : getD b i 0 < getD a i 0 → bytesLess (drop i a) (drop i b) ≡ false
-    less-no l = less-step ∙ rw (le-ltb (getD a i 0) (getD b i 0) (omega arith), ne-eqb (getD a i 0) (getD b i 0) (omega arith))
+    pub less-differ : (getD a i 0 ≡ getD b i 0 → ⊥) → bytesLess (drop i a) (drop i b) ≡ ltb (getD a i 0) (getD b i 0)
+    less-differ n = less-step ∙ rw (ne-eqb (getD a i 0) (getD b i 0) n) (or-false (ltb (getD a i 0) (getD b i 0)))
 
     pub less-next : getD a i 0 ≡ getD b i 0 → bytesLess (drop i a) (drop i b) ≡ bytesLess (drop (i + 1) a) (drop (i + 1) b)
     less-next e = less-step ∙ rw (le-ltb (getD a i 0) (getD b i 0) (omega arith), eq-eqb (getD a i 0) (getD b i 0) e)
@@ -152,7 +154,34 @@ module _ (short broken : Refusal) (t : ℕ) (s : List ℕ) (p : ℕ) (k : t < ty
       by (yes w) = string-short w (omega arith)
       by (no w) = number-cut (omega arith) (omega arith)
 
--- the promise of what was read, and what was read of an answer
+-- ---- `known_size`: a value that was accepted is as long as its type says, or as a string says before its bytes
+
+module _ (short broken : Refusal) (t : ℕ) (s : List ℕ) (p k : ℕ) (e : valueSize short broken t (drop p s) ≡ ok k) where
+  known-type : t < types
+  unfolding valueSize
+  known-type = ltb-true t types (check-ok _ _ _ k e .0)
+
+  pub known-number : 0 < width t → width t ≡ k
+  known-number w =
+      let f = check-ok _ _ _ k (sym (size-number short broken t (drop p s) known-type (is-number short broken t s p known-type w)) ∙ e) in
+      ok-same (width t) k (check-ok _ _ _ k (f .1) .1)
+
+  module _ (w : width t ≡ 0) where
+    pub known-length : p + 4 ≤ length s
+    known-length = by (decLt (length s) (p + 4))
+      where
+        by : Dec (length s < p + 4) → p + 4 ≤ length s
+        by (yes l) = absurd (not-ok (sym (string-short short broken t s p known-type w (omega arith)) ∙ e))
+        by (no l) = omega arith
+
+    pub known-string : 4 + beAt 4 s p ≡ k
+    known-string =
+        let f = check-ok _ _ _ k (sym (by-length short broken t s p known-type w known-length) ∙ e) in
+        let g = check-ok _ _ _ k (f .1) in
+        ok-same (4 + beAt 4 s p) k (check-ok _ _ _ k (g .1) .1)
+
+-- ---- the promise of what was read, and what was read of an answer
+
 pub says-refused : {o : Out Refusal ℕ} {r : Refusal} → o ≡ refuse r → SizePromise o (Sized.Refused r)
 unfolding sizedBy numbersOf
 says-refused e = record { answer = rw e; numbers = rw e }

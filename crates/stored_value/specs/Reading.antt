@@ -1,6 +1,6 @@
 -- What is read of any bytes as values: the size of one, and literals to the end (01, "Bitmap body" and "Questions").
 use Prim.Native.Nat.{ℕ, zero, suc, _+_}
-use mathlib.Core.Bool.{Bool, cond}
+use mathlib.Core.Bool.{cond}
 use mathlib.Core.List.{List, [], _∷_, _++_}
 use lib.Dec.{eqb, ltb, leb}
 use lib.ListN.{length, take, drop}
@@ -8,7 +8,7 @@ use Rattle.numbers.specs.Meaning.{big, number, signBit}
 use Rattle.refusal.specs.Reading.{Out, refuse, ok, check, andThen}
 use Rattle.refusal.specs.declared.Refusal.{Refusal}
 use Rattle.refusal.specs.declared.Refusal.the-variants.{Literal, Limit}
-use Rattle.stored_value.specs.Meaning.{types, width, isString, longestString, booleanOk, listed}
+use Rattle.stored_value.specs.Meaning.{types, width, isString, longestString, booleanOk}
 
 -- a string of length n, with the bytes behind that: the length is tested before them
 abbrev pub stringSize : Refusal → Refusal → ℕ → List ℕ → Out Refusal ℕ
@@ -31,20 +31,3 @@ valueOf short broken t s k = andThen (valueSize short broken t s) (λ n. k (take
 unfoldable pub literals : ℕ → ℕ → List (List ℕ) → List ℕ → Out Refusal (List (List ℕ))
 literals t zero ls s = cond (eqb (length s) 0) (ok ls) (refuse Limit)
 literals t (suc n) ls s = cond (eqb (length s) 0) (ok ls) (valueOf Literal Literal t s (λ l s. literals t n (ls ++ (l ∷ [])) s))
-
--- ---- whether a value is listed, of any bytes: if one of the literals that can be read before a value that breaks its form has its bytes, however many they
--- are. Of literals that are accepted it is `listed` (the law `listed-in`)
-
--- what follows where a size was read, else nothing
-abbrev pub fitting : Out Refusal ℕ → (ℕ → List (List ℕ)) → List (List ℕ)
-fitting (refuse r) f = []
-fitting (ok k) f = f k
-
--- the literals that can be read one after another, n at most
-unfoldable pub readable : ℕ → ℕ → List ℕ → List (List ℕ)
-readable t zero s = []
-readable t (suc n) s = fitting (valueSize Literal Literal t s) (λ k. take k s ∷ readable t n (drop k s))
-
--- each takes a byte at least, so that there are no more of them than bytes
-unfoldable pub listedIn : ℕ → List ℕ → List ℕ → Bool
-listedIn t v s = listed v (readable t (length s) s)

@@ -1,14 +1,17 @@
 // Values in the stored form of their type (document 01, the table of widths): their size, their order, and literals.
 ghost use mathlib.Core.Path.{_≡_};
-ghost use Prim.Native.Nat.{_<_, _≤_};
+ghost use Prim.Native.Nat.{_+_, _^_, _<_, _≤_};
+ghost use mathlib.Core.Logic.{_⊎_};
+ghost use Rattle.numbers.specs.Meaning.{beAt};
+ghost use mathlib.Core.Bool.{cond};
 ghost use mathlib.Core.List.{[]};
 ghost use lib.ListN.{getD, drop};
 ghost use mir.Syntax.{w64};
 ghost use mir.Val.{SFits};
 ghost use Rattle.stored_value.specs.Meaning.{width, signedNumber, bytesLess, mostLiterals};
 ghost use Rattle.stored_value.specs.Meaning as meaning;
-ghost use Rattle.stored_value.specs.Promises.{SizePromise, CountPromise};
-ghost use Rattle.stored_value.specs.Reading.{valueSize, listedIn};
+ghost use Rattle.stored_value.specs.Promises.{SizePromise, Stands, Takes, CountPromise, Enterable, Enters};
+ghost use Rattle.stored_value.specs.Reading.{valueSize};
 ghost use Rattle.stored_value.specs.Reading as reading;
 use numbers::Position;
 use refusal::Refusal;
@@ -19,10 +22,23 @@ pub const TYPES: u32 = 12;
 // Document 01, "Limits": a stored string, in bytes, and how many literals there may be.
 const LONGEST_STRING: u64 = 65_535;
 
-const MOST_LITERALS: u64 = 1_024;
+pub const MOST_LITERALS: u64 = 1_024;
 
 // 01's table of widths over its twelve types, in its order; 0 stands for a string: a 4-byte length and the bytes. Stored values and literals go by it.
 const WIDTHS: [u8; 12] = [1, 1, 2, 4, 4, 4, 8, 8, 8, 0, 0, 0];
+
+// The greatest numbers that 0 to 8 bytes spell.
+const LASTS: [u64; 9] = [
+    0,
+    255,
+    65_535,
+    16_777_215,
+    4_294_967_295,
+    1_099_511_627_775,
+    281_474_976_710_655,
+    72_057_594_037_927_935,
+    18_446_744_073_709_551_615,
+];
 
 // How many bytes a value takes, or why it is none.
 pub enum Sized {
@@ -92,6 +108,19 @@ pub fn size(s: &[u8], at: Position, t: u32, short: Refusal, broken: Refusal) -> 
     Sized::Bytes(w)
 }
 
+// The size of a value that is known to stand at `at`: nothing is tested again.
+pub fn known_size(s: &[u8], at: Position, t: u32) -> usize
+    requires { ⌜ Stands t (drop (at .0) (now s)) ⌝ }
+    ensures { λ r. ⌜ Takes t (drop (at .0) (now (s .entry))) r ⌝ }
+{
+    let w = width_of(t);
+    if w == 0 {
+        let n = numbers::be32(s, at);
+        return 4 + n as usize;
+    }
+    w
+}
+
 // The byte at a position; one that is missing counts as 0.
 fn byte_at(s: &[u8], at: Position) -> u64
     ensures { λ r. ⌜ (r ≡ getD (now (s .entry)) (at .0) 0) × (r < 256) ⌝ }
@@ -102,42 +131,80 @@ fn byte_at(s: &[u8], at: Position) -> u64
     0
 }
 
+// The number that the first w bytes spell, where bytes may be missing.
+fn spelled_short(s: &[u8], w: usize) -> u64
+    requires { ⌜ w ≤ 8 ⌝ }
+    ensures { λ r. ⌜ (r ≡ beAt w (now (s .entry)) 0) × (r < 256 ^ w) ⌝ }
+{
+    let mut x: u64 = 0;
+    let mut i = 0;
+    while i < w {
+        x = x * 256 + byte_at(s, Position(i));
+        i += 1;
+    }
+    x
+}
+
+// The same, at once where the bytes are there: values that were accepted have them.
+fn spelled(s: &[u8], w: usize) -> u64
+    requires { ⌜ w ≤ 8 ⌝ }
+    ensures { λ r. ⌜ (r ≡ beAt w (now (s .entry)) 0) × (r < 256 ^ w) ⌝ }
+{
+    if s.len() < w {
+        return spelled_short(s, w);
+    }
+    if w == 8 {
+        return numbers::be64(s, Position(0));
+    }
+    if w == 4 {
+        return numbers::be32(s, Position(0));
+    }
+    if w == 2 {
+        return numbers::be16(s, Position(0));
+    }
+    spelled_short(s, w)
+}
+
+// The greatest number that w bytes spell.
+fn last_of(w: usize) -> u64
+    requires { ⌜ w ≤ 8 ⌝ }
+    ensures { λ r. ⌜ r + 1 ≡ 256 ^ w ⌝ }
+{
+    LASTS[w]
+}
+
 // The signed number that the first w bytes hold, in two's complement. They spell x, and `last` is the greatest number that w bytes spell: up to its
 // half x is itself, and above it -1 less what x lacks to `last`, which does not overflow at the least value either.
 fn signed(s: &[u8], w: usize) -> i64
     requires { ⌜ (0 < w) × (w ≤ 8) ⌝ }
     ensures { λ r. ⌜ (r ≡ signedNumber w (now (s .entry))) × SFits w64 r ⌝ }
 {
-    let mut x: u64 = 0;
-    let mut last: u64 = 0;
-    let mut i = 0;
-    while i < w {
-        x = x * 256 + byte_at(s, Position(i));
-        last = last * 256 + 255;
-        i += 1;
-    }
+    let x = spelled(s, w);
+    let last = last_of(w);
     if x <= last / 2 {
         return x as i64;
     }
     -1 - ((last - x) as i64)
 }
 
+fn least(x: usize, y: usize) -> usize
+    ensures { λ r. ⌜ (r ≤ x) × (r ≤ y) × ((x ≤ r) ⊎ (y ≤ r)) ⌝ }
+{
+    if x < y {
+        return x;
+    }
+    y
+}
+
 // Whether a comes before b from a position on: by unsigned bytes, a prefix first.
 fn bytes_less(a: &[u8], b: &[u8], from: Position) -> bool
     ensures { λ r. ⌜ r ≡ bytesLess (drop (from .0) (now (a .entry))) (drop (from .0) (now (b .entry))) ⌝ }
 {
+    let end = least(a.len(), b.len());
     let mut i = from.0;
-    while i < a.len() {
-        if b.len() <= i {
-            return false;
-        }
-        let x = a[i];
-        let y = b[i];
-        if x < y {
-            return true;
-        }
-        if y < x {
-            return false;
+    while i < end {
+        if a[i] != b[i] {
+            return a[i] < b[i];
         }
         i += 1;
     }
@@ -181,25 +248,28 @@ pub fn literals(s: &[u8], t: u32) -> Counted
     Counted::Count(i)
 }
 
-// Whether a literal has v's bytes: one of those that can be read before a value that breaks its form, however many they are. The calls have tested with
-// `literals` that there is none such, and that they are 1,024 at most.
-pub fn listed(v: &[u8], literals: &[u8], t: u32) -> bool
-    ensures { λ r. ⌜ r ≡ listedIn t (now (v .entry)) (now (literals .entry)) ⌝ }
+// How many values there are behind n, where one was inserted or was there already.
+fn more(n: u64, there: bool) -> u64
+    requires { ⌜ n < mostLiterals ⌝ }
+    ensures { λ r. ⌜ (r ≡ cond there n (n + 1)) × (r ≤ n + 1) ⌝ }
 {
+    if there {
+        return n;
+    }
+    n + 1
+}
+
+// Enters literals of type t that were accepted in a hash table over them, each once.
+pub fn enter(literals: &[u8], t: u32, table: &mut [u32])
+    requires { ⌜ Enterable t (now literals) (now table) ⌝ }
+    ensures { λ _. ⌜ Enters t (now (literals .entry)) (now (table .exit)) ⌝ }
+{
+    let mut n: u64 = 0;
     let mut p = 0;
     while p < literals.len() {
-        match size(literals, Position(p), t, Refusal::Literal, Refusal::Literal) {
-            Sized::Refused(_) => {
-                return false;
-            }
-            Sized::Bytes(n) => {
-                let e = p + n;
-                if numbers::same(v, &literals[p..e]) {
-                    return true;
-                }
-                p = e;
-            }
-        }
+        let e = p + known_size(literals, Position(p), t);
+        let there = hash_table::insert(literals, table, n, Position(p), Position(e));
+        n = more(n, there);
+        p = e;
     }
-    false
 }

@@ -7,6 +7,8 @@ use std::fmt::Write;
 use poddurance::{ask_file, locate, Error, Literals, Question, RowField, Type};
 use reference::roaring::Bitmap;
 
+use crate::svg::{Svg, GREY, RED};
+
 /// Rows 0 to 2 are the samples of pumps 1 to 3 in the first minute, and so on.
 const PUMPS: u64 = 3;
 const PUMP: u64 = 2;
@@ -45,16 +47,17 @@ fn minutes(rows: impl IntoIterator<Item = u64>) -> Vec<u64> {
     rows.into_iter().filter(|row| row % PUMPS == PUMP - 1).map(|row| row / PUMPS).collect()
 }
 
-// All numbers are whole, and colours are of a middle lightness, which shows on white and on black. Letters on a filled shape are white.
 const WIDTH: u64 = 880;
 const HEIGHT: u64 = 466;
 const LEFT: u64 = 20;
 const MINUTE: u64 = 105;
 const TRACK: u64 = 64;
-const GREY: &str = "#767b83";
-const RED: &str = "#e5484d";
 const FAULT: &str = "#cf222e";
 const REFUSED: &str = "#8a5a00";
+const TITLE: &str = "A lost row is a refusal, never a silently wrong graph";
+const DESCRIPTION: &str =
+    "Three graphs of one pump. From the sound index it is in fault for three minutes. From an index that lost a row another \
+                           reader draws two, and nothing says so. Asked through Poddurance the same index is refused.";
 
 /// The picture, from the bytes of a sound index and of one that lost a row.
 pub fn svg(sound: &[u8], lost: &[u8]) -> String {
@@ -63,7 +66,7 @@ pub fn svg(sound: &[u8], lost: &[u8]) -> String {
     let gone: Vec<u64> = truth.iter().copied().filter(|minute| !drawn.contains(minute)).collect();
     let refusal = in_fault(lost).expect_err("the index that lost a row is refused");
 
-    let mut svg = Svg::new();
+    let mut svg = Svg::new(WIDTH, HEIGHT, TITLE, DESCRIPTION);
     svg.text(LEFT, 30, "size=22 weight=bold", &format!("When was pump {PUMP} in fault?"));
 
     let top = 76;
@@ -87,48 +90,7 @@ pub fn svg(sound: &[u8], lost: &[u8]) -> String {
     svg.end()
 }
 
-struct Svg(String);
-
 impl Svg {
-    fn new() -> Svg {
-        let mut svg = Svg(String::new());
-        svg.put(&format!(
-            "<svg xmlns=\"http://www.w3.org/2000/svg\" viewBox=\"0 0 {WIDTH} {HEIGHT}\" width=\"{WIDTH}\" height=\"{HEIGHT}\" role=\"img\" \
-             font-family=\"system-ui, -apple-system, 'Segoe UI', 'DejaVu Sans', Helvetica, Arial, sans-serif\">"
-        ));
-        svg.put("<title>A lost row is a refusal, never a silently wrong graph</title>");
-        svg.put(
-            "<desc>Three graphs of one pump. From the sound index it is in fault for three minutes. From an index that lost a row another \
-             reader draws two, and nothing says so. Asked through Poddurance the same index is refused.</desc>",
-        );
-        svg
-    }
-
-    fn put(&mut self, line: &str) {
-        self.0.push_str(line);
-        self.0.push('\n');
-    }
-
-    /// The form is a list of size, weight, fill, anchor and family.
-    fn text(&mut self, x: u64, y: u64, form: &str, text: &str) {
-        let mut fill = GREY;
-        let mut attributes = String::new();
-        for (name, value) in form.split(' ').filter_map(|part| part.split_once('=')) {
-            match (name, value) {
-                ("fill", "red") => fill = RED,
-                ("fill", other) => fill = if other == "white" { "#ffffff" } else { GREY },
-                ("anchor", _) => write!(attributes, " text-anchor=\"{value}\"").expect("a string can be written"),
-                ("family", _) => {
-                    attributes
-                        .push_str(" font-family=\"ui-monospace, 'SF Mono', Menlo, Consolas, 'DejaVu Sans Mono', monospace\"");
-                }
-                _ => write!(attributes, " font-{name}=\"{value}\"").expect("a string can be written"),
-            }
-        }
-        let text = text.replace('&', "&amp;").replace('<', "&lt;");
-        self.put(&format!("<text x=\"{x}\" y=\"{y}\" fill=\"{fill}\"{attributes}>{text}</text>"));
-    }
-
     /// What is drawn, and the file that it is drawn from.
     fn heading(&mut self, y: u64, text: &str, file: &str) {
         self.text(LEFT, y, "size=18 weight=bold", text);
@@ -178,10 +140,5 @@ impl Svg {
         self.put(&format!("<rect x=\"{LEFT}\" y=\"{top}\" width=\"{width}\" height=\"{TRACK}\" rx=\"6\" fill=\"{REFUSED}\"/>"));
         self.text(LEFT + width / 2, top + 29, "size=20 weight=bold fill=white anchor=middle family=mono", answer);
         self.text(LEFT + width / 2, top + 52, "size=16 fill=white anchor=middle", "so no wrong graph is drawn");
-    }
-
-    fn end(mut self) -> String {
-        self.put("</svg>");
-        self.0
     }
 }

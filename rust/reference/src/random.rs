@@ -132,7 +132,19 @@ pub fn column(random: &mut Random) -> Column {
     column_of(random, ty, rows)
 }
 
-/// A column of that type and number of rows: its values scattered, in runs, in pieces, in turn, or one prevailing.
+/// A column of many values, most of them in few rows.
+pub fn column_of_many(random: &mut Random) -> Column {
+    let ty = random.below(types::WIDTHS.len()) as u32;
+    let number = match random.below(20) {
+        0..=15 => random.between(30, 120),
+        16..=18 => random.between(121, 800),
+        _ => random.between(801, 4096),
+    };
+    let rows = random.between(number, 2 * number);
+    column_with(random, ty, rows, number)
+}
+
+/// A column of that type and number of rows.
 pub fn column_of(random: &mut Random, ty: u32, rows: usize) -> Column {
     let number = match random.below(10) {
         0..=1 => 1,
@@ -140,6 +152,11 @@ pub fn column_of(random: &mut Random, ty: u32, rows: usize) -> Column {
         7..=8 => random.between(2, 60),
         _ => random.between(1, rows.clamp(1, 1500)),
     };
+    column_with(random, ty, rows, number)
+}
+
+/// A column of at most that many values: scattered, in runs, in pieces, in turn, or one prevailing.
+fn column_with(random: &mut Random, ty: u32, rows: usize, number: usize) -> Column {
     let longest = if rows <= 20 { 65535 } else { 40 };
     let values = distinct_values(random, ty, number, longest);
     let null_percent = *random.pick(&[0, 0, 0, 0, 1, 10, 50, 95, 100]);
@@ -211,6 +228,27 @@ pub fn row_set(random: &mut Random, end: u32) -> Vec<u32> {
     rows.sort_unstable();
     rows.dedup();
     rows
+}
+
+/// Rows of several containers, and few values that have them in stretches, long and short, or scattered.
+pub fn wide_groups(random: &mut Random) -> Groups {
+    let rows = random.between(65537, 4 * 65536 + 9) as u32;
+    let number = random.between(1, 4);
+    let mut of: Vec<Vec<u32>> = vec![Vec::new(); number + 1];
+    let mut row = 0;
+    while row < rows {
+        let longest = *random.pick(&[3, 100, 5_000, 70_000]);
+        let end = rows.min(row + random.between(1, longest) as u32);
+        let (owner, scattered) = (random.below(number + 1), random.percent(30));
+        for row in row..end {
+            let owner = if scattered && random.percent(10) { random.below(number + 1) } else { owner };
+            of[owner].push(row);
+        }
+        row = end;
+    }
+    let nulls = of.pop().expect("an owner more than values");
+    let values = of.into_iter().enumerate().map(|(i, rows)| (vec![i as u8], rows)).collect();
+    Groups { ty: types::TINYINT, rows, nulls, values }
 }
 
 /// A form for a bitmap of these rows.
@@ -518,14 +556,22 @@ pub fn question(random: &mut Random, groups: &Groups) -> (u32, Vec<Vec<u8>>) {
             0..=1 => 0,
             2..=5 => 1,
             6..=15 => random.between(2, 6),
-            16..=18 => random.between(7, 50),
+            16..=17 => random.between(7, 50),
+            18 => random.between(51, 300),
             _ if groups.rows <= 2000 => *random.pick(&[1023, 1024]),
             _ => 70,
         },
         _ => 0,
     };
-    let literals = (0..number).map(|_| literal(random, groups)).collect();
-    (question, literals)
+    // Many literals are to be many values, and not few of them many times.
+    let mut values: Vec<&Vec<u8>> = groups.values.iter().map(|(value, _)| value).collect();
+    random.shuffle(&mut values);
+    let mut unused = values.into_iter().filter(|value| number > 6 && value.len() <= 1000);
+    let literals = (0..number).map(|_| match unused.next() {
+        Some(value) if random.percent(80) => value.clone(),
+        _ => literal(random, groups),
+    });
+    (question, literals.collect())
 }
 
 /// A literal: mostly a value of the groups, also its neighbours and any other.

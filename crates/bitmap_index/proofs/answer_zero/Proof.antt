@@ -1,34 +1,54 @@
--- `answer_zero` meets its contract: the rows of the chosen entries are counted, and no row says skip.
+-- `answer_zero` meets its contract: after an accepted audit the chosen entries' rows are the answer; no row says skip.
+use Rattle.numbers.proofs.ByteLists.{bytes-drop}
 use Rattle.dictionary.specs.Promises.{dictionaryOf}
-use Rattle.bitmap_index.proofs.Asking.{zero-refused, zero-skip, zero-keep}
+use Rattle.bitmap_index.proofs.Answering.{audited-sound, audited-answers}
+use Rattle.bitmap_index.proofs.Asking.{zero-skip, zero-keep}
 use borrow.Author.Needs.{needs}
 use Rattle.bitmap_index.proofs.answer_zero.Statement.{statement}
 use Rattle.bitmap_index.proofs.answer_zero.Tie as tie
 
+mark-asked-requires : tie.Need-mark-asked-requires
+mark-asked-requires c κs =
+    let known = c .before .before in
+    let start = known .before .before in
+    let a = start .args in
+    let region = bytes-drop (a .summary .region .0) (a .body .now) (λ i. known .shared-slice-known .given i .fits) in
+    let accepted = start .pre .0 in (
+      record {
+        is-read = accepted .is-read;
+        sound = λ es d. let (n, ok) = accepted .accepts es d in audited-sound (dictionaryOf (a .body .now) (a .summary) es) (a .field .now) region n ok;
+      },
+      start .pre .1,
+    )
+
 returns : tie.Need-returns
 returns c =
-    let at-placed = c .before .before .before .before .before in
-    let at-place-entries = at-placed .before .before .before .before in
-    let a = at-place-entries .before .before .before .before .before .args in
-    λ es l ls k. zero-refused (a .question) ls (dictionaryOf (a .body .now) (a .summary) es) (a .field .now) (at-place-entries .place-entries .ensures es l ls k) (at-placed .placed .given .1) (c .before .before .clear .ensures)
+    let marked = c .before .before .before .before .before in
+    let known = marked .before .before .before in
+    let start = known .before .before in
+    let a = start .args in
+    let region = bytes-drop (a .summary .region .0) (a .body .now) (λ i. known .shared-slice-known .given i .fits) in
+    λ es d ls w.
+    let (n, ok) = start .pre .0 .accepts es d in
+    zero-skip (a .question) ls (dictionaryOf (a .body .now) (a .summary) es) (a .field .now)
+    (audited-answers (dictionaryOf (a .body .now) (a .summary) es) (a .field .now) region n ok (a .question) ls (marked .mark-asked .ensures es d ls w))
+    (c .before .count .ensures) (c .if1 .taken)
 
 returns-2 : tie.Need-returns-2
 returns-2 c =
-    let at-enum-told = c .before .before .before in
-    let at-place-entries = at-enum-told .before .before .before .before in
-    let a = at-place-entries .before .before .before .before .before .args in
-    λ es l ls k. zero-skip (a .question) ls (dictionaryOf (a .body .now) (a .summary) es) (a .field .now) (at-place-entries .place-entries .ensures es l ls k) (at-enum-told .enum-told .given .1) (c .before .count .ensures) (c .if1 .taken)
-
-returns-3 : tie.Need-returns-3
-returns-3 c =
-    let at-enum-told = c .before .before .before in
-    let at-place-entries = at-enum-told .before .before .before .before in
-    let a = at-place-entries .before .before .before .before .before .args in
-    λ es l ls k. zero-keep (a .question) ls (dictionaryOf (a .body .now) (a .summary) es) (a .field .now) (at-place-entries .place-entries .ensures es l ls k) (at-enum-told .enum-told .given .1) (c .before .count .ensures) (c .if1 .left)
+    let marked = c .before .before .before .before .before in
+    let known = marked .before .before .before in
+    let start = known .before .before in
+    let a = start .args in
+    let region = bytes-drop (a .summary .region .0) (a .body .now) (λ i. known .shared-slice-known .given i .fits) in
+    λ es d ls w.
+    let (n, ok) = start .pre .0 .accepts es d in
+    zero-keep (a .question) ls (dictionaryOf (a .body .now) (a .summary) es) (a .field .now)
+    (audited-answers (dictionaryOf (a .body .now) (a .summary) es) (a .field .now) region n ok (a .question) ls (marked .mark-asked .ensures es d ls w))
+    (c .before .count .ensures) (c .if1 .left)
 
 pub answer-zero-spec : {M : Type 1} → statement M
 answer-zero-spec =
     tie.close
     (tie.spec
-    (λ c κs. search needs) (λ c. search needs) (λ c κs. search needs) (λ c. search needs) returns (λ c. search needs) (λ c κs. search needs)
-    (λ c. search needs) returns-2 (λ c. search needs) returns-3)
+    mark-asked-requires (λ c κs. search needs) (λ c. search needs) returns (λ c. search needs) returns-2)

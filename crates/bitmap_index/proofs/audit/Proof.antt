@@ -1,5 +1,5 @@
 -- `audit` meets its contract: a refusal before the field is written leaves it, and all else is `audit_field`'s.
-use Rattle.bitmap_index.proofs.Auditing.{is-dictionary, audit-refused, audit-found}
+use Rattle.bitmap_index.proofs.Auditing.{is-ready, audit-refused, audit-found}
 use borrow.Author.Needs.{needs}
 use Rattle.bitmap_index.proofs.audit.Statement.{statement}
 use Rattle.bitmap_index.proofs.audit.Tie as tie
@@ -8,7 +8,7 @@ audit-field-requires : tie.Need-audit-field-requires
 audit-field-requires c κs =
     let at-prepare = c .before .before .before .before in
     let a = at-prepare .before .before .before .before .args in
-    is-dictionary (a .t) (a .body .now) (a .field .now) (c .before .before .prepared2 .given .1) (at-prepare .prepare .ensures)
+    is-ready (a .t) (a .body .now) (a .field .now) (c .before .before .prepared2 .given .1) (at-prepare .prepare .ensures)
 
 returns : tie.Need-returns
 returns c =
@@ -20,7 +20,8 @@ returns-2 c =
     let at-prepared = c .before .before .before .before .before in
     let at-prepare = at-prepared .before .before in
     let a = at-prepare .before .before .before .before .args in
-    audit-found (a .t) (a .body .now) (a .field .now) (at-prepared .prepared2 .given .1) (at-prepare .prepare .ensures) (c .before .before .audit-field .ensures)
+    audit-found (a .t) (a .body .now) (a .field .now) (at-prepared .prepared2 .given .1) (at-prepare .prepare .ensures)
+    (c .before .before .audit-field .ensures)
 
 pub audit-spec : {M : Type 1} → statement M
 audit-spec =

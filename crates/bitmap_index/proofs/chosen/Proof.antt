@@ -1,28 +1,50 @@
 -- `chosen` meets its contract by the cases on the question's number.
-use mathlib.Core.Path.{_∙_}
-use Rattle.stored_value.proofs.Laws.{listed-in}
-use Rattle.bitmap_index.proofs.Choosing.{is-listed, not-listed, neither}
+use native.Mathlib.Omega.{arith}
+use Rattle.bitmap_index.proofs.Choosing.{is-one, not-one, is-in, not-in, holds-some, neither}
 use borrow.Author.Needs.{needs}
 use Rattle.bitmap_index.proofs.chosen.Statement.{statement}
 use Rattle.bitmap_index.proofs.chosen.Tie as tie
 
+find-requires : tie.Need-find-requires
+find-requires c κs =
+    let start = c .before .before .before .before in
+    holds-some (start .args .question) (start .args .literals .now) (start .args .table .now) (start .pre) (omega (arith, c .match .keys3))
+    (omega (arith, c .match .keys3))
+
+find-requires-2 : tie.Need-find-requires-2
+find-requires-2 c κs =
+    let start = c .before .before .before .before in
+    holds-some (start .args .question) (start .args .literals .now) (start .args .table .now) (start .pre) (omega (arith, c .match .keys4))
+    (omega (arith, c .match .keys4))
+
 returns : tie.Need-returns
 returns c =
-    let a = c .before .before .before .before .args in
-    λ ls h. is-listed (a .question) (a .v .now) ls (c .before .match .keys1) (c .listed .ensures ∙ listed-in (a .t) (a .v .now) (a .literals .now) ls h)
+    let a = c .before .before .before .before .before .args in
+    λ ls w. is-one (a .question) (a .v .now) (a .literals .now) (a .table .now) ls w (c .before .match .keys1) (c .same .ensures)
 
 returns-2 : tie.Need-returns-2
 returns-2 c =
-    let a = c .before .before .before .before .args in
-    λ ls h. not-listed (a .question) (a .v .now) ls (c .before .match .keys2) (c .listed2 .ensures ∙ listed-in (a .t) (a .v .now) (a .literals .now) ls h)
+    let a = c .before .before .before .before .before .args in
+    λ ls w. not-one (a .question) (a .v .now) (a .literals .now) (a .table .now) ls w (c .before .match .keys2) (c .same2 .ensures)
 
 returns-3 : tie.Need-returns-3
 returns-3 c =
-    let a = c .before .before .before .args in
-    λ ls h. neither (a .question) (a .v .now) ls (c .match .rest .0 .1) (c .match .rest .1)
+    let a = c .before .before .before .before .before .args in
+    λ ls w. is-in (a .question) (a .v .now) (a .literals .now) (a .table .now) ls w (c .before .match .keys3) (c .find .ensures)
+
+returns-4 : tie.Need-returns-4
+returns-4 c =
+    let a = c .before .before .before .before .before .args in
+    λ ls w. not-in (a .question) (a .v .now) (a .literals .now) (a .table .now) ls w (c .before .match .keys4) (c .find2 .ensures)
+
+returns-5 : tie.Need-returns-5
+returns-5 c =
+    let a = c .before .before .before .before .args in
+    let r = c .match .rest in
+    λ ls w. neither (a .question) (a .v .now) ls (r .0 .0 .0 .1) (r .0 .0 .1) (r .0 .1) (r .1)
 
 pub chosen-spec : {M : Type 1} → statement M
 chosen-spec =
     tie.close
     (tie.spec
-    (λ c κs. search needs) (λ c κs. search needs) returns returns-2 returns-3)
+    (λ c κs. search needs) (λ c κs. search needs) find-requires find-requires-2 returns returns-2 returns-3 returns-4 returns-5)

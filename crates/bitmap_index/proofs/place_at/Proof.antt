@@ -13,16 +13,20 @@ cast-t10 c = row-cast (c .before .before .before .before .args .offset) (c .befo
 
 returns : tie.Need-returns
 returns c =
-    let a = c .before .before .before .before .before .before .before .args in
-    as-row (a .offset) (a .extent) (a .rows) (a .region .now) (a .field .now) (c .before .before .before .before .before .before .before .fits .offset) (c .before .before .before .before .if1 .taken) (c .before .before .place-row .ensures)
+    let start = c .before .before .before .before .before .before .before in
+    let a = start .args in
+    as-row (a .offset) (a .extent) (a .rows) (a .region .now) (a .field .now) (start .fits .offset) (c .before .before .before .before .if1 .taken)
+    (c .before .before .place-row .ensures)
 
 cast-t14 : tie.Need-cast-t14
 cast-t14 c = place-cast (c .before .before .before .before .args .offset) (c .before .before .before .before .fits .offset) (c .before .if1 .left)
 
 returns-2 : tie.Need-returns-2
 returns-2 c =
-    let a = c .before .before .before .before .before .before .before .args in
-    as-place (a .offset) (a .extent) (a .rows) (a .region .now) (a .field .now) (c .before .before .before .before .before .before .before .fits .offset) (c .before .before .before .before .if1 .left) (c .before .before .place-bitmap .ensures)
+    let start = c .before .before .before .before .before .before .before in
+    let a = start .args in
+    as-place (a .offset) (a .extent) (a .rows) (a .region .now) (a .field .now) (start .fits .offset) (c .before .before .before .before .if1 .left)
+    (c .before .before .place-bitmap .ensures)
 
 pub place-at-spec : {M : Type 1} → statement M
 place-at-spec =

@@ -11,13 +11,17 @@ returns c =
 
 returns-2 : tie.Need-returns-2
 returns-2 c =
-    let a = c .before .before .before .before .before .before .before .args in
-    row-twice (a .row .0) (a .rows) (a .field .now) (c .before .before .before .before .before .if1 .left) (c .before .before .before .mark .ensures .0) (c .before .before .before .mark .ensures .1) (c .if2 .taken)
+    let marked = c .before .before .before in
+    let a = marked .before .before .before .before .args in
+    row-twice (a .row .0) (a .rows) (a .field .now) (marked .before .before .if1 .left) (marked .mark .ensures .0) (marked .mark .ensures .1) (c .if2 .taken)
 
 returns-3 : tie.Need-returns-3
 returns-3 c =
-    let a = c .before .before .before .before .before .before .before .args in
-    row-done (a .row .0) (a .rows) (a .field .now) (c .before .before .before .before .before .if1 .left) (c .before .before .before .mark .ensures .0) (c .before .before .before .mark .ensures .1) (c .if2 .left)
+    let marked = c .before .before .before in
+    let start = marked .before .before .before .before in
+    let a = start .args in
+    row-done (a .row .0) (a .rows) (a .field .now) (marked .before .before .if1 .left) (marked .mark .ensures .0) (marked .mark .ensures .1)
+    (start .pre) (c .if2 .left)
 
 pub place-row-spec : {M : Type 1} → statement M
 place-row-spec =

@@ -1,59 +1,61 @@
--- The walk over the sizes. What carries it is `WalkState`: what the reading makes of the bytes that are left, with the bins passed and the place of the one
--- sought, is what it makes of the whole.
+-- The search by steps. What carries it is `WalkState`: what the reading makes of the bytes that are left, with the bins passed and what they gave, is what it
+-- makes of the whole.
 use Prim.Native.Nat.{_-_, _≤_}
 use mathlib.Core.Logic.{⊎-elim}
+use borrow.Author.Needs.{needs}
 use native.Mathlib.Omega.{arith}
 use lib.ListN.{length}
-use Rattle.deletion_file.specs.Reading.{binIn}
-use Rattle.deletion_file.proofs.WalkSteps.{WalkState, walk-first, walk-cut, walk-small, walk-long, walk-this, walk-other, walk-found, walk-none}
+use Rattle.deletion_file.specs.declared.NextBin.{NextBin}
+use Rattle.deletion_file.specs.Promises.{FindsNext}
+use Rattle.deletion_file.proofs.WalkSteps.{WalkState, walk-first, walk-short, walk-over, walk-this, walk-other}
 use Rattle.deletion_file.proofs.find_bin.Statement.{statement}
 use Rattle.deletion_file.proofs.find_bin.Tie as tie
 
 abbrev Inv-loop : tie.InvT-loop
-Inv-loop file bin next₀ passed₀ start₀ end₀ next passed start end =
-    (next ≤ length file) × (passed ≤ next) × WalkState (binIn bin file) file bin next passed start end
+Inv-loop file bin next₀ passed₀ found₀ next passed found = (next ≤ length file) × (passed ≤ next) × WalkState file bin next passed found
 
 abbrev μ-loop : tie.MeasureT-loop
-μ-loop file bin next₀ passed₀ start₀ end₀ next passed start end = length file - next
+μ-loop file bin next₀ passed₀ found₀ next passed found = length file - next
 
 loop-holds : tie.Need-loop-holds Inv-loop μ-loop
-loop-holds c = (omega arith, omega arith, walk-first _ _ _ _)
+loop-holds c = (omega arith, omega arith, walk-first _ _ (omega arith))
 
 returns : tie.Need-returns Inv-loop μ-loop
-returns c = walk-cut (c .before .before .loop .inv .2) (omega arith) (omega arith)
+returns c =
+    let stepped = c .before .before in
+    walk-short (stepped .before .loop .inv .2) (rw (c .enum-told .given .1) at (stepped .next-bin .ensures))
 
 returns-2 : tie.Need-returns-2 Inv-loop μ-loop
 returns-2 c =
-    let state = c .before .before .before .before .loop .inv .2 in
-    walk-small state (omega arith) (omega arith) (c .before .be32 .ensures .0) (omega arith)
+    let stepped = c .before .before in
+    walk-over _ (stepped .before .loop .inv .2) (rw (c .enum-told2 .given .1) at (stepped .next-bin .ensures))
 
-returns-3 : tie.Need-returns-3 Inv-loop μ-loop
-returns-3 c =
-    let state = c .before .before .before .before .before .loop .inv .2 in
-    walk-long state (omega arith) (omega arith) (c .before .before .be32 .ensures .0) (omega arith) (omega arith)
+-- the bin that was passed
+the-bin : (c : tie.After-struct-known Inv-loop μ-loop)
+    → let l = c .before .before .before .before .before .before in
+    let place = c .before .before .before .step .given .0 in
+    FindsNext (l .loop .next) (l .before .before .args .file .now) (NextBin.Bin (place .0) (place .1 .0))
+the-bin c = rw (c .before .before .before .step .given .1) at (c .before .before .before .before .before .next-bin .ensures)
+
+add-next : tie.Need-add-next Inv-loop μ-loop
+add-next c = let w = the-bin c in omega arith
+
+loop-less : tie.Need-loop-less Inv-loop μ-loop
+loop-less c = let w = the-bin c in omega arith
 
 loop-again : tie.Need-loop-again Inv-loop μ-loop
 loop-again c =
-    let read = c .before .before .before in
-    let state = read .before .before .before .loop .inv .2 in
-    let size = read .be32 .ensures .0 in (
+    let state = c .before .before .before .before .before .before .loop .inv .2 in
+    let w = the-bin c in (
       omega arith,
       omega arith,
-      ⊎-elim (λ w. rw (w .1, w .2) (walk-this state (omega arith) (omega arith) size (omega arith) (omega arith) (w .0 .taken)))
-          (λ w. rw (w .1, w .2) (walk-other state (omega arith) (omega arith) size (omega arith) (omega arith) (w .0 .left))) (c .if4 .came),
+      ⊎-elim (λ came. rw (came .1) (walk-this (w .0) (w .1) (w .2) _ state (came .0 .taken)))
+          (λ came. rw (came .1) (walk-other (w .0) (w .1) (w .2) _ state (came .0 .left))) (c .before .if1 .came),
     )
-
-returns-4 : tie.Need-returns-4 Inv-loop μ-loop
-returns-4 c =
-    let state = c .before .before .loop .inv .2 in
-    (walk-found state (omega arith) (omega arith), state .inside (omega arith))
-
-returns-5 : tie.Need-returns-5 Inv-loop μ-loop
-returns-5 c = walk-none (c .before .before .loop .inv .2) (omega arith) (omega arith)
 
 pub find-bin-spec : {M : Type 1} → statement M
 find-bin-spec =
     tie.close
     (tie.spec
-    Inv-loop μ-loop loop-holds (λ c. omega arith) returns (λ c κs. omega arith) returns-2 (λ c. omega arith) returns-3 (λ c. omega arith)
-    (λ c. omega arith) (λ c. omega arith) (λ c. omega arith) (λ c. omega arith) (λ c. omega arith) loop-again returns-4 returns-5)
+    Inv-loop μ-loop loop-holds (λ c κs. search needs) (λ c. search needs) returns (λ c. search needs) returns-2 (λ c. search needs)
+    add-next (λ c. omega arith) loop-less loop-again)

@@ -1,24 +1,33 @@
--- What `roaring::mark` ensures, put into the reading: a refusal leaves the field as it was, and what was marked is counted.
+-- What `measure` and `mark` ensure, put into the reading: a refusal leaves the field as it was, and what was marked is counted.
 use borrow.Author.Needs.{needs}
-use Rattle.deletion_file.proofs.CallSteps.{refused-so, done-so, length-part}
+use native.Mathlib.Omega.{arith}
+use Rattle.deletion_file.proofs.CallSteps.{unsound-so, beyond-so, sound-below, marked-so}
 use Rattle.deletion_file.proofs.mark_bitmap.Statement.{statement}
 use Rattle.deletion_file.proofs.mark_bitmap.Tie as tie
 
 returns : tie.Need-returns
-returns c =
-    let marked = c .before .before .before .before .before in
-    let start = marked .before .before .before .before .before in
-    refused-so _ _ _ (length-part _ _ _ (start .pre .inside)) (marked .mark .ensures) (c .before .done .given .1)
+returns c = beyond-so _ _ _ (c .before .before .before .before .measure .ensures) (c .before .before .measured .given .1) (omega arith)
+
+mark-requires : tie.Need-mark-requires
+mark-requires c κs =
+    let sound = c .before .before .before in
+    let known = sound .before .before .before .before in
+    sound-below _ (known .before .args .field .now) _ (sound .before .before .measure .ensures) (sound .measured .given .1) (omega arith)
+    (λ i. known .shared-slice-known .given i .fits)
 
 returns-2 : tie.Need-returns-2
-returns-2 c =
-    let marked = c .before .before .before .before .before .before in
-    let start = marked .before .before .before .before .before in
-    done-so _ _ _ (length-part _ _ _ (start .pre .inside)) (marked .mark .ensures) (c .before .before .enum-told .given .1) (c .count .ensures)
+returns-2 c = unsound-so _ _ _ (c .before .before .measure .ensures) (c .enum-told .given .1)
+
+returns-3 : tie.Need-returns-3
+returns-3 c =
+    let marked = c .before .before .before .before in
+    let sound = marked .before .before .before .before in
+    let known = sound .before .before .before .before in
+    marked-so _ _ _ (sound .before .before .measure .ensures) (sound .measured .given .1) (omega arith)
+    (λ i. known .shared-slice-known .given i .fits) (marked .mark .ensures) (c .count .ensures)
 
 pub mark-bitmap-spec : {M : Type 1} → statement M
 mark-bitmap-spec =
     tie.close
     (tie.spec
-    (λ c. search needs) (λ c. search needs) (λ c. search needs) (λ c. search needs) (λ c κs. search needs) (λ c. search needs) (λ c. search needs)
-    (λ c κs. search needs) (λ c. search needs) returns (λ c. search needs) returns-2)
+    (λ c κs. search needs) (λ c. search needs) (λ c. search needs) returns mark-requires (λ c κs. search needs) returns-2 (λ c. search needs) returns-3)

@@ -38,7 +38,7 @@ returns-3 c =
     two-directory (a .t) (a .n) (a .body .now) (a .at .0) (blocks k) (f .before .blocks-fit .ensures) (not-false _ (f .if1 .left)) (rw (c .before .r2 .given .1) at (c .before .before .before .directory-end .ensures))
 
 sub-if2 : tie.Need-sub-if2
-sub-if2 c = omega (arith, listed c .4)
+sub-if2 c = omega (arith, listed c .3)
 
 returns-4 : tie.Need-returns-4
 returns-4 c =
@@ -51,9 +51,9 @@ returns-4 c =
 all-blocks-requires : tie.Need-all-blocks-requires
 all-blocks-requires c κs =
     let d = c .before .before in
-    let l = listed d .4 in
+    let l = listed d .3 in
     let n = blocks (d .before .before .before .before .before .before .before) in
-    (omega arith, n .2)
+    (omega arith, n .2, (listed d .0, listed d .2))
 
 returns-5 : tie.Need-returns-5
 returns-5 c =
@@ -61,7 +61,7 @@ returns-5 c =
     let f = d .before .before .before .before .before in
     let k = f .before .before in
     let a = k .before .before .before .before .before .args in
-    let l = listed d .4 in
+    let l = listed d .3 in
     two-broken (a .t) (a .n) (a .body .now) (a .at .0) (blocks k) (f .before .blocks-fit .ensures) (not-false _ (f .if1 .left)) (listed d) (omega arith) (c .before .before .before .before .be32 .ensures .0)
     (rw (c .before .r3 .given .1) at (c .before .before .before .all-blocks .ensures))
 
@@ -75,7 +75,7 @@ returns-6 c =
     let f = d .before .before .before .before .before in
     let k = f .before .before in
     let a = k .before .before .before .before .before .args in
-    let l = listed d .4 in
+    let l = listed d .3 in
     two-offset (a .t) (a .n) (a .body .now) (a .at .0) (blocks k) (f .before .blocks-fit .ensures) (not-false _ (f .if1 .left)) (listed d) (omega arith) (e .before .before .before .before .be32 .ensures .0)
     (rw (e .before .next .given .1) at (e .before .before .before .all-blocks .ensures)) (c .if3 .taken)
 
@@ -86,7 +86,7 @@ returns-7 c =
     let f = d .before .before .before .before .before in
     let k = f .before .before in
     let a = k .before .before .before .before .before .args in
-    let l = listed d .4 in
+    let l = listed d .3 in
     two-sum (a .t) (a .n) (a .body .now) (a .at .0) (blocks k) (f .before .blocks-fit .ensures) (not-false _ (f .if1 .left)) (listed d) (omega arith) (e .before .before .before .before .be32 .ensures .0)
     (rw (e .before .next .given .1) at (e .before .before .before .all-blocks .ensures)) (c .before .if3 .left) (c .if4 .taken)
 
@@ -97,7 +97,7 @@ returns-8 c =
     let f = d .before .before .before .before .before in
     let k = f .before .before in
     let a = k .before .before .before .before .before .args in
-    let l = listed d .4 in
+    let l = listed d .3 in
     two-ends (a .t) (a .n) (a .body .now) (a .at .0) (blocks k) (f .before .blocks-fit .ensures) (not-false _ (f .if1 .left)) (listed d) (omega arith) (e .before .before .before .before .be32 .ensures .0)
     (rw (e .before .next .given .1) at (e .before .before .before .all-blocks .ensures)) (c .before .if3 .left) (c .if4 .left)
 

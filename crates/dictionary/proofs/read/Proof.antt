@@ -25,7 +25,10 @@ returns-3 c =
     read-null (a .t) (a .body .now) (k .if1 .left) (f .before .version2 .given .1) (f .before .before .before .fixed-fields .ensures) (c .before .before .before .null-entry .ensures) (c .before .r2 .given .1)
 
 entries-requires : tie.Need-entries-requires
-entries-requires c κs = let n = rw (c .before .offset .given .1) at (c .before .before .before .null-entry .ensures) in n .1
+entries-requires c κs =
+    let n = rw (c .before .offset .given .1) at (c .before .before .before .null-entry .ensures) in
+    let f = rw (c .before .before .before .before .before .version2 .given .1) at (c .before .before .before .before .before .before .before .fixed-fields .ensures) in
+    (n .1, f .3)
 
 returns-4 : tie.Need-returns-4
 returns-4 c =

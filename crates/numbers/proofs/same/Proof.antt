@@ -1,45 +1,22 @@
--- `same` meets its contract: what is left of both, compared, gives the whole.
-use Prim.Native.Nat.{_-_, _≤_}
-use mathlib.Core.Path.{_≡_, refl, sym, _∙_}
+-- `same` meets its contract: slices of different lengths differ, those of one length are compared.
+use mathlib.Core.Path.{sym}
 use native.Mathlib.Omega.{arith}
-use lib.ListN.{length, drop}
-use Rattle.numbers.specs.Meaning as meaning
-use Rattle.numbers.proofs.SameBytes.{same-next, same-ends, same-done, same-other}
+use borrow.Author.Needs.{needs}
+use Rattle.numbers.proofs.SameBytes.{same-other}
 use Rattle.numbers.proofs.same.Statement.{statement}
 use Rattle.numbers.proofs.same.Tie as tie
 
-abbrev Inv-loop : tie.InvT-loop
-Inv-loop a b i₀ i = (i ≤ length a) × (meaning.same (drop i a) (drop i b) ≡ meaning.same a b)
-
-abbrev μ-loop : tie.MeasureT-loop
-μ-loop a b i₀ i = length a - i
-
-returns : tie.Need-returns Inv-loop μ-loop
-returns c = let a = c .before .args in sym (same-other (a .a .now) (a .b .now) (λ e. omega arith))
-
-loop-holds : tie.Need-loop-holds Inv-loop μ-loop
-loop-holds c = (omega arith, refl)
-
-returns-2 : tie.Need-returns-2 Inv-loop μ-loop
-returns-2 c =
-    let l = c .before .before .before .before .loop in
-    let a = c .before .before .before .before .before .before .args in
-    sym (same-ends (a .a .now) (a .b .now) (l .i) (omega arith) (omega arith) (c .if2 .taken)) ∙ l .inv .1
-
-loop-again : tie.Need-loop-again Inv-loop μ-loop
-loop-again c =
-    let l = c .before .before .before .before .loop in
-    let a = c .before .before .before .before .before .before .args in
-    (omega arith, sym (same-next (a .a .now) (a .b .now) (l .i) (omega arith) (omega arith) (c .if2 .left)) ∙ l .inv .1)
-
-returns-3 : tie.Need-returns-3 Inv-loop μ-loop
-returns-3 c =
-    let l = c .before .loop in
-    let a = c .before .before .before .args in
-    sym (same-done (a .a .now) (a .b .now) (l .i) (omega arith) (omega arith)) ∙ l .inv .1
+returns : tie.Need-returns
+returns c = let a = c .before .before .before .args in sym (same-other (a .a .now) (a .b .now) (λ e. omega arith))
 
 pub same-spec : {M : Type 1} → statement M
 same-spec =
     tie.close
     (tie.spec
-    Inv-loop μ-loop returns loop-holds (λ c. omega arith) (λ c. omega arith) returns-2 (λ c. omega arith) (λ c. omega arith) loop-again returns-3)
+    returns
+    (λ c κs. search needs)
+    (λ c. search needs)
+    (λ c κs. search needs)
+    (λ c. search needs)
+    (λ c κs. search needs)
+    (λ c. search needs))

@@ -1,0 +1,3 @@
+-- Laws of the hash, and of a table's chains.
+pub mod Hashing
+pub mod Chaining
