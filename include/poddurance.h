@@ -3,7 +3,8 @@
  * Link the archive that `rt staticlib poddurance` writes to target/staticlib/libpoddurance.a (x86-64 Linux).
  * Every call ends, reads and writes only inside the buffers it is lent, allocates nothing and keeps no state.
  * A buffer that is written must not overlap another of the call. A pointer may not be NULL, even where its length is 0. Each count, start and length is
- * written to a uint64_t of its own, aligned as the compiler aligns it, distinct from the others of the call and outside its buffers.
+ * written to a uint64_t of its own, and the fault to a poddurance_fault, aligned as the compiler aligns them, distinct from the others of the call and
+ * outside its buffers.
  *
  * A row field for n rows is the first (n + 7) / 8 bytes of a buffer: row r is the bit of weight 1 << (r % 8) in byte r / 8, and the spare bits of its
  * last byte are 0. Bytes of the buffer behind the field never change.
@@ -15,15 +16,17 @@
  *    3 VERSION   the version of an index file, a body or a deletion file is unknown
  *    4 HEAD      the head of an index file breaks a rule
  *    5 DICT      a dictionary breaks a rule
- *    6 BITMAP    place, length or form of a bitmap is wrong
- *    7 RANGE     a row at or above the row count
- *    8 TWICE     a row already placed
- *    9 MISSING   a row never placed
+ *    6 BITMAP    place, length or form of a bitmap is wrong; carries the entry and the container
+ *    7 RANGE     a row at or above the row count; carries the entry
+ *    8 TWICE     a row already placed; carries the entry that places it again
+ *    9 MISSING   a row never placed; carries the lowest one
  *   10 ROOM      a lent field has fewer than (n + 7) / 8 bytes
  *   11 LITERAL   literals don't fit question and type
  *   12 LIMIT     a limit is passed (an input buffer or a row count above 2147483647, and others)
  *   13 CHECKSUM  the checksum of a bin differs
  *   14 NOBIN     the bin number is not below the number of bins
+ *
+ * What a refusal carries is written to the call's poddurance_fault; refusals listed without 'carries' carry nothing.
  *
  * With any answer but 0 the counts, start and length are 0. Refusals up to and including ROOM leave the field's buffer as it was; later ones leave the
  * field's (n + 7) / 8 bytes zero. In the order in which causes are tested, with a bar behind ROOM:
@@ -92,9 +95,23 @@ enum {
     PODDURANCE_QUESTION_IS_NOT_NULL = 5  /* none */
 };
 
+/* Where the cause of a refusal is: 0 in each number that the refusal does not carry, and all 0 with an accepted answer and with 255. Lent as the counts are.
+ *
+ * entry      the dictionary's entry, in stored order: null's is 0, the values' are 1 and on, whether there is a null or not and through all blocks. 0 in a
+ *            deletion bin.
+ * container  the lowest container of the entry's bitmap, from 0, whose key, cardinality, offset or bytes are wrong or cut off. 0 for a fault in the bitmap's place,
+ *            cookie, count or flags and for a length below -1 or past the body; else a length other than -1 ends the bytes there, so that the container it
+ *            cuts is named. If only bytes left over behind the last container are wrong, the number of containers.
+ * row        the lowest row without a place, from 0. */
+typedef struct {
+    uint64_t entry;
+    uint64_t container;
+    uint64_t row;
+} poddurance_fault;
+
 /* Read deletions: the rows of bin number `bin` (from 0) of a deletion file, into a field for `rows` rows, and how many they are. */
 uint8_t poddurance_read_deletions(const uint8_t *file, size_t file_len, uint64_t bin, uint64_t rows,
-                                  uint8_t *field, size_t field_len, uint64_t *deleted);
+                                  uint8_t *field, size_t field_len, uint64_t *deleted, poddurance_fault *fault);
 
 /* Subtract: clears in `first` each row below `rows` that is set in `second`. Answers how many rows below `rows` are left in `first`, and how many were
  * removed. ROOM is tested on both fields. */
@@ -110,21 +127,21 @@ uint8_t poddurance_locate(const uint8_t *embedded, size_t embedded_len, const ui
 
 /* Audit: whether the body gives every row exactly one place; the row count. Accepted or refused behind ROOM, the field's bytes are zero. */
 uint8_t poddurance_audit(const uint8_t *body, size_t body_len, uint32_t type,
-                         uint8_t *field, size_t field_len, uint64_t *rows);
+                         uint8_t *field, size_t field_len, uint64_t *rows, poddurance_fault *fault);
 
 /* Ask: audits the body; then exactly the rows that the question chooses are set in the field. Literals lie one after another in the type's stored form (big-endian
  * numbers; strings with a 4-byte length). Accepted with a *matched of 0 says skip; a refusal writes 0 too. */
 uint8_t poddurance_ask(const uint8_t *body, size_t body_len, uint32_t type, uint32_t question,
                        const uint8_t *literals, size_t literals_len,
-                       uint8_t *field, size_t field_len, uint64_t *matched);
+                       uint8_t *field, size_t field_len, uint64_t *matched, poddurance_fault *fault);
 
 /* Ask of a file: Locate, then Ask on the part that it finds, in one call. 0: Ask's answer, its rows set in the field; a *matched of 0 says skip. 255: the column
  * or the kind is not listed. With 255 and with a refusal of Locate the field's buffer is as it was; with a refusal of Ask it is as Ask leaves it. *matched is 0
- * with every answer but 0. */
+ * with every answer but 0. With 255 and with a refusal of Locate the fault is all 0. */
 uint8_t poddurance_ask_file(const uint8_t *embedded, size_t embedded_len, const uint8_t *file, size_t file_len,
                             const uint8_t *column, size_t column_len, const uint8_t *kind, size_t kind_len,
                             uint32_t type, uint32_t question, const uint8_t *literals, size_t literals_len,
-                            uint8_t *field, size_t field_len, uint64_t *matched);
+                            uint8_t *field, size_t field_len, uint64_t *matched, poddurance_fault *fault);
 
 #ifdef __cplusplus
 }

@@ -336,7 +336,7 @@ impl Call<'_> {
     }
 
     fn library(&self, field: &mut [u8]) -> Answer {
-        let one = |(answer, count)| (answer, count, 0);
+        let one = |(answer, count, _)| (answer, count, 0);
         match *self {
             Call::Locate { file, column } => raw::locate(&[], file, column.as_bytes(), KIND.as_bytes()),
             Call::Audit { body, ty } => one(raw::audit(body, ty, field)),
@@ -347,7 +347,7 @@ impl Call<'_> {
     }
 
     fn reference(&self, field: &mut [u8]) -> Answer {
-        let one = |(answer, count)| (answer, count, 0);
+        let one = |(answer, count, _)| (answer, count, 0);
         match *self {
             Call::Locate { file, column } => reader::locate(&[], file, column.as_bytes(), KIND.as_bytes()),
             Call::Audit { body, ty } => one(reader::audit(body, ty, field)),

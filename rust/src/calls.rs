@@ -1,6 +1,7 @@
 use std::fmt;
 
-use crate::{raw, Literals, Question, Refusal, RowField, Type};
+use crate::raw::{self, Fault};
+use crate::{Literals, Question, Refusal, RowField, Type};
 
 /// Why a call gives no answer: a refusal, or fields and indexes of different row counts.
 ///
@@ -13,9 +14,10 @@ use crate::{raw, Literals, Question, Refusal, RowField, Type};
 /// assert_eq!(error, Error::RowsDiffer { expected: 5, found: 3 });
 /// assert_eq!(error.to_string(), "5 rows expected, 3 found");
 ///
-/// let error = Error::from(Refusal::Twice);
+/// let error = Error::from(Refusal::Twice { entry: 2 });
+/// assert_eq!(error.to_string(), "TWICE (8), a row already placed: entry 2");
 /// let source = std::error::Error::source(&error).and_then(|source| source.downcast_ref());
-/// assert_eq!(source, Some(&Refusal::Twice));
+/// assert_eq!(source, Some(&Refusal::Twice { entry: 2 }));
 /// # Ok::<(), Error>(())
 /// ```
 #[derive(Clone, Copy, Debug, PartialEq, Eq, Hash)]
@@ -38,7 +40,7 @@ impl Error {
     /// ```
     /// use poddurance::{Error, Refusal};
     ///
-    /// assert_eq!(Error::Refused(Refusal::Twice).refusal(), Some(Refusal::Twice));
+    /// assert_eq!(Error::Refused(Refusal::Twice { entry: 2 }).refusal(), Some(Refusal::Twice { entry: 2 }));
     /// assert_eq!(Error::RowsDiffer { expected: 5, found: 3 }.refusal(), None);
     /// ```
     #[must_use]
@@ -98,7 +100,8 @@ pub fn locate<'a>(embedded: &'a [u8], file: &'a [u8], column: &str, kind: &str) 
     if answer == raw::ABSENT {
         return Ok(None);
     }
-    accepted(answer)?;
+    // What Locate refuses has no entry.
+    accepted(answer, Fault::NONE)?;
     let looked_at = if embedded.is_empty() { file } else { embedded };
     Ok(Some(&looked_at[start as usize..(start + length) as usize]))
 }
@@ -117,12 +120,13 @@ pub fn locate<'a>(embedded: &'a [u8], file: &'a [u8], column: &str, kind: &str) 
 /// assert_eq!(audit(&body, Type::TinyInt, RowField::for_body(&body))?.rows(), 3);
 ///
 /// body[23] = 255; // 9 is now at row 0, where 7 is, and no longer at row 1
-/// assert_eq!(audit(&body, Type::TinyInt, RowField::for_body(&body)), Err(Error::Refused(Refusal::Twice)));
+/// let audited = audit(&body, Type::TinyInt, RowField::for_body(&body));
+/// assert_eq!(audited, Err(Error::Refused(Refusal::Twice { entry: 2 }))); // the second value's
 /// # Ok::<(), Error>(())
 /// ```
 pub fn audit(body: &[u8], ty: Type, mut field: RowField) -> Result<Audited, Error> {
-    let (answer, rows) = raw::audit(body, ty.number(), field.bytes_mut());
-    accepted(answer)?;
+    let (answer, rows, fault) = raw::audit(body, ty.number(), field.bytes_mut());
+    accepted(answer, fault)?;
     same_rows(&field, rows)?;
     Ok(Audited { field })
 }
@@ -196,8 +200,8 @@ impl Audited {
 /// ```
 pub fn ask(body: &[u8], question: Question, literals: &Literals, mut field: RowField) -> Result<Answer, Error> {
     let (ty, bytes) = (literals.ty().number(), literals.as_bytes());
-    let (answer, count) = raw::ask(body, ty, question.number(), bytes, field.bytes_mut());
-    accepted(answer)?;
+    let (answer, count, fault) = raw::ask(body, ty, question.number(), bytes, field.bytes_mut());
+    accepted(answer, fault)?;
     // An accepted body has the row count that stands in its bytes.
     same_rows(&field, RowField::claim(body))?;
     Ok(Answer { field, count })
@@ -236,7 +240,7 @@ pub fn ask(body: &[u8], question: Question, literals: &Literals, mut field: RowF
 ///
 /// file[70] = 255; // 9 is now at row 0, where 7 is, and no longer at row 1
 /// let asked = ask_file(&[], &file, "s", "bitmap", Question::NotEqual, &seven, RowField::for_rows(row_count)?);
-/// assert_eq!(asked, Err(Error::Refused(Refusal::Twice)));
+/// assert_eq!(asked, Err(Error::Refused(Refusal::Twice { entry: 2 })));
 /// # Ok::<(), Error>(())
 /// ```
 pub fn ask_file(
@@ -250,12 +254,12 @@ pub fn ask_file(
 ) -> Result<Option<Answer>, Error> {
     let (ty, question) = (literals.ty().number(), question.number());
     let (column_bytes, kind_bytes) = (column.as_bytes(), kind.as_bytes());
-    let (answer, count) =
+    let (answer, count, fault) =
         raw::ask_file(embedded, file, column_bytes, kind_bytes, ty, question, literals.as_bytes(), field.bytes_mut());
     if answer == raw::ABSENT {
         return Ok(None);
     }
-    accepted(answer)?;
+    accepted(answer, fault)?;
     // The call answers no row count. An accepted body has the one that stands in its bytes, and Locate finds the same body again.
     let body = locate(embedded, file, column, kind)?.expect("the index that was asked is there");
     same_rows(&field, RowField::claim(body))?;
@@ -347,7 +351,8 @@ impl Answer {
 
 /// Reads the deleted rows that bin number `bin`, from 0, of a deletion file lists, and gives the field back with those rows set.
 ///
-/// The data file's row count is the field's; a deleted row at or above it is [`Refusal::Range`].
+/// The data file's row count is the field's; a deleted row at or above it is [`Refusal::Range`]. A bin has no entries: [`Refusal::Range`]
+/// and [`Refusal::Bitmap`] name the entry 0, and print it. The command line leaves it out.
 ///
 /// ```
 /// use poddurance::{read_deletions, Refusal, RowField};
@@ -359,17 +364,25 @@ impl Answer {
 /// let deleted = read_deletions(&file, 0, RowField::for_rows(6)?)?;
 /// assert_eq!(deleted.count(), 3);
 /// assert!(deleted.field().iter().eq([0, 2, 5]));
-/// assert_eq!(read_deletions(&file, 0, RowField::for_rows(5)?), Err(Refusal::Range));
+/// assert_eq!(read_deletions(&file, 0, RowField::for_rows(5)?), Err(Refusal::Range { entry: 0 }));
 /// assert_eq!(read_deletions(&file, 1, RowField::for_rows(6)?), Err(Refusal::NoBin));
 ///
 /// file[34] = 0;
 /// assert_eq!(read_deletions(&file, 0, RowField::for_rows(6)?), Err(Refusal::Checksum));
+///
+/// // Rows 5 and 65,542 in two containers, the second of which lacks its last byte.
+/// let cut = [
+///     1, 0, 0, 0, 20, 0x5E, 0x43, 0xF2, 0xD0, 0x3B, 0x30, 1, 0, 0, 0, 0, 0, 0, 1, 0, 0, 0, 5, 0, 6, 0x0C, 0xB5, 0xDD, 0xE0,
+/// ];
+/// let refusal = read_deletions(&cut, 0, RowField::for_rows(65_543)?).unwrap_err();
+/// assert_eq!(refusal, Refusal::Bitmap { entry: 0, container: 1 });
+/// assert_eq!(refusal.to_string(), "BITMAP (6), place, length or form of a bitmap is wrong: entry 0, container 1");
 /// # Ok::<(), Refusal>(())
 /// ```
 pub fn read_deletions(file: &[u8], bin: u64, mut field: RowField) -> Result<Deleted, Refusal> {
     let rows = field.rows();
-    let (answer, count) = raw::read_deletions(file, bin, rows, field.bytes_mut());
-    accepted(answer)?;
+    let (answer, count, fault) = raw::read_deletions(file, bin, rows, field.bytes_mut());
+    accepted(answer, fault)?;
     Ok(Deleted { field, count })
 }
 
@@ -458,7 +471,7 @@ pub fn subtract(first: &mut RowField, second: &RowField) -> Result<Subtracted, E
     same_rows(first, second.rows())?;
     let rows = first.rows();
     let (answer, left, removed) = raw::subtract(first.bytes_mut(), second.as_bytes(), rows);
-    accepted(answer)?;
+    accepted(answer, Fault::NONE)?;
     Ok(Subtracted { left, removed })
 }
 
@@ -481,12 +494,12 @@ pub struct Subtracted {
     pub removed: u64,
 }
 
-fn accepted(answer: u8) -> Result<(), Refusal> {
+fn accepted(answer: u8, fault: Fault) -> Result<(), Refusal> {
     if answer == raw::ACCEPTED {
         return Ok(());
     }
     // The header lists no other numbers. Were there one, then going on with the field would be worse than to stop.
-    Err(Refusal::from_number(answer).unwrap_or_else(|| panic!("{answer} is no answer of the library")))
+    Err(Refusal::from_raw(answer, fault).unwrap_or_else(|| panic!("{answer} is no answer of the library")))
 }
 
 fn same_rows(field: &RowField, found: u64) -> Result<(), Error> {

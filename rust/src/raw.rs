@@ -1,25 +1,29 @@
 //! The six calls as the archive has them: numbers in, numbers out, over buffers that the caller keeps.
 //!
 //! Each call answers [`ACCEPTED`], [`ABSENT`] ([`locate`] and [`ask_file`] alone) or the number of a [`Refusal`](crate::Refusal),
-//! and then its counts, which are 0 unless the call accepts. These functions are for callers that reuse their own buffers; the functions at
-//! the top of the crate keep a field and its row count together and are harder to use wrongly.
+//! and then its counts, which are 0 unless the call accepts; those that read bitmaps answer last the [`Fault`], where a refusal's cause is.
+//! These functions are for callers that reuse their own buffers; the functions at the top of the crate keep a field and its row count
+//! together and are harder to use wrongly.
 //!
 //! A row field for n rows is the first ceil(n/8) bytes of the lent buffer. **Bytes behind it never change**, so that a buffer
 //! longer than that may hold rows of an earlier call behind the field: read no more than ceil(n/8) bytes of it. ABSENT, LIMIT,
 //! ROOM and the refusals before ROOM leave the whole buffer as it was, with the rows of an earlier call.
 //!
 //! ```
-//! use poddurance::raw;
+//! use poddurance::raw::{self, Fault};
 //!
 //! // TINYINT (0) with the rows 7, 9, null; the buffer has room for more, and bits of an earlier call.
-//! let body = [1, 0, 0, 0, 3, 0, 0, 0, 2, 1, 255, 255, 255, 253, 7, 255, 255, 255, 255, 9, 255, 255, 255, 254];
+//! let mut body = [1, 0, 0, 0, 3, 0, 0, 0, 2, 1, 255, 255, 255, 253, 7, 255, 255, 255, 255, 9, 255, 255, 255, 254];
 //! let mut buffer = [0xFF; 100];
-//! let (answer, rows) = raw::audit(&body, 0, &mut buffer);
-//! assert_eq!((answer, rows), (raw::ACCEPTED, 3));
-//! let (answer, count) = raw::ask(&body, 0, 5, &[], &mut buffer); // IS NOT NULL (5)
+//! let (answer, rows, fault) = raw::audit(&body, 0, &mut buffer);
+//! assert_eq!((answer, rows, fault), (raw::ACCEPTED, 3, Fault::NONE));
+//! let (answer, count, _) = raw::ask(&body, 0, 5, &[], &mut buffer); // IS NOT NULL (5)
 //! assert_eq!((answer, count), (raw::ACCEPTED, 2));
 //! let field = &buffer[..rows.div_ceil(8) as usize];
 //! assert_eq!(field, [0b011]);
+//!
+//! body[23] = 255; // the second value, 9, is now at row 0, where 7 is: TWICE (8), entry 2
+//! assert_eq!(raw::audit(&body, 0, &mut buffer), (8, 0, Fault { entry: 2, container: 0, row: 0 }));
 //! ```
 
 /// The answer of a call that accepts its bytes.
@@ -39,8 +43,42 @@ pub const ACCEPTED: u8 = 0;
 /// ```
 pub const ABSENT: u8 = 255;
 
+/// Where the cause of a refusal is. It is 0 in each number that the refusal doesn't carry, and [`Fault::NONE`] with [`ACCEPTED`] and
+/// [`ABSENT`]. [`Refusal`](crate::Refusal) says which refusal carries what, and holds the same numbers.
+///
+/// ```
+/// use poddurance::raw::{audit, Fault};
+///
+/// // 4 rows, and places for rows 0 to 2 alone: MISSING (9), row 3.
+/// let body = [1, 0, 0, 0, 4, 0, 0, 0, 2, 1, 255, 255, 255, 253, 7, 255, 255, 255, 255, 9, 255, 255, 255, 254];
+/// assert_eq!(audit(&body, 0, &mut [0]), (9, 0, Fault { entry: 0, container: 0, row: 3 }));
+/// ```
+#[derive(Clone, Copy, Debug, Default, PartialEq, Eq, Hash)]
+#[repr(C)]
+pub struct Fault {
+    /// The number of the entry: 0 for null's and in a deletion bin, 1 and on for the values' in stored order.
+    pub entry: u64,
+    /// The number of the container in the entry's bitmap, from 0.
+    pub container: u64,
+    /// The lowest row without a place.
+    pub row: u64,
+}
+
+impl Fault {
+    /// That of an answer which carries nothing.
+    ///
+    /// ```
+    /// use poddurance::raw::Fault;
+    ///
+    /// assert_eq!(Fault::NONE, Fault { entry: 0, container: 0, row: 0 });
+    /// ```
+    pub const NONE: Fault = Fault { entry: 0, container: 0, row: 0 };
+}
+
 /// The functions of the archive, as include/poddurance.h declares them.
 mod c {
+    use super::Fault;
+
     extern "C" {
         pub fn poddurance_locate(
             embedded: *const u8,
@@ -61,6 +99,7 @@ mod c {
             field: *mut u8,
             field_len: usize,
             rows: *mut u64,
+            fault: *mut Fault,
         ) -> u8;
         pub fn poddurance_ask(
             body: *const u8,
@@ -72,6 +111,7 @@ mod c {
             field: *mut u8,
             field_len: usize,
             matched: *mut u64,
+            fault: *mut Fault,
         ) -> u8;
         pub fn poddurance_ask_file(
             embedded: *const u8,
@@ -89,6 +129,7 @@ mod c {
             field: *mut u8,
             field_len: usize,
             matched: *mut u64,
+            fault: *mut Fault,
         ) -> u8;
         pub fn poddurance_read_deletions(
             file: *const u8,
@@ -98,6 +139,7 @@ mod c {
             field: *mut u8,
             field_len: usize,
             deleted: *mut u64,
+            fault: *mut Fault,
         ) -> u8;
         pub fn poddurance_subtract(
             first: *mut u8,
@@ -147,36 +189,42 @@ pub fn locate(embedded: &[u8], file: &[u8], column: &[u8], kind: &[u8]) -> (u8, 
     (answer, start, length)
 }
 
-/// Audit: the answer, and the row count of the body. Accepted, the field's bytes are zero.
+/// Audit: the answer, the row count of the body, and where a refusal's cause is. Accepted, the field's bytes are zero.
 ///
 /// ```
+/// use poddurance::raw::{audit, Fault};
+///
 /// let body = [1, 0, 0, 0, 3, 0, 0, 0, 2, 1, 255, 255, 255, 253, 7, 255, 255, 255, 255, 9, 255, 255, 255, 254];
 /// let mut field = [0xAA; 2];
-/// assert_eq!(poddurance::raw::audit(&body, 0, &mut field), (0, 3));
+/// assert_eq!(audit(&body, 0, &mut field), (0, 3, Fault::NONE));
 /// assert_eq!(field, [0, 0xAA]); // the byte behind the field is as it was
 /// ```
 #[must_use]
-pub fn audit(body: &[u8], ty: u32, field: &mut [u8]) -> (u8, u64) {
-    let mut rows = 0;
-    // SAFETY: a slice's pointer is never null and is good for its length, `field`'s for writing too; the result is a local good
+pub fn audit(body: &[u8], ty: u32, field: &mut [u8]) -> (u8, u64, Fault) {
+    let (mut rows, mut fault) = (0, Fault::NONE);
+    // SAFETY: a slice's pointer is never null and is good for its length, `field`'s for writing too; the results are two locals good
     // for writing. All live through the call, which keeps none of them. `field` is borrowed mutably, so that it overlaps no other
     // buffer.
-    let answer = unsafe { c::poddurance_audit(body.as_ptr(), body.len(), ty, field.as_mut_ptr(), field.len(), &mut rows) };
-    (answer, rows)
+    let answer =
+        unsafe { c::poddurance_audit(body.as_ptr(), body.len(), ty, field.as_mut_ptr(), field.len(), &mut rows, &mut fault) };
+    (answer, rows, fault)
 }
 
-/// Ask: the answer, and how many rows the question chooses. Accepted, those rows are set in the field; 0 says skip.
+/// Ask: the answer, how many rows the question chooses, and where a refusal's cause is. Accepted, those rows are set in the field; a
+/// number of 0 says skip.
 ///
 /// ```
+/// use poddurance::raw::{ask, Fault};
+///
 /// let body = [1, 0, 0, 0, 3, 0, 0, 0, 2, 1, 255, 255, 255, 253, 7, 255, 255, 255, 255, 9, 255, 255, 255, 254];
 /// let mut field = [0];
-/// assert_eq!(poddurance::raw::ask(&body, 0, 1, &[7], &mut field), (0, 2)); // TINYINT, NOT EQUAL 7
+/// assert_eq!(ask(&body, 0, 1, &[7], &mut field), (0, 2, Fault::NONE)); // TINYINT, NOT EQUAL 7
 /// assert_eq!(field, [0b110]);
 /// ```
 #[must_use]
-pub fn ask(body: &[u8], ty: u32, question: u32, literals: &[u8], field: &mut [u8]) -> (u8, u64) {
-    let mut matched = 0;
-    // SAFETY: a slice's pointer is never null and is good for its length, `field`'s for writing too; the result is a local good
+pub fn ask(body: &[u8], ty: u32, question: u32, literals: &[u8], field: &mut [u8]) -> (u8, u64, Fault) {
+    let (mut matched, mut fault) = (0, Fault::NONE);
+    // SAFETY: a slice's pointer is never null and is good for its length, `field`'s for writing too; the results are two locals good
     // for writing. All live through the call, which keeps none of them. `field` is borrowed mutably, so that it overlaps no other
     // buffer; `body` and `literals` are read alone.
     let answer = unsafe {
@@ -190,17 +238,18 @@ pub fn ask(body: &[u8], ty: u32, question: u32, literals: &[u8], field: &mut [u8
             field.as_mut_ptr(),
             field.len(),
             &mut matched,
+            &mut fault,
         )
     };
-    (answer, matched)
+    (answer, matched, fault)
 }
 
-/// From the file to the answer: [`locate`], then [`ask`] on the part that it hands back. The answer, and how many rows the question
-/// chooses. Accepted, those rows are set in the field; 0 says skip. With [`ABSENT`] and with a refusal of Locate the field's buffer
-/// is as it was.
+/// From the file to the answer: [`locate`], then [`ask`] on the part that it hands back. The answer, how many rows the question
+/// chooses, and where a refusal's cause is. Accepted, those rows are set in the field; a number of 0 says skip. With [`ABSENT`] and with
+/// a refusal of Locate the field's buffer is as it was.
 ///
 /// ```
-/// use poddurance::raw::{ask_file, ABSENT};
+/// use poddurance::raw::{ask_file, Fault, ABSENT};
 ///
 /// let file = [
 ///     0, 5, 0x4E, 0x4E, 0xD0, 0x1A, 0x35, 0xAE, 0, 0, 0, 1, 0, 0, 0, 47, 0, 0, 0, 1, // head up to the column number
@@ -208,9 +257,9 @@ pub fn ask(body: &[u8], ty: u32, question: u32, literals: &[u8], field: &mut [u8
 ///     1, 0, 0, 0, 3, 0, 0, 0, 2, 1, 255, 255, 255, 253, 7, 255, 255, 255, 255, 9, 255, 255, 255, 254, // body
 /// ];
 /// let mut field = [0xAA];
-/// assert_eq!(ask_file(&[], &file, b"t", b"bitmap", 0, 1, &[7], &mut field), (ABSENT, 0));
+/// assert_eq!(ask_file(&[], &file, b"t", b"bitmap", 0, 1, &[7], &mut field), (ABSENT, 0, Fault::NONE));
 /// assert_eq!(field, [0xAA]);
-/// assert_eq!(ask_file(&[], &file, b"s", b"bitmap", 0, 1, &[7], &mut field), (0, 2)); // TINYINT, NOT EQUAL 7
+/// assert_eq!(ask_file(&[], &file, b"s", b"bitmap", 0, 1, &[7], &mut field), (0, 2, Fault::NONE)); // TINYINT, NOT EQUAL 7
 /// assert_eq!(field, [0b110]);
 /// ```
 // The archive's call has these parameters; what belongs together is put together at the top of the crate.
@@ -225,9 +274,9 @@ pub fn ask_file(
     question: u32,
     literals: &[u8],
     field: &mut [u8],
-) -> (u8, u64) {
-    let mut matched = 0;
-    // SAFETY: a slice's pointer is never null and is good for its length, `field`'s for writing too; the result is a local good
+) -> (u8, u64, Fault) {
+    let (mut matched, mut fault) = (0, Fault::NONE);
+    // SAFETY: a slice's pointer is never null and is good for its length, `field`'s for writing too; the results are two locals good
     // for writing. All live through the call, which keeps none of them. `field` is borrowed mutably, so that it overlaps no other
     // buffer; the others are read alone and may share bytes.
     let answer = unsafe {
@@ -247,34 +296,46 @@ pub fn ask_file(
             field.as_mut_ptr(),
             field.len(),
             &mut matched,
+            &mut fault,
         )
     };
-    (answer, matched)
+    (answer, matched, fault)
 }
 
-/// Read deletions: the answer, and how many rows bin number `bin` of the deletion file lists. Accepted, those rows are set in the
-/// field for `rows` rows.
+/// Read deletions: the answer, how many rows bin number `bin` of the deletion file lists, and where a refusal's cause is, its entry
+/// being 0. Accepted, those rows are set in the field for `rows` rows.
 ///
 /// ```
+/// use poddurance::raw::{read_deletions, Fault};
+///
 /// let file = [
 ///     1, 0, 0, 0, 26, 0x5E, 0x43, 0xF2, 0xD0, 0x3A, 0x30, 0, 0, 1, 0, 0, 0, 0, 0, 2, 0, 0x10, 0, 0, 0, 0, 0, 2, 0, 5, 0,
 ///     0x80, 0x72, 0x25, 0x2B,
 /// ];
 /// let mut field = [0];
-/// assert_eq!(poddurance::raw::read_deletions(&file, 0, 6, &mut field), (0, 3));
+/// assert_eq!(read_deletions(&file, 0, 6, &mut field), (0, 3, Fault::NONE));
 /// assert_eq!(field, [0b100101]);
-/// assert_eq!(poddurance::raw::read_deletions(&file, 1, 6, &mut field), (14, 0)); // there is one bin
+/// assert_eq!(read_deletions(&file, 1, 6, &mut field), (14, 0, Fault::NONE)); // there is one bin
 /// ```
 #[must_use]
-pub fn read_deletions(file: &[u8], bin: u64, rows: u64, field: &mut [u8]) -> (u8, u64) {
-    let mut deleted = 0;
-    // SAFETY: a slice's pointer is never null and is good for its length, `field`'s for writing too; the result is a local good
+pub fn read_deletions(file: &[u8], bin: u64, rows: u64, field: &mut [u8]) -> (u8, u64, Fault) {
+    let (mut deleted, mut fault) = (0, Fault::NONE);
+    // SAFETY: a slice's pointer is never null and is good for its length, `field`'s for writing too; the results are two locals good
     // for writing. All live through the call, which keeps none of them. `field` is borrowed mutably, so that it overlaps no other
     // buffer.
     let answer = unsafe {
-        c::poddurance_read_deletions(file.as_ptr(), file.len(), bin, rows, field.as_mut_ptr(), field.len(), &mut deleted)
+        c::poddurance_read_deletions(
+            file.as_ptr(),
+            file.len(),
+            bin,
+            rows,
+            field.as_mut_ptr(),
+            field.len(),
+            &mut deleted,
+            &mut fault,
+        )
     };
-    (answer, deleted)
+    (answer, deleted, fault)
 }
 
 /// Subtract: the answer, how many rows below `rows` are left in `first`, and how many were removed from it.

@@ -328,7 +328,7 @@ fn an_index_of_another_row_count_than_the_data_file() {
     let mut body = SMALL;
     body[4] = 4;
     let lost = &folder.write("lost", &index_file("s", "bitmap", &body));
-    says(&["audit", lost, "s", "TINYINT", "--row-count", "3"], 3, "refused: MISSING (9), a row never placed");
+    says(&["audit", lost, "s", "TINYINT", "--row-count", "3"], 3, "refused: MISSING (9), a row never placed: row 3");
     says(&["audit", file, "x", "TINYINT", "--row-count", "1000"], 4, "absent: no bitmap index on column \"x\"");
 }
 
@@ -410,10 +410,12 @@ fn every_refusal_of_an_index() {
         (changed(47, 3), "VERSION (3), index file not 1; body not 1 or 2; deletion file not 1"),
         (whole[..70].to_vec(), "HEAD (4), index file head breaks a rule"),
         (changed(66, 7), "DICT (5), dictionary breaks a rule"),
-        (changed(67, 0), "BITMAP (6), place, length or form of a bitmap is wrong"),
-        (changed(70, 0xFC), "RANGE (7), a row at or above the row count"),
-        (changed(70, 0xFF), "TWICE (8), a row already placed"),
-        (changed(51, 4), "MISSING (9), a row never placed"),
+        (changed(57, 0), "BITMAP (6), place, length or form of a bitmap is wrong: entry 0, container 0"),
+        (changed(67, 0), "BITMAP (6), place, length or form of a bitmap is wrong: entry 2, container 0"),
+        (changed(65, 0xFC), "RANGE (7), a row at or above the row count: entry 1"),
+        (changed(70, 0xFC), "RANGE (7), a row at or above the row count: entry 2"),
+        (changed(70, 0xFF), "TWICE (8), a row already placed: entry 2"),
+        (changed(51, 4), "MISSING (9), a row never placed: row 3"),
         (changed(54, 0x11), "LIMIT (12), a limit is passed"),
     ] {
         let file = &folder.write("index", &bytes);
@@ -429,6 +431,55 @@ fn every_refusal_of_an_index() {
         3,
         r#"{"answer":"refused","file":"index","name":"HEAD","number":4,"meaning":"index file head breaks a rule"}"#,
     );
+    // Where the cause is stands in keys of its own, only those that the refusal carries.
+    for (at, byte, said) in [
+        (67, 0, r#""name":"BITMAP","number":6,"meaning":"place, length or form of a bitmap is wrong","entry":2,"container":0"#),
+        (70, 0xFC, r#""name":"RANGE","number":7,"meaning":"a row at or above the row count","entry":2"#),
+        (70, 0xFF, r#""name":"TWICE","number":8,"meaning":"a row already placed","entry":2"#),
+        (51, 4, r#""name":"MISSING","number":9,"meaning":"a row never placed","row":3"#),
+    ] {
+        let file = &folder.write("index", &changed(at, byte));
+        let line = &format!(r#"{{"answer":"refused","file":"index",{said}}}"#);
+        says(&["audit", file, "s", "TINYINT", "--json"], 3, line);
+        says(&["ask", file, "s", "TINYINT", "IS-NULL", "--json"], 3, line);
+    }
+}
+
+/// A value in two containers, of which the second is cut off: the line and the JSON of an index and of deletions name it.
+#[test]
+fn a_second_container_that_is_cut_off() {
+    let folder = Folder::new();
+    // Rows 5 and 65,542 as two arrays.
+    let cut = [0x3B, 0x30, 1, 0, 0, 0, 0, 0, 0, 1, 0, 0, 0, 5, 0, 6];
+    // TINYINT 7 at that bitmap, and no row is null.
+    let body = [&[1, 0, 1, 0, 7, 0, 0, 0, 1, 1, 0, 0, 0, 16, 7, 0, 0, 0, 0][..], &cut].concat();
+    // Null's bitmap would stand behind the end; with an offset of -1 it is row 0.
+    let sound_null = [&body[..10], &[255; 4], &body[14..]].concat();
+    let [index, null_too] =
+        [("index", &sound_null), ("null", &body)].map(|(name, body)| folder.write(name, &index_file("s", "bitmap", body)));
+    says(
+        &["audit", &index, "s", "TINYINT"],
+        3,
+        "refused: BITMAP (6), place, length or form of a bitmap is wrong: entry 1, container 1",
+    );
+    says(
+        &["audit", &null_too, "s", "TINYINT"],
+        3,
+        "refused: BITMAP (6), place, length or form of a bitmap is wrong: entry 0, container 0",
+    );
+
+    let deletions = &folder.write("deletions", &deletion_file(&[cut.to_vec()]));
+    says(
+        &["deletions", deletions, "0", "70000"],
+        3,
+        "refused: BITMAP (6), place, length or form of a bitmap is wrong: container 1",
+    );
+    let said = r#"{"answer":"refused","file":"deletions","name":"BITMAP","number":6,"meaning":"place, length or form of a bitmap is wrong","entry":0,"container":1}"#;
+    says(&["deletions", deletions, "0", "70000", "--json"], 3, said);
+    let events = &folder.write("events", &index_file("state", "bitmap", &events()));
+    let beside = ["ask", events, "state", "STRING", "IS-NOT-NULL", "--deletions", deletions, "--bin", "0"];
+    says(&beside, 3, "refused: BITMAP (6), place, length or form of a bitmap is wrong, in the deletion file: container 1");
+    says(&[&beside[..], &["--json"]].concat(), 3, said);
 }
 
 #[test]
@@ -504,7 +555,13 @@ fn every_refusal_of_deletions() {
         (whole[..34].to_vec(), "0", "6", "SHORT (1), the bytes end inside a field that is due, outside bitmaps"),
         (changed(5, 0), "0", "6", "MAGIC (2), index file or bin magic differs"),
         (changed(0, 2), "0", "6", "VERSION (3), index file not 1; body not 1 or 2; deletion file not 1"),
-        (deletion_file(&[vec![0; 8]]), "0", "6", "BITMAP (6), place, length or form of a bitmap is wrong"),
+        (deletion_file(&[vec![0; 8]]), "0", "6", "BITMAP (6), place, length or form of a bitmap is wrong: container 0"),
+        (
+            deletion_file(&[[bitmap(&[0, 2, 5]), vec![0]].concat()]),
+            "0",
+            "6",
+            "BITMAP (6), place, length or form of a bitmap is wrong: container 1",
+        ),
         (whole.clone(), "0", "5", "RANGE (7), a row at or above the row count"),
         (whole.clone(), "0", "2147483648", "LIMIT (12), a limit is passed"),
         (changed(34, 0), "0", "6", "CHECKSUM (13), bin checksum differs"),

@@ -9,7 +9,7 @@ use std::fs::{self, File};
 use std::path::{Path, PathBuf};
 use std::process::{Command, Stdio};
 
-use poddurance::raw;
+use poddurance::raw::{self, Fault};
 use reference::random::{self, Random};
 use reference::types::{EQUAL, INT, IS_NULL, NOT_EQUAL};
 use reference::writer::{bitmap, deletion_file};
@@ -170,9 +170,9 @@ fn bitmaps_of_croaring_and_ours() {
 
             let file = deletion_file(&[null.clone(), value.clone()]);
             let field = field_lender.lend(&vec![0xA5; expected.len()]);
-            assert_eq!(raw::read_deletions(lender.lend(&file), 1, u64::from(*count), field), (0, number));
+            assert_eq!(raw::read_deletions(lender.lend(&file), 1, u64::from(*count), field), (0, number, Fault::NONE));
             assert!(*field == expected, "rows of CRoaring's bitmap read from a deletion file differ");
-            assert_eq!(raw::read_deletions(lender.lend(&file), 0, u64::from(*count), field), (0, others_number));
+            assert_eq!(raw::read_deletions(lender.lend(&file), 0, u64::from(*count), field), (0, others_number, Fault::NONE));
             assert!(*field == expected_others, "rows of CRoaring's bitmap read from a deletion file differ");
 
             for version in [1, 2] {
@@ -183,7 +183,7 @@ fn bitmaps_of_croaring_and_ours() {
                     (IS_NULL, &[], &expected_others, others_number),
                 ] {
                     let field = field_lender.lend(&vec![0xA5; expected.len()]);
-                    assert_eq!(raw::ask(lender.lend(&body), INT, question, literals, field), (0, number));
+                    assert_eq!(raw::ask(lender.lend(&body), INT, question, literals, field), (0, number, Fault::NONE));
                     assert!(field == *expected, "rows of CRoaring's bitmap read from an index differ");
                 }
             }

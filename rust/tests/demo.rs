@@ -8,8 +8,9 @@ use std::collections::BTreeSet;
 use std::fs;
 use std::path::{Path, PathBuf};
 
-use demo_files::{alarm, files, state, DELETED, DELETED_ELSEWHERE, SAMPLES};
-use poddurance::{raw, Refusal};
+use demo_files::{alarm, day, files, state, DAY, DAY_STATES, DELETED, DELETED_ELSEWHERE, SAMPLES};
+use poddurance::raw::{self, Fault};
+use poddurance::{audit, Error, Refusal, RowField, Type};
 use reference::scan::scan;
 use reference::types;
 use reference::writer::Column;
@@ -45,7 +46,7 @@ fn commands_answer_as_shown() {
     assert_eq!(others, [""; 0], "output without a command");
     let statuses: Vec<i32> = shown.iter().map(|one| one.check(&root())).collect();
     // A reader of the README that finds nothing would pass too.
-    assert_eq!(statuses, [0, 0, 0, 0, 1, 4, 3, 3, 0]);
+    assert_eq!(statuses, [0, 0, 0, 0, 1, 4, 3, 3, 3, 3, 0]);
     // Where none is shown it is 0.
     assert!(shown.iter().zip(statuses).all(|(one, status)| one.status.unwrap_or(0) == status));
 }
@@ -73,7 +74,7 @@ fn body(name: &str, column: &str) -> Vec<u8> {
     poddurance::locate(&[], &demo(name), column, "bitmap").unwrap().expect("the column has an index").to_vec()
 }
 
-fn audit(name: &str, column: &str, ty: u32) -> (u8, u64) {
+fn audited(name: &str, column: &str, ty: u32) -> (u8, u64, Fault) {
     raw::audit(&body(name, column), ty, &mut [0; 3])
 }
 
@@ -88,7 +89,7 @@ fn sound_files_answer_as_a_scan() {
         for (question, values) in about_one.chain(about_null) {
             let literals = types::literals(cells.ty, values);
             let (expected, count) = scan(cells, question, values);
-            let expected = ((raw::ACCEPTED, count), expected);
+            let expected = ((raw::ACCEPTED, count, Fault::NONE), expected);
             let mut field = [0xA5; 3];
             let answer = raw::ask(&body, cells.ty, question, &literals, &mut field);
             assert_eq!((answer, field.to_vec()), expected, "{name} {column} {question} {values:?}");
@@ -110,9 +111,13 @@ fn sound_files_answer_as_a_scan() {
 
 #[test]
 fn damaged_files_are_refused() {
-    for (name, refusal) in [("pumps-row-lost.index", Refusal::Missing), ("pumps-row-doubled.index", Refusal::Twice)] {
-        assert_eq!(audit(name, "state", types::STRING), (refusal.number(), 0), "{name}");
-        assert_eq!(audit(name, "alarm", types::BOOLEAN), (raw::ACCEPTED, 24), "{name}");
+    // Row 16 is lost; and the third state, running, has it after fault.
+    for (name, refusal) in
+        [("pumps-row-lost.index", Refusal::Missing { row: 16 }), ("pumps-row-doubled.index", Refusal::Twice { entry: 3 })]
+    {
+        let refused = (refusal.number(), 0, refusal.fault());
+        assert_eq!(audited(name, "state", types::STRING), refused, "{name}");
+        assert_eq!(audited(name, "alarm", types::BOOLEAN), (raw::ACCEPTED, 24, Fault::NONE), "{name}");
 
         let fault = types::literals(types::STRING, &["fault"]);
         let asked = |column: &[u8], field: &mut [u8]| {
@@ -120,23 +125,42 @@ fn damaged_files_are_refused() {
         };
         // Whichever value is asked for, and with no row in the field; where there is no index the field is as it was.
         let mut field = [0xA5; 4];
-        assert_eq!(asked(b"state", &mut field), (refusal.number(), 0), "{name}");
+        assert_eq!(asked(b"state", &mut field), refused, "{name}");
         assert_eq!(field, [0, 0, 0, 0xA5], "{name}");
         let mut field = [0xA5; 4];
-        assert_eq!(asked(b"pressure", &mut field), (raw::ABSENT, 0), "{name}");
+        assert_eq!(asked(b"pressure", &mut field), (raw::ABSENT, 0, Fault::NONE), "{name}");
         assert_eq!(field, [0xA5; 4], "{name}");
     }
+}
+
+/// One bit of the second bitmap's second container is all that is wrong with the day.
+#[test]
+fn the_broken_day_is_sound_but_for_one_bit() {
+    let (broken, sound) = (body("day-broken.index", "state"), day().bytes);
+    let field = || RowField::for_rows(DAY.into()).unwrap();
+    let audited = audit(&sound, Type::String, field());
+    assert_eq!(audited.map(|audited| audited.rows()), Ok(DAY.into()));
+    let changed: u32 = sound.iter().zip(&broken).map(|(one, other)| (one ^ other).count_ones()).sum();
+    assert_eq!((sound.len(), changed), (broken.len(), 1));
+    // The states' rows lie in two containers each, and it is the second state in stored order.
+    let container = |second: u32| second >> 16;
+    for (state, seconds) in DAY_STATES {
+        let (first, last) = (&seconds[0], &seconds[seconds.len() - 1]);
+        assert_eq!((container(first.start), container(last.end - 1)), (0, 1), "{state}");
+    }
+    assert_eq!(DAY_STATES.map(|(state, _)| state), ["fault", "idle", "running"]);
+    assert_eq!(audit(&broken, Type::String, field()), Err(Error::Refused(Refusal::Bitmap { entry: 2, container: 1 })));
 }
 
 #[test]
 fn deletions_are_as_described() {
     let deletions = |bin, rows| {
-        let field = poddurance::RowField::for_rows(rows)?;
+        let field = RowField::for_rows(rows)?;
         poddurance::read_deletions(&demo("pumps.deletions"), bin, field).map(|deleted| deleted.field().iter().collect::<Vec<_>>())
     };
     assert_eq!(deletions(0, 24), Ok(DELETED.map(u64::from).to_vec()));
     assert_eq!(deletions(1, 40), Ok(DELETED_ELSEWHERE.map(u64::from).to_vec()));
     // The other data file's bin is not taken for this one's.
-    assert_eq!(deletions(1, 24), Err(Refusal::Range));
+    assert_eq!(deletions(1, 24), Err(Refusal::Range { entry: 0 }));
     assert_eq!(deletions(2, 24), Err(Refusal::NoBin));
 }

@@ -1,5 +1,5 @@
 //! The library and the reference reader answer alike: on sound files with the scan's answer, on damaged ones with the same
-//! refusal, field and bytes behind the field.
+//! refusal, what it carries, field and bytes behind the field.
 //!
 //! The environment variables PODDURANCE_SEED (where the seeds start) and PODDURANCE_CASES (how many calls at least) ask
 //! for other or more cases; PODDURANCE_HEAP lends buffers from the heap instead of between guards, so that valgrind sees
@@ -8,15 +8,17 @@
 //! A guard that is touched ends the test program at once. Before each round its seed is written to the file
 //! `target/tmp/differential-seed`, so that the round can be repeated alone: PODDURANCE_SEED is the seed, PODDURANCE_CASES is 1.
 
+mod comparison;
 mod large;
 mod support;
 
 use std::fs::File;
 use std::os::unix::fs::FileExt;
 
+use comparison::{said, Asked, Comparison, Where, ASK, ASK_FILE, AUDIT, LOCATE, READ_DELETIONS, SUBTRACT};
 use poddurance::raw;
 use reference::random::{self, Random};
-use reference::reader;
+use reference::reader::{self, Fault, NO_FAULT};
 use reference::scan::scan;
 use reference::types::{self, BIGINT, BOOLEAN, EQUAL, IN, INT, IS_NULL, NOT_EQUAL, NOT_IN, STRING, TINYINT};
 use reference::writer::{
@@ -24,13 +26,6 @@ use reference::writer::{
     ContainerForm, Content, FileLayout, Groups, Index, IndexedColumn, Layout, Place,
 };
 use support::{hex, number_from_environment, say, Lender, Tally, CALLS};
-
-const LOCATE: usize = 0;
-const AUDIT: usize = 1;
-const ASK: usize = 2;
-const ASK_FILE: usize = 3;
-const READ_DELETIONS: usize = 4;
-const SUBTRACT: usize = 5;
 
 /// The answers that each call can give, as document 01's orders list them.
 const POSSIBLE: [&[u8]; CALLS.len()] = [
@@ -44,201 +39,11 @@ const POSSIBLE: [&[u8]; CALLS.len()] = [
 
 const DEFAULT_SEED: u64 = 20_240_101;
 const DEFAULT_CASES: u64 = 200_000;
+/// How many fixed calls there are at least. With the random ones, and the calls of the test `faults`, they are the README's over
+/// 600,000.
+const FIXED_CALLS: u64 = 20_000;
 
 const MAX: u64 = 2_147_483_647;
-
-/// Makes each call of both, compares, and counts the answers.
-struct Comparison {
-    /// The seed of the round, or nothing for a fixed case.
-    seed: Option<u64>,
-    tally: Tally,
-    first: Lender,
-    second: Lender,
-    third: Lender,
-    fourth: Lender,
-    fifth: Lender,
-    sixth: Lender,
-}
-
-/// What Locate is asked: two buffers, of which it looks at one, and two names.
-#[derive(Clone, Copy)]
-struct Where<'a> {
-    embedded: &'a [u8],
-    file: &'a [u8],
-    column: &'a [u8],
-    kind: &'a [u8],
-}
-
-impl<'a> Where<'a> {
-    fn in_file(file: &'a [u8], column: &'a [u8], kind: &'a [u8]) -> Where<'a> {
-        Where { embedded: &[], file, column, kind }
-    }
-
-    /// The bitmap index on a column `s`.
-    fn small(file: &'a [u8]) -> Where<'a> {
-        Where::in_file(file, b"s", b"bitmap")
-    }
-}
-
-/// What is asked of a body: type, question and literals.
-#[derive(Clone, Copy)]
-struct Asked<'a> {
-    ty: u32,
-    question: u32,
-    literals: &'a [u8],
-}
-
-impl Comparison {
-    fn new() -> Comparison {
-        let [first, second, third, fourth, fifth, sixth] = [(); 6].map(|()| Lender::new());
-        Comparison { seed: None, tally: Tally::new(), first, second, third, fourth, fifth, sixth }
-    }
-
-    fn locate(&mut self, embedded: &[u8], file: &[u8], column: &[u8], kind: &[u8]) -> (u8, u64, u64) {
-        let expected = reader::locate(embedded, file, column, kind);
-        let lent = (self.first.lend(embedded), self.second.lend(file), self.third.lend(column), self.fourth.lend(kind));
-        let found = raw::locate(lent.0, lent.1, lent.2, lent.3);
-        let same = found == expected && lent.0 == embedded && lent.1 == file && lent.2 == column && lent.3 == kind;
-        if !same {
-            let inputs = [("embedded", embedded), ("file", file), ("column", column), ("kind", kind)];
-            self.fail("Locate", &inputs, &format!("library {found:?}, reference reader {expected:?}"));
-        }
-        self.tally.add(LOCATE, found.0);
-        found
-    }
-
-    fn audit(&mut self, body: &[u8], ty: u32, field: &[u8]) -> (u8, u64, Vec<u8>) {
-        let mut expected_field = field.to_vec();
-        let expected = reader::audit(body, ty, &mut expected_field);
-        let (lent_body, lent_field) = (self.first.lend(body), self.second.lend(field));
-        let found = raw::audit(lent_body, ty, lent_field);
-        let same = found == expected && lent_field == expected_field && lent_body == body;
-        if !same {
-            let found_field = lent_field.to_vec();
-            let inputs = [
-                ("body", body),
-                ("field before", field),
-                ("field after, library", &found_field),
-                ("field after, reference reader", &expected_field),
-            ];
-            self.fail("Audit", &inputs, &format!("type {ty}: library {found:?}, reference reader {expected:?}"));
-        }
-        self.tally.add(AUDIT, found.0);
-        (found.0, found.1, expected_field)
-    }
-
-    fn ask(&mut self, body: &[u8], ty: u32, question: u32, literals: &[u8], field: &[u8]) -> (u8, u64, Vec<u8>) {
-        let mut expected_field = field.to_vec();
-        let expected = reader::ask(body, ty, question, literals, &mut expected_field);
-        let (lent_body, lent_literals, lent_field) = (self.first.lend(body), self.second.lend(literals), self.third.lend(field));
-        let found = raw::ask(lent_body, ty, question, lent_literals, lent_field);
-        let same = found == expected && lent_field == expected_field && lent_body == body && lent_literals == literals;
-        if !same {
-            let found_field = lent_field.to_vec();
-            let inputs = [
-                ("body", body),
-                ("literals", literals),
-                ("field before", field),
-                ("field after, library", &found_field),
-                ("field after, reference reader", &expected_field),
-            ];
-            let answers = format!("type {ty}, question {question}: library {found:?}, reference reader {expected:?}");
-            self.fail("Ask", &inputs, &answers);
-        }
-        self.tally.add(ASK, found.0);
-        (found.0, found.1, expected_field)
-    }
-
-    fn ask_file(&mut self, at: Where, asked: Asked, field: &[u8]) -> (u8, u64, Vec<u8>) {
-        let Where { embedded, file, column, kind } = at;
-        let Asked { ty, question, literals } = asked;
-        let mut expected_field = field.to_vec();
-        let expected = reader::ask_file(embedded, file, column, kind, ty, question, literals, &mut expected_field);
-        let lent = (self.first.lend(embedded), self.second.lend(file), self.third.lend(column), self.fourth.lend(kind));
-        let (lent_literals, lent_field) = (self.fifth.lend(literals), self.sixth.lend(field));
-        let found = raw::ask_file(lent.0, lent.1, lent.2, lent.3, ty, question, lent_literals, lent_field);
-        let kept = lent.0 == embedded && lent.1 == file && lent.2 == column && lent.3 == kind && lent_literals == literals;
-        if !(found == expected && lent_field == expected_field && kept) {
-            let found_field = lent_field.to_vec();
-            let inputs = [
-                ("embedded", embedded),
-                ("file", file),
-                ("column", column),
-                ("kind", kind),
-                ("literals", literals),
-                ("field before", field),
-                ("field after, library", &found_field),
-                ("field after, reference reader", &expected_field),
-            ];
-            let answers = format!("type {ty}, question {question}: library {found:?}, reference reader {expected:?}");
-            self.fail("Ask file", &inputs, &answers);
-        }
-        self.tally.add(ASK_FILE, found.0);
-        (found.0, found.1, expected_field)
-    }
-
-    fn read_deletions(&mut self, file: &[u8], bin: u64, rows: u64, field: &[u8]) -> (u8, u64, Vec<u8>) {
-        let mut expected_field = field.to_vec();
-        let expected = reader::read_deletions(file, bin, rows, &mut expected_field);
-        let (lent_file, lent_field) = (self.first.lend(file), self.second.lend(field));
-        let found = raw::read_deletions(lent_file, bin, rows, lent_field);
-        let same = found == expected && lent_field == expected_field && lent_file == file;
-        if !same {
-            let found_field = lent_field.to_vec();
-            let inputs = [
-                ("file", file),
-                ("field before", field),
-                ("field after, library", &found_field),
-                ("field after, reference reader", &expected_field),
-            ];
-            let answers = format!("bin {bin}, rows {rows}: library {found:?}, reference reader {expected:?}");
-            self.fail("Read deletions", &inputs, &answers);
-        }
-        self.tally.add(READ_DELETIONS, found.0);
-        (found.0, found.1, expected_field)
-    }
-
-    fn subtract(&mut self, first: &[u8], second: &[u8], rows: u64) -> (u8, u64, u64, Vec<u8>) {
-        let mut expected_first = first.to_vec();
-        let expected = reader::subtract(&mut expected_first, second, rows);
-        let (lent_first, lent_second) = (self.first.lend(first), self.second.lend(second));
-        let found = raw::subtract(lent_first, lent_second, rows);
-        let same = found == expected && lent_first == expected_first && lent_second == second;
-        if !same {
-            let found_first = lent_first.to_vec();
-            let inputs = [
-                ("first before", first),
-                ("second", second),
-                ("first after, library", &found_first),
-                ("first after, reference reader", &expected_first),
-            ];
-            self.fail("Subtract", &inputs, &format!("rows {rows}: library {found:?}, reference reader {expected:?}"));
-        }
-        self.tally.add(SUBTRACT, found.0);
-        (found.0, found.1, found.2, expected_first)
-    }
-
-    /// Prints the inputs and how to repeat them, and ends the test.
-    fn fail(&self, call: &str, inputs: &[(&str, &[u8])], answers: &str) -> ! {
-        say(&format!("{call} differs: {answers}"));
-        for (name, bytes) in inputs {
-            say(&format!("{name} ({} bytes): {}", bytes.len(), hex(bytes)));
-        }
-        match self.seed {
-            Some(seed) => panic!(
-                "{call} differs; alone again with PODDURANCE_SEED={seed} PODDURANCE_CASES=1 cargo test --test differential"
-            ),
-            None => panic!("{call} differs in a fixed case"),
-        }
-    }
-
-    /// A demand on sound input: where it doesn't hold, both readers may be wrong alike.
-    fn demand(&self, holds: bool, what: &str, inputs: &[(&str, &[u8])]) {
-        if !holds {
-            self.fail(what, inputs, "the answer isn't the one that the column gives");
-        }
-    }
-}
 
 // Random rounds
 
@@ -288,7 +93,7 @@ fn check_column(both: &mut Comparison, random: &mut Random, column: &Column, gro
 
     let needed = rows.div_ceil(8);
     let before = random::field(random, rows);
-    let (answer, count, after) = both.audit(part, column.ty, &before);
+    let (answer, count, after, _) = both.audit(part, column.ty, &before);
     let sound = answer == 0
         && count == rows as u64
         && after[..needed].iter().all(|byte| *byte == 0)
@@ -301,13 +106,13 @@ fn check_column(both: &mut Comparison, random: &mut Random, column: &Column, gro
         let literals = types::literals(column.ty, &values);
         let (expected, expected_count) = scan(column, question, &values);
         let before = random::field(random, rows);
-        let (answer, count, after) = both.ask(part, column.ty, question, &literals, &before);
+        let (answer, count, after, _) = both.ask(part, column.ty, question, &literals, &before);
         let sound =
             answer == 0 && count == expected_count && after[..needed] == expected[..] && after[needed..] == before[needed..];
         both.demand(sound, &format!("Ask {question} of a sound body"), &[("body", body), ("literals", &literals)]);
         let asked = Asked { ty: column.ty, question, literals: &literals };
         let from_file = both.ask_file(at, asked, &before);
-        both.demand(from_file == (answer, count, after.clone()), "Ask of a sound file", &[("file", &file)]);
+        both.demand(from_file == (answer, count, after.clone(), NO_FAULT), "Ask of a sound file", &[("file", &file)]);
         last = after;
     }
 
@@ -315,7 +120,7 @@ fn check_column(both: &mut Comparison, random: &mut Random, column: &Column, gro
     let (file, bins) = random::deletion_file(random, rows as u32);
     if let Some(bin) = bins.len().checked_sub(1) {
         let before = random::field(random, rows);
-        let (answer, count, deleted) = both.read_deletions(&file.bytes, bin as u64, rows as u64, &before);
+        let (answer, count, deleted, _) = both.read_deletions(&file.bytes, bin as u64, rows as u64, &before);
         let expected = field_of(&bins[bin], needed);
         let sound = answer == 0
             && count == bins[bin].len() as u64
@@ -430,7 +235,7 @@ fn deletion_files(both: &mut Comparison, random: &mut Random) {
     let (traced, bins) = random::deletion_file(random, rows);
     for bin in 0..=bins.len() {
         let before = random::field_or_short(random, rows as usize);
-        let (answer, count, after) = both.read_deletions(&traced.bytes, bin as u64, u64::from(rows), &before);
+        let (answer, count, after, _) = both.read_deletions(&traced.bytes, bin as u64, u64::from(rows), &before);
         let needed = rows.div_ceil(8) as usize;
         if let (Some(deleted), true) = (bins.get(bin), before.len() >= needed) {
             let sound = answer == 0
@@ -524,11 +329,12 @@ fn every_cut_and_flip(both: &mut Comparison) {
 
 /// Inputs that break two rules, or keep one narrowly: which answer goes first.
 fn orders(both: &mut Comparison) {
-    let mut audit = |body: &[&[u8]], ty: u32, rows: usize, answer: u8| {
+    let mut broken = |body: &[&[u8]], ty: u32, rows: usize, answer: u8, fault: Fault| {
         let body = body.concat();
         let found = both.audit(&body, ty, &vec![0xA5; rows.div_ceil(8)]);
-        assert_eq!(found.0, answer, "Audit of {}", hex(&body));
+        assert_eq!((found.0, found.3), (answer, fault), "Audit of {}", hex(&body));
     };
+    let mut audit = |body: &[&[u8]], ty: u32, rows: usize, answer: u8| broken(body, ty, rows, answer, NO_FAULT);
     let (none, one) = (int(0), int(1));
     audit(&[], 12, 0, 11);
     audit(&[], TINYINT, 0, 1);
@@ -559,9 +365,9 @@ fn orders(both: &mut Comparison) {
     audit(&[&[2], &one, &one, &[0], &int(2), &[9], &none, &[9], &int(4), &int(17), &none, &block(1, 9)], TINYINT, 1, 5);
     // ROOM goes before every bitmap.
     audit(&[&[1], &int(9), &one, &[0], &[9], &int(99)], TINYINT, 8, 10);
-    audit(&[&[1], &int(9), &one, &[0], &[9], &int(99)], TINYINT, 9, 6);
+    broken(&[&[1], &int(9), &one, &[0], &[9], &int(99)], TINYINT, 9, 6, [1, 0, 0]);
 
-    // Bitmaps of one value of 3 rows, their offset and length as stored in version 2.
+    // Bitmaps of one value of 3 rows, their offset and length as stored in version 2: answer and fault.
     let of = |rows: &[u32], form: BitmapForm| bitmap(rows, &form);
     let three = of(&[0, 1, 2], BitmapForm::WithoutRuns);
     let size = three.len() as i32;
@@ -572,34 +378,34 @@ fn orders(both: &mut Comparison) {
     let mut bad_second = two_keys.clone();
     let cut = bad_second.len() - 1;
     bad_second.truncate(cut);
-    for (offset, length, bitmap, answer) in [
-        (0, -1, three.clone(), 0),
-        (0, size, three.clone(), 0),
-        (0, size - 1, three.clone(), 6),
-        (0, size + 1, [&three[..], &[0]].concat(), 6),
-        (0, 0, three.clone(), 6),
-        (0, -2, three.clone(), 6),
-        (0, i32::MIN, three.clone(), 6),
-        (size, -1, three.clone(), 6),
-        (i32::MAX, -1, three.clone(), 6),
-        (0, -1, Vec::new(), 6),
-        (0, -1, of(&[0, 1, 2], values), 0),
-        (0, -1, high_half, 6),
-        (0, -1, of(&[0, 1, 2, 3], BitmapForm::WithoutRuns), 7),
-        (0, -1, two_keys, 7),
-        (0, -1, bad_second, 6),
-        (0, -1, of(&[0, 2], BitmapForm::WithoutRuns), 9),
-        (0, -1, of(&[], BitmapForm::WithoutRuns), 9),
-        (-1, 5, three.clone(), 9),
-        (i32::MIN, 5, three, 7),
+    for (offset, length, bitmap, answer, fault) in [
+        (0, -1, three.clone(), 0, NO_FAULT),
+        (0, size, three.clone(), 0, NO_FAULT),
+        (0, size - 1, three.clone(), 6, [1, 0, 0]),
+        (0, size + 1, [&three[..], &[0]].concat(), 6, [1, 1, 0]),
+        (0, 0, three.clone(), 6, [1, 0, 0]),
+        (0, -2, three.clone(), 6, [1, 0, 0]),
+        (0, i32::MIN, three.clone(), 6, [1, 0, 0]),
+        (size, -1, three.clone(), 6, [1, 0, 0]),
+        (i32::MAX, -1, three.clone(), 6, [1, 0, 0]),
+        (0, -1, Vec::new(), 6, [1, 0, 0]),
+        (0, -1, of(&[0, 1, 2], values), 0, NO_FAULT),
+        (0, -1, high_half, 6, [1, 0, 0]),
+        (0, -1, of(&[0, 1, 2, 3], BitmapForm::WithoutRuns), 7, [1, 0, 0]),
+        (0, -1, two_keys, 7, [1, 0, 0]),
+        (0, -1, bad_second, 6, [1, 1, 0]),
+        (0, -1, of(&[0, 2], BitmapForm::WithoutRuns), 9, [0, 0, 1]),
+        (0, -1, of(&[], BitmapForm::WithoutRuns), 9, [0, 0, 0]),
+        (-1, 5, three.clone(), 9, [0, 0, 1]),
+        (i32::MIN, 5, three, 7, [1, 0, 0]),
     ] {
         let entry = [&one[..], &[9], &int(offset), &int(length)].concat();
-        audit(&[&[2], &int(3), &one, &[0], &one, &[9], &none, &int(13), &entry, &bitmap], TINYINT, 3, answer);
+        broken(&[&[2], &int(3), &one, &[0], &one, &[9], &none, &int(13), &entry, &bitmap], TINYINT, 3, answer, fault);
     }
     // Null's bitmap comes first: its fault goes before the value's, and a row of both is TWICE.
-    audit(&[&[1], &int(3), &one, &[1], &int(-9), &[9], &int(99)], TINYINT, 3, 7);
-    audit(&[&[1], &int(3), &one, &[1], &int(-3), &[9], &int(99)], TINYINT, 3, 6);
-    audit(&[&[1], &int(3), &one, &[1], &int(-3), &[9], &int(-3)], TINYINT, 3, 8);
+    broken(&[&[1], &int(3), &one, &[1], &int(-9), &[9], &int(99)], TINYINT, 3, 7, [0, 0, 0]);
+    broken(&[&[1], &int(3), &one, &[1], &int(-3), &[9], &int(99)], TINYINT, 3, 6, [1, 0, 0]);
+    broken(&[&[1], &int(3), &one, &[1], &int(-3), &[9], &int(-3)], TINYINT, 3, 8, [1, 0, 0]);
 
     let string = |length: i32| [&int(length)[..], b"ab"].concat();
     for (length, answer) in [(2, 1), (3, 1), (65535, 1), (65536, 12), (i32::MAX, 12), (-1, 5), (i32::MIN, 5)] {
@@ -678,22 +484,22 @@ fn ask_file_orders(both: &mut Comparison) {
     ] {
         let field = vec![0xA5; length];
         // A refusal up to ROOM, and ABSENT, leave the field alone.
-        let expected = if answer == 0 { (0, 1, vec![0b001, 0xA5]) } else { (answer, 0, field.clone()) };
+        let expected = if answer == 0 { (0, 1, vec![0b001, 0xA5], NO_FAULT) } else { (answer, 0, field.clone(), NO_FAULT) };
         assert_eq!(both.ask_file(Where::small(file), fits, &field), expected, "Ask of {}", hex(file));
         for misfit in misfits {
-            let expected = (answer_to_misfit, 0, field.clone());
+            let expected = (answer_to_misfit, 0, field.clone(), NO_FAULT);
             assert_eq!(both.ask_file(Where::small(file), misfit, &field), expected, "Ask of {}", hex(file));
         }
     }
     // Behind ROOM the field is zero: the value 9 at row 0, where 7 is.
     let mut twice = sound.clone();
     twice[70] = 0xFF;
-    assert_eq!(both.ask_file(Where::small(&twice), fits, &[0xA5; 2]), (8, 0, vec![0, 0xA5]));
+    assert_eq!(both.ask_file(Where::small(&twice), fits, &[0xA5; 2]), (8, 0, vec![0, 0xA5], [2, 0, 0]));
     // What is embedded is looked at, and the file is not.
     let embedded = Where { embedded: &sound, ..Where::small(&[]) };
-    assert_eq!(both.ask_file(embedded, fits, &[0xA5]), (0, 1, vec![1]));
+    assert_eq!(both.ask_file(embedded, fits, &[0xA5]), (0, 1, vec![1], NO_FAULT));
     let embedded = Where { embedded: &none, ..Where::small(&sound) };
-    assert_eq!(both.ask_file(embedded, fits, &[0xA5]), (255, 0, vec![0xA5]));
+    assert_eq!(both.ask_file(embedded, fits, &[0xA5]), (255, 0, vec![0xA5], NO_FAULT));
 }
 
 fn deletion_orders(both: &mut Comparison) {
@@ -725,47 +531,49 @@ fn deletion_orders(both: &mut Comparison) {
         (one[..one.len() - 1].to_vec(), 0, 2, 1, 1),
     ] {
         let found = both.read_deletions(&file, bin, rows, &vec![0xA5; length]);
-        assert_eq!(found.0, answer, "bin {bin} for {rows} rows of {}", hex(&file));
+        assert_eq!((found.0, found.3), (answer, NO_FAULT), "bin {bin} for {rows} rows of {}", hex(&file));
     }
     // A bin of its magic alone has no bitmap; one with a byte behind its bitmap isn't filled by it.
     let bare = deletion_file(&[Vec::new()]);
-    assert_eq!(both.read_deletions(&bare, 0, 2, &[0xA5]).0, 6);
+    assert_eq!(both.read_deletions(&bare, 0, 2, &[0xA5]), (6, 0, vec![0], NO_FAULT));
     let longer = deletion_file(&[[&bitmap(&[1], &BitmapForm::WithoutRuns)[..], &[0]].concat()]);
-    assert_eq!(both.read_deletions(&longer, 0, 2, &[0xA5]).0, 6);
+    assert_eq!(both.read_deletions(&longer, 0, 2, &[0xA5]), (6, 0, vec![0], [0, 1, 0]));
 }
 
 /// Bitmaps that keep all rules but one, or keep one narrowly, without offsets: cookie 12347 and one or two containers.
 fn bitmap_rules(both: &mut Comparison) {
     let pair = |number: u16| number.to_le_bytes();
     let numbers = |numbers: &[u16]| numbers.iter().flat_map(|number| pair(*number)).collect::<Vec<u8>>();
-    // Key and cardinality less 1 of each container, flags, and the containers.
-    let cases: [(&[u16], u8, &[u16], u8); 19] = [
-        (&[0, 1], 0, &[3, 4], 0),
-        (&[0, 1], 0, &[3, 3], 6),
-        (&[0, 1], 0, &[4, 3], 6),
-        (&[0, 1], 0, &[3], 6),
-        (&[0, 1], 2, &[3, 4], 6),
-        (&[0, 0], 1, &[1, 65535, 0], 0),
-        (&[0, 1], 1, &[1, 65535, 1], 6),
-        (&[0, 65535], 1, &[1, 0, 65535], 0),
-        (&[0, 65535], 1, &[1, 1, 65535], 6),
-        (&[0, 65535], 1, &[1, 1, 65534], 6),
-        (&[0, 0], 1, &[0], 6),
-        (&[0, 3], 1, &[2, 0, 1, 2, 1], 0),
-        (&[0, 3], 1, &[2, 0, 1, 1, 1], 6),
-        (&[0, 3], 1, &[2, 2, 1, 0, 1], 6),
-        (&[0, 2], 1, &[2, 0, 1, 2, 1], 6),
-        (&[0, 4], 1, &[2, 0, 1, 2, 1], 6),
-        (&[0, 0, 1, 0], 0, &[3, 3], 0),
-        (&[0, 0, 0, 0], 0, &[3, 4], 6),
-        (&[1, 0, 0, 0], 0, &[3, 4], 6),
+    /// Key and cardinality less 1 of each container, flags, the containers, and which of them is broken.
+    type Case = (&'static [u16], u8, &'static [u16], Option<u64>);
+    let cases: [Case; 19] = [
+        (&[0, 1], 0, &[3, 4], None),
+        (&[0, 1], 0, &[3, 3], Some(0)),
+        (&[0, 1], 0, &[4, 3], Some(0)),
+        (&[0, 1], 0, &[3], Some(0)),
+        (&[0, 1], 2, &[3, 4], Some(0)),
+        (&[0, 0], 1, &[1, 65535, 0], None),
+        (&[0, 1], 1, &[1, 65535, 1], Some(0)),
+        (&[0, 65535], 1, &[1, 0, 65535], None),
+        (&[0, 65535], 1, &[1, 1, 65535], Some(0)),
+        (&[0, 65535], 1, &[1, 1, 65534], Some(0)),
+        (&[0, 0], 1, &[0], Some(0)),
+        (&[0, 3], 1, &[2, 0, 1, 2, 1], None),
+        (&[0, 3], 1, &[2, 0, 1, 1, 1], Some(0)),
+        (&[0, 3], 1, &[2, 2, 1, 0, 1], Some(0)),
+        (&[0, 2], 1, &[2, 0, 1, 2, 1], Some(0)),
+        (&[0, 4], 1, &[2, 0, 1, 2, 1], Some(0)),
+        (&[0, 0, 1, 0], 0, &[3, 3], None),
+        (&[0, 0, 0, 0], 0, &[3, 4], Some(1)),
+        (&[1, 0, 0, 0], 0, &[3, 4], Some(1)),
     ];
-    for (headers, flags, containers, answer) in cases {
+    for (headers, flags, containers, broken) in cases {
         let count = headers.len() as u16 / 2;
         let bitmap = [&pair(12347)[..], &pair(count - 1), &[flags], &numbers(headers), &numbers(containers)].concat();
         let file = deletion_file(&[bitmap]);
         let found = both.read_deletions(&file, 0, 2 << 16, &[0xA5; 16384]);
-        assert_eq!(found.0, answer, "the file {}", hex(&file));
+        let expected = broken.map_or((0, NO_FAULT), |container| (6, [0, container, 0]));
+        assert_eq!((found.0, found.3), expected, "the file {}", hex(&file));
     }
 }
 
@@ -850,7 +658,7 @@ fn containers(both: &mut Comparison, random: &mut Random) {
         let last = u64::from(*rows.last().expect("rows"));
         let file = deletion_file(&[bitmap(&rows, &form)]);
         let field = random::field(random, last as usize + 1);
-        let (answer, count, after) = both.read_deletions(&file, 0, last + 1, &field);
+        let (answer, count, after, _) = both.read_deletions(&file, 0, last + 1, &field);
         let expected = field_of(&rows, (last as usize + 1).div_ceil(8));
         let sound = answer == 0 && count == rows.len() as u64 && after[..expected.len()] == expected[..];
         both.demand(sound, "Read deletions", &[("file", &file)]);
@@ -920,19 +728,21 @@ fn most_rows(both: &mut Comparison) {
     let mut field = Lender::guarded();
     let field = field.lend_anything(bytes);
     let mut reference_field = vec![0; bytes];
-    let compare = |tally: &mut Tally, call: usize, found: (u8, u64), expected: (u8, u64), sound: (u8, u64), same: bool| {
+    type Said = (u8, u64, Fault);
+    let compare = |tally: &mut Tally, call: usize, found: Said, expected: Said, sound: (u8, u64), same: bool| {
+        let sound = (sound.0, sound.1, NO_FAULT);
         assert_eq!(found, expected, "{} of the most rows", CALLS[call]);
         assert_eq!(found, sound, "{} of the most rows", CALLS[call]);
         assert!(same, "{} of the most rows leaves another field", CALLS[call]);
         tally.add(call, found.0);
     };
-    let found = raw::audit(&body, INT, field);
+    let found = said(raw::audit(&body, INT, field));
     let expected = reader::audit(&body, INT, &mut reference_field);
     compare(&mut both.tally, AUDIT, found, expected, (0, MAX), *field == *reference_field);
-    let found = raw::ask(&body, INT, NOT_IN, &int(6), field);
+    let found = said(raw::ask(&body, INT, NOT_IN, &int(6), field));
     let expected = reader::ask(&body, INT, NOT_IN, &int(6), &mut reference_field);
     compare(&mut both.tally, ASK, found, expected, (0, MAX - 1), *field == *reference_field);
-    let found = raw::read_deletions(&file, 0, MAX, field);
+    let found = said(raw::read_deletions(&file, 0, MAX, field));
     let expected = reader::read_deletions(&file, 0, MAX, &mut reference_field);
     compare(&mut both.tally, READ_DELETIONS, found, expected, (0, MAX - 1), *field == *reference_field);
     // The reference reader's field is the library's second field, so that a third of this size isn't needed.
@@ -966,32 +776,35 @@ fn buffers_past_the_limit(both: &mut Comparison) {
         assert_eq!(found.0, if i == 5 { 0 } else { 12 });
         both.tally.add(LOCATE, found.0);
     }
+    let refused = (12, 0, NO_FAULT);
     for ty in [TINYINT, 99] {
-        assert_eq!(raw::audit(long, ty, &mut field), (12, 0));
-        assert_eq!(reader::audit(long, ty, &mut field), (12, 0));
+        assert_eq!(said(raw::audit(long, ty, &mut field)), refused);
+        assert_eq!(reader::audit(long, ty, &mut field), refused);
         both.tally.add(AUDIT, 12);
         for (body, literals) in [(long, &[7][..]), (&small, long), (&[], long)] {
-            assert_eq!(raw::ask(body, ty, 99, literals, &mut field), (12, 0));
-            assert_eq!(reader::ask(body, ty, 99, literals, &mut field), (12, 0));
+            assert_eq!(said(raw::ask(body, ty, 99, literals, &mut field)), refused);
+            assert_eq!(reader::ask(body, ty, 99, literals, &mut field), refused);
             both.tally.add(ASK, 12);
         }
     }
     let none = index_file(&[]);
-    let mut ask_file = |[embedded, file, column, kind]: [&[u8]; 4], literals: &[u8], expected: (u8, u64)| {
-        assert_eq!(raw::ask_file(embedded, file, column, kind, TINYINT, EQUAL, literals, &mut field), expected);
+    let mut ask_file = |[embedded, file, column, kind]: [&[u8]; 4], literals: &[u8], answer: u8| {
+        let expected = (answer, 0, NO_FAULT);
+        let found = raw::ask_file(embedded, file, column, kind, TINYINT, EQUAL, literals, &mut field);
+        assert_eq!(said(found), expected);
         assert_eq!(reader::ask_file(embedded, file, column, kind, TINYINT, EQUAL, literals, &mut field), expected);
-        both.tally.add(ASK_FILE, expected.0);
+        both.tally.add(ASK_FILE, answer);
     };
     for buffers in &locates[..5] {
-        ask_file(*buffers, &[7], (12, 0));
+        ask_file(*buffers, &[7], 12);
     }
-    ask_file([&[], &file, b"s", b"bitmap"], long, (12, 0));
-    ask_file([&file, long, b"s", b"bitmap"], long, (12, 0));
+    ask_file([&[], &file, b"s", b"bitmap"], long, 12);
+    ask_file([&file, long, b"s", b"bitmap"], long, 12);
     // Without a body the literals aren't looked at.
-    ask_file([&[], &none, b"s", b"bitmap"], long, (255, 0));
-    ask_file([&[], &[], b"s", b"bitmap"], long, (1, 0));
-    assert_eq!(raw::read_deletions(long, 0, 8, &mut field), (12, 0));
-    assert_eq!(reader::read_deletions(long, 0, 8, &mut field), (12, 0));
+    ask_file([&[], &none, b"s", b"bitmap"], long, 255);
+    ask_file([&[], &[], b"s", b"bitmap"], long, 1);
+    assert_eq!(said(raw::read_deletions(long, 0, 8, &mut field)), refused);
+    assert_eq!(reader::read_deletions(long, 0, 8, &mut field), refused);
     both.tally.add(READ_DELETIONS, 12);
     assert_eq!(field, [0xA5; 2], "a field was changed by LIMIT");
     // Row fields may be longer than any input buffer.
@@ -1048,6 +861,7 @@ fn library_and_reference_reader_agree() {
         most_rows(&mut both);
         buffers_past_the_limit(&mut both);
         fixed = both.tally.calls();
+        assert!(fixed >= FIXED_CALLS, "{fixed} calls");
     }
 
     let mut seed = first_seed;

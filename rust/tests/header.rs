@@ -8,6 +8,7 @@ use std::path::{Path, PathBuf};
 use std::process::Command;
 
 use poddurance::{raw, Question, Refusal, Type};
+use reference::writer::{bitmap, deletion_file, BitmapForm};
 use support::say;
 
 fn root() -> PathBuf {
@@ -37,19 +38,81 @@ const PROGRAM: &str = r#"
 #include <stdio.h>
 #include "poddurance.h"
 
+DELETIONS
 static const uint8_t file[] = {0, 5, 0x4E, 0x4E, 0xD0, 0x1A, 0x35, 0xAE, 0, 0, 0, 1, 0, 0, 0, 0x2F, 0, 0, 0, 1, 0, 1, 's', 0, 0, 0, 1, 0, 6,
                                'b', 'i', 't', 'm', 'a', 'p', 0, 0, 0, 0x2F, 0, 0, 0, 0x18, 0, 0, 0, 0,
                                1, 0, 0, 0, 3, 0, 0, 0, 2, 1, 0xFF, 0xFF, 0xFF, 0xFD, 7, 0xFF, 0xFF, 0xFF, 0xFF, 9, 0xFF, 0xFF, 0xFF, 0xFE};
 
+static const char *named(uint8_t answer) {
+    switch (answer) {
+    case PODDURANCE_ACCEPTED: return "accepted";
+    case PODDURANCE_ABSENT: return "absent";
+    case PODDURANCE_REFUSED_BITMAP: return "BITMAP";
+    case PODDURANCE_REFUSED_RANGE: return "RANGE";
+    case PODDURANCE_REFUSED_TWICE: return "TWICE";
+    case PODDURANCE_REFUSED_MISSING: return "MISSING";
+    case PODDURANCE_REFUSED_LITERAL: return "LITERAL";
+    default: return "?";
+    }
+}
+
+/* A fault between two numbers that no call may write. */
+typedef struct {
+    uint64_t before;
+    poddurance_fault fault;
+    uint64_t behind;
+} guarded;
+
+/* Everything that a call writes begins as something else. */
+static const guarded other = {77, {99, 99, 99}, 78};
+
+static void say(uint8_t answer, uint64_t count, guarded at) {
+    printf("%s, %u, entry %u, container %u, row %u", named(answer), (unsigned)count, (unsigned)at.fault.entry, (unsigned)at.fault.container,
+           (unsigned)at.fault.row);
+    if (at.before != other.before || at.behind != other.behind) printf(", and a number beside the fault is another");
+}
+
 static void ask(const char *column, uint32_t type, uint32_t question, const uint8_t *literals, size_t length) {
     uint8_t field[2] = {0xAA, 0xAA};
     uint64_t matched = 99;
+    guarded at = other;
     uint8_t answer = poddurance_ask_file(file, 0, file, sizeof file, (const uint8_t *)column, 1, (const uint8_t *)"bitmap", 6,
-                                         type, question, literals, length, field, sizeof field, &matched);
-    printf("%s, %u matched, %02X %02X\n",
-           answer == PODDURANCE_ACCEPTED ? "accepted" : answer == PODDURANCE_ABSENT ? "absent"
-               : answer == PODDURANCE_REFUSED_LITERAL ? "LITERAL" : "?",
-           (unsigned)matched, field[0], field[1]);
+                                         type, question, literals, length, field, sizeof field, &matched, &at.fault);
+    say(answer, matched, at);
+    printf(", %02X %02X\n", field[0], field[1]);
+}
+
+/* The file with one byte changed: Audit and Ask of its body and Ask of the file say the same. */
+static void change(size_t place, uint8_t byte) {
+    uint8_t bytes[sizeof file], field[1];
+    size_t i;
+    uint64_t rows = 99, matched = 99;
+    guarded at = other;
+    uint8_t answer;
+    for (i = 0; i < sizeof file; i++) bytes[i] = i == place ? byte : file[i];
+    answer = poddurance_audit(bytes + 47, 24, PODDURANCE_TYPE_TINYINT, field, sizeof field, &rows, &at.fault);
+    say(answer, rows, at);
+    at = other;
+    answer = poddurance_ask(bytes + 47, 24, PODDURANCE_TYPE_TINYINT, PODDURANCE_QUESTION_IS_NULL, bytes, 0, field, sizeof field, &matched, &at.fault);
+    printf("; ");
+    say(answer, matched, at);
+    at = other;
+    matched = 99;
+    answer = poddurance_ask_file(bytes, 0, bytes, sizeof bytes, (const uint8_t *)"s", 1, (const uint8_t *)"bitmap", 6, PODDURANCE_TYPE_TINYINT,
+                                 PODDURANCE_QUESTION_IS_NULL, bytes, 0, field, sizeof field, &matched, &at.fault);
+    printf("; ");
+    say(answer, matched, at);
+    printf("\n");
+}
+
+/* Rows 5 and 65542 as two arrays, the second cut off or not, for so many rows. */
+static void delete_rows(const uint8_t *deletions, size_t length, uint64_t rows) {
+    static uint8_t field[8193];
+    uint64_t deleted = 99;
+    guarded at = other;
+    uint8_t answer = poddurance_read_deletions(deletions, length, 0, rows, field, sizeof field, &deleted, &at.fault);
+    say(answer, deleted, at);
+    printf("\n");
 }
 
 int main(void) {
@@ -60,24 +123,50 @@ int main(void) {
     ask("s", PODDURANCE_TYPE_TINYINT, PODDURANCE_QUESTION_IS_NULL, seven, 0);
     ask("s", PODDURANCE_TYPE_INT, PODDURANCE_QUESTION_EQUAL, seven, sizeof seven);
     ask("t", PODDURANCE_TYPE_TINYINT, PODDURANCE_QUESTION_EQUAL, seven, sizeof seven);
+    change(67, 0);
+    change(70, 0xFC);
+    change(70, 0xFF);
+    change(51, 4);
+    delete_rows(whole, sizeof whole, 65543);
+    delete_rows(whole, sizeof whole, 65542);
+    delete_rows(cut, sizeof cut, 65543);
     return 0;
 }
 "#;
 
 const PRINTED: &str = "\
-accepted, 1 matched, 01 AA
-accepted, 2 matched, 06 AA
-accepted, 0 matched, 00 AA
-accepted, 1 matched, 04 AA
-LITERAL, 0 matched, AA AA
-absent, 0 matched, AA AA
+accepted, 1, entry 0, container 0, row 0, 01 AA
+accepted, 2, entry 0, container 0, row 0, 06 AA
+accepted, 0, entry 0, container 0, row 0, 00 AA
+accepted, 1, entry 0, container 0, row 0, 04 AA
+LITERAL, 0, entry 0, container 0, row 0, AA AA
+absent, 0, entry 0, container 0, row 0, AA AA
+BITMAP, 0, entry 2, container 0, row 0; BITMAP, 0, entry 2, container 0, row 0; BITMAP, 0, entry 2, container 0, row 0
+RANGE, 0, entry 2, container 0, row 0; RANGE, 0, entry 2, container 0, row 0; RANGE, 0, entry 2, container 0, row 0
+TWICE, 0, entry 2, container 0, row 0; TWICE, 0, entry 2, container 0, row 0; TWICE, 0, entry 2, container 0, row 0
+MISSING, 0, entry 0, container 0, row 3; MISSING, 0, entry 0, container 0, row 3; MISSING, 0, entry 0, container 0, row 3
+accepted, 2, entry 0, container 0, row 0
+RANGE, 0, entry 0, container 0, row 0
+BITMAP, 0, entry 0, container 1, row 0
 ";
+
+/// Rows 5 and 65,542 as two arrays in a deletion file, and the same without the last byte, as arrays in C.
+fn deletions() -> String {
+    let whole = bitmap(&[5, 65_542], &BitmapForm::WithRuns(Vec::new()));
+    let cut = whole[..whole.len() - 1].to_vec();
+    [("whole", whole), ("cut", cut)]
+        .map(|(name, bitmap)| {
+            let bytes: Vec<String> = deletion_file(&[bitmap]).iter().map(u8::to_string).collect();
+            format!("static const uint8_t {name}[] = {{{}}};\n", bytes.join(", "))
+        })
+        .concat()
+}
 
 #[test]
 fn names_work_from_c() {
     let folder = Path::new(env!("CARGO_TARGET_TMPDIR"));
     let source = folder.join("header.c");
-    fs::write(&source, PROGRAM).unwrap();
+    fs::write(&source, PROGRAM.replace("DELETIONS", &deletions())).unwrap();
     let archives = std::env::var_os("PODDURANCE_LIB_DIR").filter(|folder| !folder.is_empty());
     let archives = archives.map_or_else(|| root().join("target/staticlib"), PathBuf::from);
     for (compiler, words) in [("cc", &["-std=c99"][..]), ("c++", &["-std=c++11", "-x", "c++"])] {

@@ -140,9 +140,9 @@ fn fields_sized_by_the_claim_of_a_body() {
     // A claim that is wrong is refused, by the bitmaps or, where it is negative or cut off, before them.
     let mut body = SMALL;
     body[4] = 4;
-    assert_eq!(audit(&body, Type::TinyInt, RowField::for_body(&body)), Err(Error::Refused(Refusal::Missing)));
+    assert_eq!(audit(&body, Type::TinyInt, RowField::for_body(&body)), Err(Error::Refused(Refusal::Missing { row: 3 })));
     body[4] = 2;
-    assert_eq!(audit(&body, Type::TinyInt, RowField::for_body(&body)), Err(Error::Refused(Refusal::Range)));
+    assert_eq!(audit(&body, Type::TinyInt, RowField::for_body(&body)), Err(Error::Refused(Refusal::Range { entry: 0 })));
     body[1] = 0x80;
     assert_eq!(audit(&body, Type::TinyInt, RowField::for_body(&body)), Err(Error::Refused(Refusal::Dict)));
     for length in 0..5 {
@@ -225,10 +225,13 @@ fn a_file_is_refused_as_locate_and_then_ask_refuse() {
         (changed(11, 2), Refusal::Version),
         (file[..70].to_vec(), Refusal::Head),
         (changed(66, 7), Refusal::Dict),
-        (changed(67, 0), Refusal::Bitmap),
-        (changed(70, 0xFC), Refusal::Range),
-        (changed(70, 0xFF), Refusal::Twice),
-        (changed(51, 4), Refusal::Missing),
+        (changed(57, 0), Refusal::Bitmap { entry: 0, container: 0 }),
+        (changed(67, 0), Refusal::Bitmap { entry: 2, container: 0 }),
+        (changed(65, 0xFC), Refusal::Range { entry: 1 }),
+        (changed(70, 0xFC), Refusal::Range { entry: 2 }),
+        (changed(65, 0xFD), Refusal::Twice { entry: 1 }),
+        (changed(70, 0xFF), Refusal::Twice { entry: 2 }),
+        (changed(51, 4), Refusal::Missing { row: 3 }),
         (changed(51, 9), Refusal::Room),
         (changed(54, 0x11), Refusal::Limit),
     ] {
@@ -253,9 +256,20 @@ fn a_file_of_fewer_or_more_rows_is_no_answer() {
 
 #[test]
 fn every_number_of_an_answer_is_a_refusal_or_named() {
+    // What a refusal carries is kept, and of what it doesn't carry nothing is made.
+    let all = raw::Fault { entry: 3, container: 2, row: 1 };
     for number in 0..=255 {
-        match Refusal::from_number(number) {
-            Some(refusal) => assert_eq!(refusal.number(), number),
+        let expected = match number {
+            6 => raw::Fault { row: 0, ..all },
+            7 | 8 => raw::Fault { entry: 3, ..raw::Fault::NONE },
+            9 => raw::Fault { row: 1, ..raw::Fault::NONE },
+            _ => raw::Fault::NONE,
+        };
+        match Refusal::from_raw(number, all) {
+            Some(refusal) => {
+                assert_eq!((refusal.number(), refusal.fault()), (number, expected));
+                assert_eq!(Refusal::from_raw(number, refusal.fault()), Some(refusal));
+            }
             None => assert!(!(1..=14).contains(&number)),
         }
     }

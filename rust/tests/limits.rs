@@ -1,7 +1,8 @@
 //! Buffers over document 01's limit are LIMIT before anything else is looked at. The memory is zeroed by the system when it is
 //! first touched, which none of these calls does, so that it takes no room.
 
-use poddurance::{ask, ask_file, raw, Error, Literals, Question, Refusal, RowField, Type, LIMIT};
+use poddurance::raw::{self, Fault};
+use poddurance::{ask, ask_file, Error, Literals, Question, Refusal, RowField, Type, LIMIT};
 
 const LIMIT_PASSED: u8 = 12;
 
@@ -51,11 +52,11 @@ fn audit_and_ask_refuse_body_and_literals() {
     let mut field = [0xAA; 1];
     // 99 is no type and no question; LIMIT goes before that too.
     for ty in [0, 11, 99] {
-        assert_eq!(raw::audit(&long, ty, &mut field), (LIMIT_PASSED, 0));
+        assert_eq!(raw::audit(&long, ty, &mut field), (LIMIT_PASSED, 0, Fault::NONE));
         for question in [0, 4, 99] {
-            assert_eq!(raw::ask(&long, ty, question, &[7], &mut field), (LIMIT_PASSED, 0));
-            assert_eq!(raw::ask(&BODY, ty, question, &long, &mut field), (LIMIT_PASSED, 0));
-            assert_eq!(raw::ask(&[], ty, question, &long, &mut field), (LIMIT_PASSED, 0));
+            assert_eq!(raw::ask(&long, ty, question, &[7], &mut field), (LIMIT_PASSED, 0, Fault::NONE));
+            assert_eq!(raw::ask(&BODY, ty, question, &long, &mut field), (LIMIT_PASSED, 0, Fault::NONE));
+            assert_eq!(raw::ask(&[], ty, question, &long, &mut field), (LIMIT_PASSED, 0, Fault::NONE));
         }
     }
     assert_eq!(field, [0xAA]);
@@ -65,13 +66,13 @@ fn audit_and_ask_refuse_body_and_literals() {
 fn read_deletions_refuses_file_and_rows() {
     let long = too_long();
     let mut field = [0xAA; 1];
-    assert_eq!(raw::read_deletions(&long, 0, 6, &mut field), (LIMIT_PASSED, 0));
+    assert_eq!(raw::read_deletions(&long, 0, 6, &mut field), (LIMIT_PASSED, 0, Fault::NONE));
     for rows in [LIMIT + 1, 1 << 32, u64::MAX] {
-        assert_eq!(raw::read_deletions(&[], 0, rows, &mut field), (LIMIT_PASSED, 0));
+        assert_eq!(raw::read_deletions(&[], 0, rows, &mut field), (LIMIT_PASSED, 0, Fault::NONE));
         assert_eq!(RowField::for_rows(rows), Err(Refusal::Limit));
         assert_eq!(RowField::all_of(rows), Err(Refusal::Limit));
     }
-    assert_eq!(raw::read_deletions(&[], 0, LIMIT, &mut field), (10, 0)); // ROOM: at the limit it is not LIMIT
+    assert_eq!(raw::read_deletions(&[], 0, LIMIT, &mut field), (10, 0, Fault::NONE)); // ROOM: at the limit it is not LIMIT
     assert_eq!(field, [0xAA]);
 }
 
@@ -88,8 +89,8 @@ fn subtract_refuses_rows() {
 #[test]
 fn row_fields_may_be_longer() {
     let mut long = too_long();
-    assert_eq!(raw::audit(&BODY, 0, &mut long), (0, 3));
-    assert_eq!(raw::ask(&BODY, 0, 0, &[7], &mut long), (0, 1));
+    assert_eq!(raw::audit(&BODY, 0, &mut long), (0, 3, Fault::NONE));
+    assert_eq!(raw::ask(&BODY, 0, 0, &[7], &mut long), (0, 1, Fault::NONE));
     assert_eq!(long[..9], [1, 0, 0, 0, 0, 0, 0, 0, 0]);
     assert_eq!(raw::subtract(&mut long, &[1], 3), (0, 0, 1));
     assert_eq!(raw::subtract(&mut [0b111], &long, 3), (0, 3, 0));
@@ -110,7 +111,7 @@ fn ask_file_refuses_what_locate_and_ask_refuse() {
         // 99 is no type and no question; LIMIT goes before that too.
         raw::ask_file(embedded, file, column, kind, 99, 99, literals, &mut field)
     };
-    let refused = (LIMIT_PASSED, 0);
+    let refused = (LIMIT_PASSED, 0, Fault::NONE);
     assert_eq!(asked(&long, &[], b"s", b"bitmap", &[7]), refused);
     assert_eq!(asked(&[], &long, b"s", b"bitmap", &[7]), refused);
     assert_eq!(asked(&HEAD, &[], &long, b"bitmap", &[7]), refused);
@@ -118,11 +119,11 @@ fn ask_file_refuses_what_locate_and_ask_refuse() {
     assert_eq!(asked(&[], &[], &long, b"bitmap", &[7]), refused);
     assert_eq!(asked(&[], &index_file(), b"s", b"bitmap", &long), refused);
     // The buffer that isn't looked at may be too long, and without a body the literals aren't looked at.
-    assert_eq!(asked(&HEAD, &long, b"s", b"bitmap", &[7]), (raw::ABSENT, 0));
-    assert_eq!(asked(&HEAD, &long, b"s", b"bitmap", &long), (raw::ABSENT, 0));
-    assert_eq!(asked(&[], &[], b"s", b"bitmap", &long), (1, 0));
+    assert_eq!(asked(&HEAD, &long, b"s", b"bitmap", &[7]), (raw::ABSENT, 0, Fault::NONE));
+    assert_eq!(asked(&HEAD, &long, b"s", b"bitmap", &long), (raw::ABSENT, 0, Fault::NONE));
+    assert_eq!(asked(&[], &[], b"s", b"bitmap", &long), (1, 0, Fault::NONE));
     // Neither is found for a name within the limit that no head can hold.
-    assert_eq!(asked(&[], &index_file(), &vec![b's'; 65_536], b"bitmap", &[7]), (raw::ABSENT, 0));
+    assert_eq!(asked(&[], &index_file(), &vec![b's'; 65_536], b"bitmap", &[7]), (raw::ABSENT, 0, Fault::NONE));
     assert_eq!(field, [0xAA]);
     assert_eq!(
         ask_file(&[], &long, "s", "bitmap", Question::IsNull, &Literals::none(Type::TinyInt), RowField::for_rows(3).unwrap()),

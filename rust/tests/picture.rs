@@ -40,12 +40,12 @@ fn it_shows_what_happens() {
     assert!(graph::in_fault(&demo("pumps-v2.index")).unwrap().iter().eq([10, 13, 16]));
     assert_eq!(read("pumps-v1.index"), Some(vec![10, 13, 16]));
     assert_eq!(read("pumps-row-lost.index"), Some(vec![10, 13]));
-    assert_eq!(graph::in_fault(&demo("pumps-row-lost.index")), Err(Error::Refused(Refusal::Missing)));
+    assert_eq!(graph::in_fault(&demo("pumps-row-lost.index")), Err(Error::Refused(Refusal::Missing { row: 16 })));
 
     let picture = picture();
     let count = |text: &str| picture.matches(text).count();
     assert_eq!((count(">fault</text>"), count(">lost</text>")), (3 + 2, 1));
-    assert_eq!(count(">refused: MISSING (9), a row never placed</text>"), 1);
+    assert_eq!(count(">refused: MISSING (9), a row never placed: row 16</text>"), 1);
 }
 
 /// The contrast of two colours, 1 to 21, as the web's rules on contrast have it.

@@ -7,6 +7,7 @@ use std::os::unix::fs::symlink;
 use std::path::{Path, PathBuf};
 use std::process::{Command, Output};
 
+use poddurance::Refusal;
 use support::{say, shown};
 
 fn root() -> PathBuf {
@@ -45,6 +46,19 @@ fn commands_answer_as_shown() {
     assert!(
         shown.iter().any(|one| one.output.starts_with("keep: ")) && shown.iter().any(|one| one.output.starts_with("refused: "))
     );
+}
+
+/// The table of refusals is the crate's: number, name, when it is given, and what it carries.
+#[test]
+fn refusals_are_those_of_the_crate() {
+    let section = section("## Refusals");
+    let table: Vec<&String> = section.iter().filter(|line| line.starts_with("| ")).skip(1).collect();
+    let expected = Refusal::ALL.map(|refusal| {
+        let carried: Vec<&str> = refusal.carried().map(|(name, _)| name).collect();
+        let carried = if carried.is_empty() { String::new() } else { format!(" {}", carried.join(", ")) };
+        format!("| {} | {} | {} |{carried} |", refusal.number(), refusal.name(), refusal.meaning())
+    });
+    assert_eq!(table, expected.iter().collect::<Vec<_>>());
 }
 
 #[test]

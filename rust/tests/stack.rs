@@ -3,7 +3,7 @@
 
 use std::thread;
 
-use poddurance::raw;
+use poddurance::raw::{self, Fault};
 use reference::types;
 use reference::writer::{bitmap, body, deletion_file, index_file, BitmapForm, Groups, Layout};
 
@@ -30,14 +30,14 @@ fn every_call_on_a_small_stack() {
     let calls = move || {
         let mut field = [0; VALUES as usize / 8];
         for (body, file) in bodies.iter().zip(&files) {
-            assert_eq!(raw::audit(body, types::INT, &mut field), (raw::ACCEPTED, VALUES.into()));
-            let answer = (raw::ACCEPTED, LITERALS.into());
+            assert_eq!(raw::audit(body, types::INT, &mut field), (raw::ACCEPTED, VALUES.into(), Fault::NONE));
+            let answer = (raw::ACCEPTED, LITERALS.into(), Fault::NONE);
             assert_eq!(raw::ask(body, types::INT, types::IN, &literals, &mut field), answer);
             assert_eq!(raw::locate(&[], file, b"number", b"bitmap").0, raw::ACCEPTED);
             assert_eq!(raw::ask_file(&[], file, b"number", b"bitmap", types::INT, types::IN, &literals, &mut field), answer);
         }
         let mut deleted = [0; VALUES as usize / 8];
-        assert_eq!(raw::read_deletions(&deletions, 0, VALUES.into(), &mut deleted), (raw::ACCEPTED, VALUES.into()));
+        assert_eq!(raw::read_deletions(&deletions, 0, VALUES.into(), &mut deleted), (raw::ACCEPTED, VALUES.into(), Fault::NONE));
         assert_eq!(raw::subtract(&mut field, &deleted, VALUES.into()), (raw::ACCEPTED, 0, LITERALS.into()));
     };
     thread::Builder::new().stack_size(STACK).spawn(calls).expect("a thread").join().expect("every call answers");

@@ -30,8 +30,7 @@ use Rattle.dictionary.proofs.Theorems.{read-is-laid-out, one-has-each-once, two
 use Rattle.bitmap_index.specs.Meaning.{Cells}
 use Rattle.bitmap_index.specs.Layout.{rowsWith, ExactRows, Covers, ColumnEntries, ColumnBody, version1, version2}
 use Rattle.bitmap_index.specs.Claims.{times, RowsOfEach, OnePlaceEach}
-use Rattle.bitmap_index.specs.Reading.{placeEntry, placeEntries}
-use Rattle.bitmap_index.specs.Promises.{rowsAt}
+use Rattle.bitmap_index.specs.Reading.{nextNumber, firstNumber, placeEntry, placeEntries, rowsAt}
 use Rattle.bitmap_index.proofs.Rows.{rowsWhere, rows-with, rows-rising, rows-below, member-rows, markAll-same}
 use Rattle.bitmap_index.proofs.ScanAnswers.{other-cell}
 use Rattle.bitmap_index.proofs.SameColumn.{cellAt, passes-at, Typed}
@@ -75,7 +74,7 @@ AllPlaced n region full f [] = full ≡ f
 AllPlaced n region full f (e ∷ es) = EntryPlaced n region f (rowsAt region e) e × AllPlaced n region full (markAll f (rowsAt region e)) es
 
 -- a row that is set is none of rows that are not
-member-free : (f : List ℕ) (r : ℕ) (rs : List ℕ) → bit f r ≡ true → anySet f rs ≡ false → member r rs ≡ false
+pub member-free : (f : List ℕ) (r : ℕ) (rs : List ℕ) → bit f r ≡ true → anySet f rs ≡ false → member r rs ≡ false
 unfolding anySet member
 member-free f r [] b h = refl
 member-free f r (q ∷ rs) b h =
@@ -99,11 +98,11 @@ abbrev eachRows : List ℕ → List Entry → List (List ℕ)
 eachRows region [] = []
 eachRows region (e ∷ es) = rowsAt region e ∷ eachRows region es
 
-times-append : (r : ℕ) (xs ys : List ℕ) → times r (xs ++ ys) ≡ times r xs + times r ys
+pub times-append : (r : ℕ) (xs ys : List ℕ) → times r (xs ++ ys) ≡ times r xs + times r ys
 times-append r [] ys = sym (zero-add (times r ys))
 times-append r (x ∷ xs) ys = omega (arith, times-append r xs ys)
 
-times-rising : (r lo hi : ℕ) (rs : List ℕ) → Rising lo hi rs → times r rs ≡ tick (member r rs)
+pub times-rising : (r lo hi : ℕ) (rs : List ℕ) → Rising lo hi rs → times r rs ≡ tick (member r rs)
 unfolding member
 times-rising r lo hi [] s = refl
 times-rising r lo hi (q ∷ rs) s = go (eqb r q) refl (times-rising r (q + 1) hi rs (s .2))
@@ -115,13 +114,13 @@ times-rising r lo hi (q ∷ rs) s = go (eqb r q) refl (times-rising r (q + 1) hi
     go false e i = omega arith
 
 module _ (n : ℕ) (region full : List ℕ) where
-  each-placed : (f : List ℕ) (es : List Entry) → Bytes region → Patterns es → placeEntries n region es f ≡ ok full → AllPlaced n region full f es
+  each-placed : (next : ℕ) (f : List ℕ) (es : List Entry) → Bytes region → Patterns es → placeEntries next n region es f ≡ ok full → AllPlaced n region full f es
   unfolding placeEntries
-  each-placed f [] b p q = cc
-  each-placed f (e ∷ es) b p q =
-      let (f′, here, there) = then-ok (placeEntry n region f e) (placeEntries n region es) full q in
-      let (taken, marked) = entry-placed n region f f′ e b (p .0) (p .1) here in
-      (taken, each-placed (markAll f (rowsAt region e)) es b (p .2) (rw marked at there))
+  each-placed next f [] b p q = cc
+  each-placed next f (e ∷ es) b p q =
+      let (f′, here, there) = then-ok (placeEntry next n region f e) (placeEntries (nextNumber next (e .cell)) n region es) full q in
+      let (taken, marked) = entry-placed region e b (p .0) (p .1) next n f f′ here in
+      (taken, each-placed (nextNumber next (e .cell)) (markAll f (rowsAt region e)) es b (p .2) (rw marked at there))
 
   rows-of-each : (f : List ℕ) (es : List Entry) → AllPlaced n region full f es → RowsOfEach region (eachRows region es) es
   rows-of-each f [] a = tt
@@ -231,7 +230,7 @@ none-have-past n region full f (e ∷ es) r h a =
 
 module _ (n : ℕ) (es : List Entry) (region field : List ℕ) (b : Bytes region) (p : Patterns es) (o : Once es) (w : AllRowsPlaced field (record { rows = n; entries = es; region = region })) where
   filled-each : AllPlaced n region (w .full) (cleared n field) es
-  filled-each = each-placed n region (w .full) (cleared n field) es b p (w .placed)
+  filled-each = each-placed n region (w .full) firstNumber (cleared n field) es b p (w .placed)
 
   filled-row : (r : ℕ) → r < n → (someHas (holder region es r) es ≡ true) × All (HasRowOf region (holder region es r) r) es
   filled-row r l =
@@ -339,7 +338,7 @@ passed-body t body field n b p =
 
 -- ---- each of its rows has exactly one place
 
-laid-patterns : (t : ℕ) (body : List ℕ) (d : Dictionary) → LaidOut t body d → Patterns (d .entries)
+pub laid-patterns : (t : ℕ) (body : List ℕ) (d : Dictionary) → LaidOut t body d → Patterns (d .entries)
 laid-patterns t body d (in-one rows nulls es region a o x p hr l q c) = rw q p
 laid-patterns t body d (in-two rows nulls bs region o ne r p hr l m z q c) = rw q p
 

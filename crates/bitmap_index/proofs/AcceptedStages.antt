@@ -4,7 +4,7 @@ use Prim.Native.Nat.{ℕ, _-_, _<_, _≤_}
 use mathlib.Core.Path.{_≡_, refl, sym, ap, _∙_}
 use mathlib.Core.Logic.{_⊎_, inl, inr}
 use mathlib.Core.Bool.{Bool, true, false, cond}
-use mathlib.Core.List.{List, [], _++_}
+use mathlib.Core.List.{List, [], _∷_, _++_}
 use native.Mathlib.Omega.{arith}
 use borrow.Author.Tests.{ltb-true, ltb-false, eqb-true, leb-true}
 use lib.Dec.{eqb, ltb}
@@ -19,6 +19,7 @@ use Rattle.row_field.specs.Meaning.{markAll, anySet, size, cleared, count, Risi
 use Rattle.roaring.specs.declared.Extent.{Extent}
 use Rattle.roaring.specs.declared.Extent.the-variants.{AsLong, Exactly}
 use Rattle.roaring.specs.Layout as roaring
+use Rattle.roaring.specs.Reading.{Parsed, measured}
 use Rattle.roaring.specs.Claims.{ExtentIs}
 use Rattle.roaring.proofs.Measuring.{measured-back, rows-measured}
 use Rattle.refusal.proofs.Laws.{check-ok, then-ok}
@@ -29,8 +30,7 @@ use Rattle.dictionary.specs.Layout.{Entry}
 use Rattle.dictionary.specs.Reading.{Dictionary, dictionary}
 use Rattle.bitmap_index.specs.Meaning.{questions, takes}
 use Rattle.bitmap_index.specs.Layout.{EntryRows, single, bitmap}
-use Rattle.bitmap_index.specs.Reading.{extentOf, placeAt, placeEntry, placeEntries, roomFor, prepared, audited, audit, wellFormed, Answer, auditedAnswer, ask}
-use Rattle.bitmap_index.specs.Promises.{rowsFor, rowsAt}
+use Rattle.bitmap_index.specs.Reading.{extentOf, entryNumber, firstNumber, placeAt, placeEntry, placeEntries, roomFor, prepared, audited, audit, rowsFor, rowsAt, wellFormed, Answer, auditedAnswer, ask}
 use Rattle.bitmap_index.proofs.PlacedRows.{bitmap-back, placed-at}
 
 -- ---- a place that was accepted
@@ -69,7 +69,13 @@ bitmap-some : {rows bytes : List ℕ} → roaring.Bitmap rows bytes → 1 ≤ le
 bitmap-some (roaring.plain-bitmap cs h e f) = omega arith
 bitmap-some (roaring.flagged-bitmap cs h h′ f) = omega arith
 
-module _ (n : ℕ) (region f f′ : List ℕ) (e : Entry) (b : Bytes region) (p : e .offset < fourBytes) (x : e .extent < fourBytes) where
+-- what an entry has at its place: the single row of a negative offset, or the rows of the bitmap that is measured there
+module _ (region : List ℕ) (e : Entry) (b : Bytes region) (p : e .offset < fourBytes) (x : e .extent < fourBytes) where
+  pub single-rows : (r : ℕ) → signed32 (e .offset) ≡ negsuc r → EntryRows region (r ∷ []) e
+  single-rows r s =
+      let m = signed-negative (e .offset) r p s in
+      single r refl (m .0) (m .1) x
+
   bitmap-there : (o : ℕ) (rows bytes rest : List ℕ) → e .offset ≡ o → drop o region ≡ bytes ++ rest → roaring.Bitmap rows bytes
       → ExtentIs (extentOf (e .extent)) (length bytes) → EntryRows region rows e
   bitmap-there o rows bytes rest s d m g =
@@ -78,23 +84,26 @@ module _ (n : ℕ) (region f f′ : List ℕ) (e : Entry) (b : Bytes region) (p 
       bitmap (take o region) bytes rest (sym (take-append-drop o region) ∙ ap (λ (y : List ℕ). take o region ++ y) d) m
       (s ∙ sym (length-take-le o region i)) (extent-back (e .extent) (length bytes) g)
 
-  rows-there : (z : ℤ) → signed32 (e .offset) ≡ z → placeAt z (e .extent) n region f ≡ ok f′ → EntryRows region (rowsFor z region) e
-  unfolding placeAt rowsFor
-  rows-there (negsuc r) s q =
-      let m = signed-negative (e .offset) r p s in
-      single r refl (m .0) (m .1) x
-  rows-there (pos o) s q =
-      let extent : Extent = extentOf (e .extent) in
-      let known = bytes-drop o region b in
-      let (p, m, below, free, marked) = bitmap-back extent n (drop o region) f f′ q in
-      let (bytes, behind, laid, is, fit) = measured-back extent (drop o region) p known m in
-      rw (rows-measured extent (drop o region) p known m) (bitmap-there o (p .rows) bytes behind (signed-positive (e .offset) o s) is laid fit)
+  pub bitmap-rows : (o : ℕ) (q : Parsed) → signed32 (e .offset) ≡ pos o → measured (extentOf (e .extent)) (drop o region) ≡ ok q → EntryRows region (q .rows) e
+  bitmap-rows o q s m =
+      let (bytes, behind, laid, is, fit) = measured-back (extentOf (e .extent)) (drop o region) q (bytes-drop o region b) m in
+      bitmap-there o (q .rows) bytes behind (signed-positive (e .offset) o s) is laid fit
 
-  pub entry-placed : placeEntry n region f e ≡ ok f′ → EntryPlaced n region f (rowsAt region e) e × (f′ ≡ markAll f (rowsAt region e))
-  unfolding placeEntry rowsAt
-  entry-placed q =
-      let w = placed-at (e .extent) n region f f′ (signed32 (e .offset)) b q in
-      (record { placed = rows-there (signed32 (e .offset)) refl q; rising = w .rising; free = w .free }, w .marked)
+  module _ (next n : ℕ) (f f′ : List ℕ) where
+    rows-there : (entry : ℕ) (z : ℤ) → signed32 (e .offset) ≡ z → placeAt entry z (e .extent) n region f ≡ ok f′ → EntryRows region (rowsFor z region) e
+    unfolding placeAt rowsFor
+    rows-there entry (negsuc r) s q = single-rows r s
+    rows-there entry (pos o) s q =
+        let extent : Extent = extentOf (e .extent) in
+        let (p, m, below, free, marked) = bitmap-back entry extent n (drop o region) f f′ q in
+        rw (rows-measured extent (drop o region) p (bytes-drop o region b) m) (bitmap-rows o p s m)
+
+    pub entry-placed : placeEntry next n region f e ≡ ok f′ → EntryPlaced n region f (rowsAt region e) e × (f′ ≡ markAll f (rowsAt region e))
+    unfolding placeEntry rowsAt
+    entry-placed q =
+        let entry : ℕ = entryNumber next (e .cell) in
+        let w = placed-at entry (e .extent) n region f f′ (signed32 (e .offset)) b q in
+        (record { placed = rows-there entry (signed32 (e .offset)) refl q; rising = w .rising; free = w .free }, w .marked)
 
 -- ---- the audit, taken apart
 
@@ -102,7 +111,7 @@ module _ (n : ℕ) (region f f′ : List ℕ) (e : Entry) (b : Bytes region) (p 
 pub record AllRowsPlaced (field : List ℕ) (d : Dictionary) : Type 0 where
   pub room : size (d .rows) ≤ length field
   pub full : List ℕ
-  pub placed : placeEntries (d .rows) (d .region) (d .entries) (cleared (d .rows) field) ≡ ok full
+  pub placed : placeEntries firstNumber (d .rows) (d .region) (d .entries) (cleared (d .rows) field) ≡ ok full
   pub counted : count full (d .rows) ≡ d .rows
 
 pub record AuditPassed (t : ℕ) (body field : List ℕ) (n : ℕ) : Type 0 where

@@ -8,10 +8,10 @@ use native.Mathlib.Omega.{arith}
 use lib.Dec.{eqb}
 use lib.ListN.{length, replicate, length-replicate}
 use borrow.Author.Tests.{eq-eqb, ne-eqb, eqb-true, le-leb, lt-leb, le-ltb, lt-ltb}
-use Rattle.refusal.specs.Meaning.{limit}
+use Rattle.refusal.specs.Meaning.{limit, noFault}
 use Rattle.refusal.specs.declared.Refusal.{Refusal}
 use Rattle.refusal.specs.declared.Refusal.the-variants.{Literal, Limit}
-use Rattle.refusal.specs.Reading.{Out, refuse, ok, check, andThen, numbersOf}
+use Rattle.refusal.specs.Reading.{Out, refuse, ok, check, andThen, numbersOf, faultIn}
 use Rattle.row_field.specs.Meaning.{cleared, count, size}
 use Rattle.hash_table.specs.Promises.{slot}
 use Rattle.hash_table.proofs.Chaining.{holds-none}
@@ -26,7 +26,7 @@ use Rattle.dictionary.specs.declared.Checked.the-variants.{Found}
 use Rattle.dictionary.specs.declared.Summary.{Summary}
 use Rattle.dictionary.specs.Reading.{Dictionary}
 use Rattle.bitmap_index.specs.Meaning.{questions, takes, keeps}
-use Rattle.bitmap_index.specs.Reading.{prepared, audited, zeroedFrom, Answer, answered, auditedAnswer, wellFormed, ask, answerBuffer, askBuffer, auditedBy, answeredBy, askOut, askNumbers}
+use Rattle.bitmap_index.specs.Reading.{prepared, audited, zeroedFrom, chosenOf, markEntries, Answer, answered, auditedAnswer, wellFormed, ask, answerBuffer, askBuffer, auditedBy, answeredBy, askOut, askNumbers, askFault}
 use Rattle.bitmap_index.specs.declared.Audited.{Audited}
 use Rattle.bitmap_index.specs.declared.Audited.the-variants.{Rows}
 use Rattle.bitmap_index.specs.declared.Answered.{Answered}
@@ -133,16 +133,15 @@ may-enter t q s body w =
 
 -- ---- the chosen entries
 
-module _ (q : ℕ) (ls : List (List ℕ)) (d : Dictionary) (f : List ℕ) {after : List ℕ}
-    (a : answered q ls d f ≡ ok (record { buffer = after; matched = count after (d .rows) }))
+module _ (q : ℕ) (ls : List (List ℕ)) (d : Dictionary) (f : List ℕ) {after : List ℕ} (m : after ≡ markEntries (d .region) (chosenOf q ls (d .entries)) f)
     {k : ℕ} (o : k ≡ count after (d .rows)) where
-  pub zero-skip : k ≡ 0 → Answers (answered q ls d f) (cleared (d .rows) f) after Skip
-  unfolding answeredBy answerBuffer keeps
-  zero-skip h = record { answer = rw (a, ← o, eq-eqb k 0 h); buffer = rw a }
+  pub zero-skip : k ≡ 0 → Answers (ok (answered q ls d f)) (cleared (d .rows) f) after Skip
+  unfolding answered answeredBy answerBuffer keeps
+  zero-skip h = record { answer = rw (← m, ← o, eq-eqb k 0 h); buffer = m }
 
-  pub zero-keep : (k ≡ 0 → ⊥) → Answers (answered q ls d f) (cleared (d .rows) f) after (Keep k)
-  unfolding answeredBy answerBuffer keeps
-  zero-keep h = record { answer = rw (a, ← o, ne-eqb k 0 h); buffer = rw a }
+  pub zero-keep : (k ≡ 0 → ⊥) → Answers (ok (answered q ls d f)) (cleared (d .rows) f) after (Keep k)
+  unfolding answered answeredBy answerBuffer keeps
+  zero-keep h = record { answer = rw (← m, ← o, ne-eqb k 0 h); buffer = m }
 
 -- ---- after the audit
 
@@ -167,7 +166,7 @@ module _ (q : ℕ) (ls : List (List ℕ)) (d : Dictionary) (f : List ℕ) {a : A
       let z = audit-refused (audited d (cleared (d .rows) f)) (sym (w .answer) ∙ e) in
       record { answer = rw z; buffer = rw z (w .buffer) }
 
-  pub then-answered : {n : ℕ} → a ≡ Rows n → {r : Answered} {after : List ℕ} → Answers (answered q ls d mid) (cleared (d .rows) mid) after r
+  pub then-answered : {n : ℕ} → a ≡ Rows n → {r : Answered} {after : List ℕ} → Answers (ok (answered q ls d mid)) (cleared (d .rows) mid) after r
       → Answers (auditedAnswer q ls d (cleared (d .rows) f)) (cleared (d .rows) f) after r
   unfolding auditedAnswer andThen
   then-answered e {r} {after} p =
@@ -177,7 +176,7 @@ module _ (q : ℕ) (ls : List (List ℕ)) (d : Dictionary) (f : List ℕ) {a : A
 
 -- ---- the whole
 
--- the number and the count are those of the answer
+-- the number and the count are those of the answer, and so is the fault
 ask-numbers : (o : Out Refusal Answer) → askOut (answeredBy o) ≡ numbersOf 0 askNumbers o
 unfolding askOut numbersOf answeredBy keeps
 ask-numbers (refuse r) = refl
@@ -187,9 +186,18 @@ ask-numbers (ok b) = counts (b .matched)
     counts zero = refl
     counts (suc n) = rw (ne-eqb (suc n) 0 (λ q. omega arith))
 
+ask-fault : (o : Out Refusal Answer) → askFault (answeredBy o) ≡ faultIn o
+unfolding askFault faultIn answeredBy
+ask-fault (refuse r) = refl
+ask-fault (ok b) = none (keeps (b .matched))
+  where
+    none : (kept : Bool) → askFault (cond kept (Keep (b .matched)) Skip) ≡ noFault
+    none true = refl
+    none false = refl
+
 module _ (t q : ℕ) (s body f : List ℕ) where
   ask-says : {r : Answered} {after : List ℕ} → r ≡ answeredBy (ask t q s body f) → after ≡ askBuffer t q s body f → AskPromise t q s body f after r
-  ask-says e b = record { answer = e; buffer = b; numbers = rw e (ask-numbers (ask t q s body f)) }
+  ask-says e b = record { answer = e; buffer = b; numbers = rw e (ask-numbers (ask t q s body f)); fault = rw e (ask-fault (ask t q s body f)) }
 
   pub ask-refused : {o : Outcome} {r : Refusal} → o ≡ Outcome.Refused r → TestsQuestion t q s body o → AskPromise t q s body f f (Answered.Refused r)
   unfolding ask askBuffer zeroedFrom answerBuffer answeredBy andThen

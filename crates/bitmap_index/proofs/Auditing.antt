@@ -7,19 +7,20 @@ use native.Mathlib.Omega.{arith}
 use lib.Dec.{leb}
 use lib.ListN.{length}
 use borrow.Author.Tests.{eq-eqb, ne-eqb, le-leb, lt-leb}
+use Rattle.numbers.specs.declared.Row.{Row}
 use Rattle.refusal.specs.Meaning.{limit}
 use Rattle.refusal.specs.declared.Refusal.{Refusal}
 use Rattle.refusal.specs.declared.Refusal.the-variants.{Missing, Room, Limit}
-use Rattle.row_field.specs.Meaning.{zeroed, cleared, size, count}
+use Rattle.row_field.specs.Meaning.{zeroed, cleared, size, count, firstClear}
 use Rattle.row_field.proofs.Counts.{rows-tally, tally-none, count-le, length-zeroed, bit-zeroed}
-use Rattle.refusal.specs.Reading.{Out, refuse, ok, check, andThen, numbersOf}
+use Rattle.refusal.specs.Reading.{Out, refuse, ok, check, andThen, numbersOf, faultIn}
 use Rattle.dictionary.specs.declared.Checked.{Checked}
 use Rattle.dictionary.specs.declared.Checked.the-variants.{Found}
 use Rattle.dictionary.specs.declared.Summary.{Summary}
 use Rattle.dictionary.specs.Reading.{Dictionary, dictionary}
 use Rattle.dictionary.specs.Layout.{Entry}
 use Rattle.dictionary.specs.Promises.{dictionaryOf, IsRead, ReadsDictionary}
-use Rattle.bitmap_index.specs.Reading.{roomFor, prepared, audited, audit, zeroedFrom, auditBuffer, auditedBy, auditOut, auditNumbers}
+use Rattle.bitmap_index.specs.Reading.{firstNumber, roomFor, prepared, audited, audit, zeroedFrom, auditBuffer, auditedBy, auditOut, auditNumbers, auditFault}
 use Rattle.bitmap_index.specs.declared.Audited.{Audited}
 use Rattle.bitmap_index.specs.declared.Audited.the-variants.{Rows}
 use Rattle.bitmap_index.specs.declared.Placing.{Placing}
@@ -39,7 +40,7 @@ module _ (h : Summary) (body f : List ℕ) {r : Placing} {mid : List ℕ} (p : P
       let w = null-refused h body f p e es in
       record { answer = rw (w .outcome); behind = w .behind }
 
-  module _ {n : ℕ} (e : r ≡ Placed n) {r′ : Placing} {after : List ℕ} (q : Places (h .rows) (placeIn body h es) mid after r′) where
+  module _ {n : ℕ} (e : r ≡ Placed n) {r′ : Placing} {after : List ℕ} (q : Places (h .rows) (placeIn firstNumber body h es) mid after r′) where
     pub values-refuse : {why : Refusal} → r′ ≡ Placing.Refused why → AuditsZero read f after (Audited.Refused why)
     unfolding audited auditedBy andThen
     values-refuse t =
@@ -54,11 +55,11 @@ module _ (h : Summary) (body f : List ℕ) {r : Placing} {mid : List ℕ} (p : P
       pub nulls-fit : n ≤ h .rows
       nulls-fit = omega (arith, so-many, count-le after (h .rows))
 
-      pub some-missing : (m ≡ h .rows - n → ⊥) → AuditsZero read f after (Audited.Refused Missing)
+      pub some-missing : (m ≡ h .rows - n → ⊥) → {low : Row} → low .0 ≡ firstClear after 0 (h .rows) → AuditsZero read f after (Audited.Refused (Missing low))
       unfolding audited auditedBy andThen check
-      some-missing l =
+      some-missing l {low} first =
           let w = both-placed h body f p e es q t in
-          record { answer = rw (w .outcome .0, so-many, ne-eqb (n + m) (h .rows) (λ i. l (omega arith))); behind = w .behind }
+          record { answer = rw (w .outcome .0, so-many, ne-eqb (n + m) (h .rows) (λ i. l (omega arith)), ← first); behind = w .behind }
 
       pub none-missing : m ≡ h .rows - n → AuditsZero read f after (Rows (h .rows))
       unfolding audited auditedBy andThen check
@@ -120,15 +121,20 @@ module _ (t : ℕ) (s f : List ℕ) where
 
 -- ---- the whole
 
--- the number and the count are those of the answer
+-- the number and the count are those of the answer, and so is the fault
 audit-numbers : (o : Out Refusal ℕ) → auditOut (auditedBy o) ≡ numbersOf 0 auditNumbers o
 unfolding auditOut numbersOf auditedBy
 audit-numbers (refuse r) = refl
 audit-numbers (ok n) = refl
 
+audit-fault : (o : Out Refusal ℕ) → auditFault (auditedBy o) ≡ faultIn o
+unfolding auditFault faultIn auditedBy
+audit-fault (refuse r) = refl
+audit-fault (ok n) = refl
+
 module _ (t : ℕ) (s f : List ℕ) where
   audit-says : {r : Audited} {after : List ℕ} → r ≡ auditedBy (audit t s f) → after ≡ auditBuffer t s f → AuditPromise t s f after r
-  audit-says e b = record { answer = e; buffer = b; numbers = rw e (audit-numbers (audit t s f)) }
+  audit-says e b = record { answer = e; buffer = b; numbers = rw e (audit-numbers (audit t s f)); fault = rw e (audit-fault (audit t s f)) }
 
   module _ {c : Checked} where
     pub is-ready : {h : Summary} → c ≡ Found h → Prepares t s f c → Ready t s h f

@@ -61,7 +61,7 @@ module _ (t : ℕ) (cells : List Cell) (es : List Entry) (region body field : Li
   module _ (q : ℕ) (ls : List (List ℕ)) (g : Question t q ls) where
     ask-well : ask t q (joined ls) body field ≡ ok (scanAnswer q ls cells field)
     unfolding ask auditedAnswer andThen
-    ask-well = rw (asked-well t q ls body s g, prepared-well, column-audited cells es region field w b h) (column-answered q ls cells es region field w b h)
+    ask-well = rw (asked-well t q ls body s g, prepared-well, column-audited cells es region field w b h) (ap ok (column-answered q ls cells es region field w b h))
 
     ask-buffer : askBuffer t q (joined ls) body field ≡ scanAnswer q ls cells field .buffer
     unfolding askBuffer answerBuffer

@@ -1,12 +1,16 @@
 -- The proofs of the claims and the laws that they cite, then the laws that the proofs of the functions cite.
 pub mod Rows
+pub mod LaidRows
 pub mod ScanAnswers
 pub mod BodyAnswers
 pub mod SameColumn
 pub mod PlacedRows
 pub mod AcceptedStages
 pub mod Accepted
+pub mod EntryFaults
+pub mod Faults
 pub mod Versions
+pub mod CarriesNothing
 pub mod Theorems
 pub mod Offsets
 pub mod PlacingRows

@@ -14,8 +14,8 @@ use Rattle.numbers.specs.Meaning.{All, number}
 use Rattle.refusal.proofs.Laws.{not-ok}
 use Rattle.row_field.specs.Meaning.{mark, markAll}
 use Rattle.row_field.specs.Promises.{MarkedRows}
-use Rattle.roaring.specs.Reading.{read}
-use Rattle.roaring.specs.Promises.{SoundBelow, rowsRead}
+use Rattle.roaring.specs.Reading.{read, rowsRead}
+use Rattle.roaring.specs.Promises.{SoundBelow}
 use Rattle.stored_value.specs.Meaning.{null}
 use Rattle.dictionary.specs.Layout.{Entry}
 use Rattle.dictionary.specs.declared.Summary.{Summary}
@@ -24,8 +24,8 @@ use Rattle.dictionary.specs.declared.EntryAt.{EntryAt}
 use Rattle.dictionary.specs.Promises.{pattern, nullsOf, entryAt, IsRead, NextAt}
 use Rattle.dictionary.proofs.Offsets.{read-signed}
 use Rattle.bitmap_index.specs.Meaning.{chosen}
-use Rattle.bitmap_index.specs.Reading.{chosenOf}
-use Rattle.bitmap_index.specs.Promises.{ForEntries, rowsFor, rowsAt, markEntries, SoundAt, SoundEntry, SoundEntryAt, SoundNull, AllSound, ForLookup, MarksChosen}
+use Rattle.bitmap_index.specs.Reading.{chosenOf, rowsFor, rowsAt, markEntries}
+use Rattle.bitmap_index.specs.Promises.{ForEntries, SoundAt, SoundEntry, SoundEntryAt, SoundNull, AllSound, ForLookup, MarksChosen}
 use Rattle.bitmap_index.proofs.Offsets.{of, row-is, at, place-is}
 use Rattle.bitmap_index.proofs.PlacingEntries.{nullEntry}
 use Rattle.bitmap_index.proofs.Walking.{Walk, at-start, at-end, here, found, goes-on}

@@ -1,4 +1,4 @@
--- Rows that were placed, taken apart: they rise, all below the row count, none was set before, and they are placed anew wherever none of them is set.
+-- Rows that were placed, taken apart: they rise, all below the row count, and none was set before.
 use Prim.Native.Nat.{ℕ, _+_, _≤_, zero-le}
 use mathlib.Core.Path.{_≡_, _∙_}
 use mathlib.Core.Bool.{true, false}
@@ -20,10 +20,10 @@ use Rattle.row_field.proofs.Laws.{length-mark}
 use Rattle.row_field.proofs.Marks.{anySet-mark}
 use Rattle.row_field.proofs.Counts.{count-mark}
 use Rattle.roaring.specs.declared.Extent.{Extent}
-use Rattle.roaring.specs.Reading.{Parsed, measured, endOf}
+use Rattle.roaring.specs.Reading.{containerOf, Parsed, measured, endOf}
 use Rattle.roaring.proofs.Measuring.{rows-measured, measured-sound, measured-rising, end-below}
-use Rattle.bitmap_index.specs.Reading.{extentOf, placeBitmap, placeAt}
-use Rattle.bitmap_index.specs.Promises.{rowsFor, SoundAt}
+use Rattle.bitmap_index.specs.Reading.{extentOf, placeBitmap, placeAt, rowsFor}
+use Rattle.bitmap_index.specs.Promises.{SoundAt}
 
 -- rows that rise and of which none is set add as many as they are
 pub count-besides : (f : List ℕ) (lo n : ℕ) (rs : List ℕ) → Rising lo n rs → size n ≤ length f → anySet f rs ≡ false
@@ -41,25 +41,24 @@ measured-rise extent bytes p b m n l =
     let r = measured-rising extent bytes p b m in
     rising-within 0 fourBytes n (p .rows) r (end-below n 0 fourBytes (p .rows) r l)
 
-pub bitmap-back : (extent : Extent) (n : ℕ) (bytes f f′ : List ℕ) → placeBitmap extent n bytes f ≡ ok f′
+pub bitmap-back : (entry : ℕ) (extent : Extent) (n : ℕ) (bytes f f′ : List ℕ) → placeBitmap entry extent n bytes f ≡ ok f′
     → (p : Parsed) × (measured extent bytes ≡ ok p) × (leb (endOf (p .rows)) n ≡ true) × (anySet f (p .rows) ≡ false) × (f′ ≡ markAll f (p .rows))
 unfolding placeBitmap
-bitmap-back extent n bytes f f′ e =
-    let (p, found, tests) = then-ok (refusedAs (λ c. Bitmap) (measured extent bytes)) _ f′ e in
+bitmap-back entry extent n bytes f f′ e =
+    let (p, found, tests) = then-ok (refusedAs (λ fault. Bitmap entry (containerOf fault)) (measured extent bytes)) _ f′ e in
     let (below, rest) = check-ok _ _ _ f′ tests in
     let (free, last) = check-ok _ _ _ f′ rest in
     (p, refused-as-ok _ (measured extent bytes) p found, below, not-true _ free, cc)
 
 -- what is known of the rows at a place, once they were placed
-pub record PlacedAt (z : ℤ) (e n : ℕ) (region f f′ : List ℕ) : Type 0 where
+pub record PlacedAt (z : ℤ) (n : ℕ) (region f f′ : List ℕ) : Type 0 where
   pub sound : SoundAt n region z
   pub rising : Rising 0 n (rowsFor z region)
   pub free : anySet f (rowsFor z region) ≡ false
   pub marked : f′ ≡ markAll f (rowsFor z region)
-  pub anew : (g : List ℕ) → anySet g (rowsFor z region) ≡ false → placeAt z e n region g ≡ ok (markAll g (rowsFor z region))
 
-module _ (e n : ℕ) (region f f′ : List ℕ) where
-  row-placed : (r : ℕ) → placeAt (negsuc r) e n region f ≡ ok f′ → PlacedAt (negsuc r) e n region f f′
+module _ (entry e n : ℕ) (region f f′ : List ℕ) where
+  row-placed : (r : ℕ) → placeAt entry (negsuc r) e n region f ≡ ok f′ → PlacedAt (negsuc r) n region f f′
   unfolding placeAt rowsFor anySet markAll check
   row-placed r q =
       let (below, rest) = check-ok _ _ _ f′ q in
@@ -70,15 +69,14 @@ module _ (e n : ℕ) (region f f′ : List ℕ) where
         rising = (zero-le, ltb-true r n below, tt);
         free = rw was;
         marked = cc;
-        anew = λ g h. let (here, there) = or-neither (bit g r) false h in rw (below, here);
       }
 
-  bitmap-placed : (o : ℕ) → Bytes region → placeAt (pos o) e n region f ≡ ok f′ → PlacedAt (pos o) e n region f f′
+  bitmap-placed : (o : ℕ) → Bytes region → placeAt entry (pos o) e n region f ≡ ok f′ → PlacedAt (pos o) n region f f′
   unfolding placeAt placeBitmap rowsFor andThen refusedAs check
   bitmap-placed o b q =
       let extent : Extent = extentOf e in
       let bytes : List ℕ = drop o region in
-      let (p, m, below, free, marked) = bitmap-back extent n bytes f f′ q in
+      let (p, m, below, free, marked) = bitmap-back entry extent n bytes f f′ q in
       let known = bytes-drop o region b in
       let l = leb-true (endOf (p .rows)) n below in
       let same = rows-measured extent bytes p known m in
@@ -87,9 +85,8 @@ module _ (e n : ℕ) (region f f′ : List ℕ) where
         rising = rw same (measured-rise extent bytes p known m n l);
         free = rw same free;
         marked = rw same marked;
-        anew = λ g h. let none = rw same at h in rw (m, below, none, same);
       }
 
-  pub placed-at : (z : ℤ) → Bytes region → placeAt z e n region f ≡ ok f′ → PlacedAt z e n region f f′
+  pub placed-at : (z : ℤ) → Bytes region → placeAt entry z e n region f ≡ ok f′ → PlacedAt z n region f f′
   placed-at (negsuc r) b q = row-placed r q
   placed-at (pos o) b q = bitmap-placed o b q

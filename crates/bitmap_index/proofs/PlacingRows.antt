@@ -23,8 +23,8 @@ use Rattle.row_field.proofs.Counts.{count-mark}
 use Rattle.roaring.specs.declared.Extent.{Extent}
 use Rattle.roaring.specs.declared.Extent.the-variants.{AsLong, Exactly}
 use Rattle.roaring.specs.declared.Measured.{Measured}
-use Rattle.roaring.specs.Reading.{Fault, unsound, Parsed, read, measured, endOf}
-use Rattle.roaring.specs.Promises.{MeasurePromise, SoundBelow, rowsRead}
+use Rattle.roaring.specs.Reading.{Fault, unsound, Parsed, read, measured, endOf, rowsRead}
+use Rattle.roaring.specs.Promises.{MeasurePromise, SoundBelow}
 use Rattle.roaring.proofs.Measuring.{not-sound, is-sound, rows-measured, measured-sound}
 use Rattle.bitmap_index.specs.Reading.{extentOf, placeBitmap, placeAt}
 use Rattle.bitmap_index.specs.declared.Placing.{Placing}
@@ -53,17 +53,17 @@ cleared-marks n f (r ∷ rs) b = cleared-marks n (mark f r) rs (b .1) ∙ cleare
 
 -- ---- a single row
 
-module _ (r n : ℕ) (f : List ℕ) where
-  pub row-range : n ≤ r → Places n (placeAt (negsuc r) 0 n []) f f (Placing.Refused Range)
+module _ (entry r n : ℕ) (f : List ℕ) where
+  pub row-range : n ≤ r → Places n (placeAt entry (negsuc r) 0 n []) f f (Placing.Refused (Range entry))
   unfolding placeAt check
   row-range h = record { outcome = rw (le-ltb r n h); behind = refl }
 
   module _ (h : r < n) {was : Bool} {after : List ℕ} (b : was ≡ bit f r) (m : after ≡ mark f r) where
-    pub row-twice : was ≡ true → Places n (placeAt (negsuc r) 0 n []) f after (Placing.Refused Twice)
+    pub row-twice : was ≡ true → Places n (placeAt entry (negsuc r) 0 n []) f after (Placing.Refused (Twice entry))
     unfolding placeAt check
     row-twice t = record { outcome = rw (lt-ltb r n h, ← b, t); behind = rw m (cleared-mark n f r h) }
 
-    pub row-done : size n ≤ length f → was ≡ false → Places n (placeAt (negsuc r) 0 n []) f after (Placed 1)
+    pub row-done : size n ≤ length f → was ≡ false → Places n (placeAt entry (negsuc r) 0 n []) f after (Placed 1)
     unfolding placeAt check
     row-done room t =
         let e : bit f r ≡ false = sym b ∙ t in
@@ -93,20 +93,20 @@ none-measured (Exactly w) = rw take-nil (go (leb w 0))
     go true = refl
     go false = refl
 
-module _ (o e n : ℕ) (region f : List ℕ) where
-  pub behind-region : length region < o → Places n (placeAt (pos o) e n region) f f (Placing.Refused Bitmap)
+module _ (entry o e n : ℕ) (region f : List ℕ) where
+  pub behind-region : length region < o → Places n (placeAt entry (pos o) e n region) f f (Placing.Refused (Bitmap entry 0))
   unfolding placeAt placeBitmap refusedAs andThen
   behind-region h =
       let none = drop-of-length-le region (let l : length region ≤ o = omega arith in l) in
       record { outcome = rw (none, none-measured (extentOf e)); behind = refl }
 
   module _ {bytes : List ℕ} {extent : Extent} {m : Measured} (p : bytes ≡ drop o region) (x : extent ≡ extentOf e) (a : MeasurePromise extent bytes m) where
-    pub bitmap-unsound : {i : ℕ} → m ≡ Measured.Unsound i → Places n (placeAt (pos o) e n region) f f (Placing.Refused Bitmap)
+    pub bitmap-unsound : {i : ℕ} → m ≡ Measured.Unsound i → Places n (placeAt entry (pos o) e n region) f f (Placing.Refused (Bitmap entry i))
     unfolding placeAt placeBitmap refusedAs andThen
     bitmap-unsound t = let u = not-sound (measured extent bytes) (sym t ∙ a .answer) in record { outcome = rw (← p, ← x, u); behind = refl }
 
     module _ {long rows end : ℕ} (t : m ≡ Measured.Sound long rows end) where
-      pub bitmap-range : n < end → Places n (placeAt (pos o) e n region) f f (Placing.Refused Range)
+      pub bitmap-range : n < end → Places n (placeAt entry (pos o) e n region) f f (Placing.Refused (Range entry))
       unfolding placeAt placeBitmap refusedAs andThen check
       bitmap-range l =
           let (b, g, many, last, whole) = is-sound (measured extent bytes) (sym t ∙ a .answer) in
@@ -131,13 +131,13 @@ module _ (o e n : ℕ) (region f : List ℕ) where
               let (b, g, many, last, whole) = is-sound (measured extent bytes) (sym t ∙ a .answer) in
               rw (marked .marked) (cleared-marks n f (b .rows) (rising-below 0 n (b .rows) (measured-rise extent bytes b known g n below)))
 
-          pub bitmap-twice : seen ≡ true → Places n (placeAt (pos o) e n region) f after (Placing.Refused Twice)
+          pub bitmap-twice : seen ≡ true → Places n (placeAt entry (pos o) e n region) f after (Placing.Refused (Twice entry))
           unfolding placeAt placeBitmap refusedAs andThen check
           bitmap-twice s =
               let (b, g, many, last, whole) = is-sound (measured extent bytes) (sym t ∙ a .answer) in
               record { outcome = rw (← p, ← x, g, le-leb (endOf (b .rows)) n below, ← marked .seen, s); behind = kept }
 
-          pub bitmap-done : size n ≤ length f → seen ≡ false → Places n (placeAt (pos o) e n region) f after (Placed rows)
+          pub bitmap-done : size n ≤ length f → seen ≡ false → Places n (placeAt entry (pos o) e n region) f after (Placed rows)
           unfolding placeAt placeBitmap refusedAs andThen check
           bitmap-done room s =
               let (b, g, many, last, whole) = is-sound (measured extent bytes) (sym t ∙ a .answer) in
@@ -150,15 +150,15 @@ module _ (o e n : ℕ) (region f : List ℕ) where
 
 -- ---- an entry's rows
 
-module _ (z : ℤ) (e n : ℕ) (region f : List ℕ) (k : SFits w32 z) {r : Placing} {after : List ℕ} where
+module _ (entry : ℕ) (z : ℤ) (e n : ℕ) (region f : List ℕ) (k : SFits w32 z) {r : Placing} {after : List ℕ} where
   pub as-row : (t : ltZ (toZ w32 (ofZ w32 z)) (pos 0) ≡ true)
-      → Places n (placeAt (negsuc (natAbs (toZ w32 (ofZ w32 (negsuc 0 -ℤ toZ w32 (ofZ w32 z)))))) 0 n []) f after r
-      → Places n (placeAt z e n region) f after r
+      → Places n (placeAt entry (negsuc (natAbs (toZ w32 (ofZ w32 (negsuc 0 -ℤ toZ w32 (ofZ w32 z)))))) 0 n []) f after r
+      → Places n (placeAt entry z e n region) f after r
   unfolding placeAt
   as-row t p =
       let w = rw (row-is z k t) at p in
       record { outcome = rw (of z k t .so) (w .outcome); behind = w .behind }
 
-  pub as-place : (t : ltZ (toZ w32 (ofZ w32 z)) (pos 0) ≡ false) → Places n (placeAt (pos (natAbs (toZ w32 (ofZ w32 z)))) e n region) f after r
-      → Places n (placeAt z e n region) f after r
+  pub as-place : (t : ltZ (toZ w32 (ofZ w32 z)) (pos 0) ≡ false) → Places n (placeAt entry (pos (natAbs (toZ w32 (ofZ w32 z)))) e n region) f after r
+      → Places n (placeAt entry z e n region) f after r
   as-place t p = rw (at z k t .so) (rw (place-is z k t) at p)

@@ -1,89 +1,30 @@
 -- A body of a column, audited and asked behind its dictionary, answers as the scan. What is marked is always the rows of the cells that pass a test: none
 -- at first, and with each entry those of its cell besides.
-use Prim.Native.Nat.{ℕ, suc, _+_, _-_, _<_, _≤_}
+use Prim.Native.Nat.{ℕ, suc, _+_, _≤_}
 use mathlib.Core.Path.{_≡_, refl, sym, ap, _∙_}
-use mathlib.Core.Logic.{_⊎_, inl, inr}
 use mathlib.Core.Bool.{Bool, true, false, _&&_, _||_, cond, or-assoc, or-false, or-true, and-true, and-false}
 use mathlib.Core.List.{List, [], _∷_, _++_}
 use native.Mathlib.Nat.{zero-add, add-zero}
 use native.Mathlib.Omega.{arith}
-use borrow.Author.Tests.{eq-eqb, ne-eqb, lt-ltb, le-ltb, le-leb}
+use borrow.Author.Tests.{eq-eqb}
 use lib.Dec.{eqb}
-use lib.IntN.{ℤ, pos, negsuc}
-use lib.ListN.{length, drop, replicate, length-append}
-use lib.Seq.{drop-at}
-use Rattle.numbers.specs.Meaning.{All, signed32, Bytes, minusOne, signBit}
-use Rattle.numbers.proofs.Booleans.{or-neither}
-use Rattle.row_field.specs.Meaning.{size, bit, mark, markAll, anySet, fieldOf, cleared, count, Below}
-use Rattle.roaring.specs.declared.Extent.{Extent}
-use Rattle.roaring.specs.Layout.{Bitmap}
-use Rattle.roaring.specs.Reading.{endOf}
-use Rattle.roaring.specs.Claims.{ExtentIs}
-use Rattle.roaring.proofs.Measuring.{measured-laid, below-end}
+use lib.ListN.{length, drop, replicate}
+use Rattle.numbers.specs.Meaning.{All, Bytes, row}
+use Rattle.row_field.specs.Meaning.{size, mark, markAll, fieldOf, cleared, count, firstClear}
+use Rattle.row_field.proofs.Counts.{bytes-zeroed}
 use Rattle.stored_value.specs.Meaning.{Cell, sameCell}
 use Rattle.refusal.specs.Meaning.{limit}
 use Rattle.refusal.specs.declared.Refusal.{Refusal}
 use Rattle.refusal.specs.declared.Refusal.the-variants.{Missing}
-use Rattle.refusal.specs.Reading.{Out, ok, check, andThen, refusedAs}
+use Rattle.refusal.specs.Reading.{Out, ok, check, andThen}
 use Rattle.stored_value.proofs.Laws.{sameCell→eq, sameCell-sym}
 use Rattle.dictionary.specs.Layout.{Entry, someHas}
 use Rattle.dictionary.specs.Claims.{Once}
 use Rattle.bitmap_index.specs.Meaning.{chosen, scan, scanFrom}
-use Rattle.bitmap_index.specs.Layout.{rowsWith, EntryRows, single, bitmap, ExactRows, Covers}
-use Rattle.bitmap_index.specs.Reading.{extentOf, placeBitmap, placeAt, placeEntry, placeEntries, audited, chosenOf, answered}
+use Rattle.bitmap_index.specs.Layout.{rowsWith, EntryRows, ExactRows, Covers}
+use Rattle.bitmap_index.specs.Reading.{nextNumber, firstNumber, placeEntry, placeEntries, audited, chosenOf, rowsAt, markEntries, counted, answered}
+use Rattle.bitmap_index.proofs.LaidRows.{rows-at, place-one}
 use Rattle.bitmap_index.proofs.Rows.{rowsWhere, rows-with, all-cells, rows-ext, rows-none, rows-all, rows-below, Apart, rows-join, Free, rows-free, cleared-free, rows-marked, rows-counted}
-
--- ---- one entry: its rows are marked
-
--- a negative offset is the single row -1 less it
-signed-single : (r : ℕ) → r < signBit → signed32 (minusOne - r) ≡ negsuc r
-signed-single r h =
-    let e : minusOne - (minusOne - r) ≡ r = omega arith in
-    let l : signBit ≤ minusOne - r = omega arith in
-    rw (le-ltb (minusOne - r) signBit l, e)
-
-place-single : (n : ℕ) (region f : List ℕ) (extent r : ℕ) → r < n → bit f r ≡ false → placeAt (negsuc r) extent n region f ≡ ok (mark f r)
-unfolding placeAt check
-place-single n region f extent r h b = rw (lt-ltb r n h, b)
-
-placed-there : (n : ℕ) (region f : List ℕ) (extent o : ℕ) {bytes : List ℕ} → drop o region ≡ bytes
-    → placeAt (pos o) extent n region f ≡ placeBitmap (extentOf extent) n bytes f
-unfolding placeAt
-placed-there n region f extent o h = ap (λ (s : List ℕ). placeBitmap (extentOf extent) n s f) h
-
-extent-fits : (extent long : ℕ) → long ≤ limit → (extent ≡ minusOne) ⊎ (extent ≡ long) → ExtentIs (extentOf extent) long
-unfolding extentOf
-extent-fits extent long h (inl e) = rw (eq-eqb extent minusOne e) tt
-extent-fits extent long h (inr e) = rw (ne-eqb extent minusOne (omega arith)) e
-
-place-bitmap : (extent : Extent) (n : ℕ) {rows bytes : List ℕ} (f t : List ℕ) → Bitmap rows bytes → ExtentIs extent (length bytes) → Below n rows → anySet f rows ≡ false
-    → placeBitmap extent n (bytes ++ t) f ≡ ok (markAll f rows)
-unfolding placeBitmap refusedAs andThen check
-place-bitmap extent n {rows} f t m e b s =
-    let (p, is, same) = measured-laid extent m t e in
-    let l : endOf (p .rows) ≤ n = rw same (below-end n rows b) in
-    let none : anySet f (p .rows) ≡ false = rw same s in
-    rw (is, le-leb (endOf (p .rows)) n l, none) (ap (λ (rs : List ℕ). ok (markAll f rs)) same)
-
-module _ (n : ℕ) (region f : List ℕ) (e : Entry) where
-  place-at : (x : ℤ) → signed32 (e .offset) ≡ x → placeEntry n region f e ≡ placeAt x (e .extent) n region f
-  unfolding placeEntry
-  place-at x h = ap (λ (y : ℤ). placeAt y (e .extent) n region f) h
-
-  pub place-one : (rows : List ℕ) → length region ≤ limit → EntryRows region rows e → Below n rows → anySet f rows ≡ false → placeEntry n region f e ≡ ok (markAll f rows)
-  unfolding markAll anySet
-  place-one rows l (single r q h o x) b s =
-      let c = rw q at b in
-      let d = or-neither (bit f r) false (rw q at s) in
-      rw q (place-at (negsuc r) (ap signed32 o ∙ signed-single r h) ∙ place-single n region f (e .extent) r (c .0) (d .0))
-  place-one rows l (bitmap before bytes behind q m o x) b s =
-      let k = simp length-append at (ap length q) in
-      let i : length before < signBit = omega arith in
-      let a : signed32 (length before) ≡ pos (length before) = rw (lt-ltb (length before) signBit i) in
-      let d : drop (length before) region ≡ bytes ++ behind = rw q (drop-at before (bytes ++ behind) (length before) refl) in
-      place-at (pos (length before)) (ap signed32 o ∙ a)
-      ∙ placed-there n region f (e .extent) (length before) d
-      ∙ place-bitmap (extentOf (e .extent)) n f behind m (extent-fits (e .extent) (length bytes) (omega arith) x) b s
 
 -- ---- the rows of many entries
 
@@ -97,32 +38,57 @@ other-cell c d es n y = go (sameCell d c) refl
         sym y ∙ ap (λ (x : Cell). someHas x es) (sym e) ∙ n
     go false s = refl
 
-module _ (region : List ℕ) (cells : List Cell) (z : List ℕ) (short : length region ≤ limit) (f : Free (length cells) z) where
+module _ (region : List ℕ) (cells : List Cell) (z : List ℕ) (short : length region ≤ limit) (b : Bytes z) where
   -- one entry more: its rows are marked besides
-  placed-one : (p : Cell → Bool) (e : Entry) → EntryRows region (rowsWith (e .cell) 0 cells) e → Apart p (sameCell (e .cell))
-      → placeEntry (length cells) region (markAll z (rowsWhere p 0 cells)) e ≡ ok (markAll z (rowsWhere (λ c. p c || sameCell (e .cell) c) 0 cells))
-  placed-one p e a h =
+  marked-one : (p : Cell → Bool) (e : Entry) → EntryRows region (rowsWith (e .cell) 0 cells) e
+      → markAll (markAll z (rowsWhere p 0 cells)) (rowsAt region e) ≡ markAll z (rowsWhere (λ c. p c || sameCell (e .cell) c) 0 cells)
+  marked-one p e a =
+      rw (rows-at region e short (rowsWith (e .cell) 0 cells) a, rows-with (e .cell) 0 cells) (rows-join z p (sameCell (e .cell)) cells b)
+
+  -- with the rows of cells that pass p marked, the rows of entries are marked besides
+  marked-besides : (p : Cell → Bool) (es : List Entry) → ExactRows region cells es
+      → markEntries region es (markAll z (rowsWhere p 0 cells)) ≡ markAll z (rowsWhere (λ c. p c || someHas c es) 0 cells)
+  unfolding markEntries
+  marked-besides p [] a =
+      ap (λ (rs : List ℕ). markAll z rs) (rows-ext p (λ c. p c || false) 0 cells (all-cells (λ c. p c ≡ p c || false) cells (λ c. sym (or-false (p c)))))
+  marked-besides p (e ∷ es) a =
+      let q : Cell → Bool = λ c. p c || sameCell (e .cell) c in
+      ap (markEntries region es) (marked-one p e (a .0))
+      ∙ marked-besides q es (a .1)
+      ∙ ap (λ (rs : List ℕ). markAll z rs) (rows-ext (λ c. q c || someHas c es) (λ c. p c || someHas c (e ∷ es)) 0 cells
+      (all-cells (λ c. q c || someHas c es ≡ p c || someHas c (e ∷ es)) cells (λ c. or-assoc (p c) (sameCell (e .cell) c) (someHas c es) ∙ rw (sameCell-sym c (e .cell)))))
+
+  pub marked-all : (es : List Entry) → ExactRows region cells es → markEntries region es z ≡ markAll z (rowsWhere (λ c. someHas c es) 0 cells)
+  unfolding markAll
+  marked-all es a = rw (rows-none 0 cells) at (marked-besides (λ c. false) es a)
+
+module _ (region : List ℕ) (cells : List Cell) (z : List ℕ) (short : length region ≤ limit) (f : Free (length cells) z) where
+  placed-one : (next : ℕ) (p : Cell → Bool) (e : Entry) → EntryRows region (rowsWith (e .cell) 0 cells) e → Apart p (sameCell (e .cell))
+      → placeEntry next (length cells) region (markAll z (rowsWhere p 0 cells)) e ≡ ok (markAll z (rowsWhere (λ c. p c || sameCell (e .cell) c) 0 cells))
+  placed-one next p e a h =
       let q : Cell → Bool = sameCell (e .cell) in
-      place-one (length cells) region (markAll z (rowsWhere p 0 cells)) e (rowsWhere q 0 cells) short (rw (rows-with (e .cell) 0 cells) at a)
+      place-one next (length cells) region (markAll z (rowsWhere p 0 cells)) e short (rowsWhere q 0 cells) (rw (rows-with (e .cell) 0 cells) at a)
       (rows-below q cells) (rows-free z p q cells f h)
       ∙ ap ok (rows-join z p q cells (f .bytes))
 
-  -- with the rows of cells that pass p marked, the rows of entries whose cells do not pass it are marked besides
-  placed-besides : (p : Cell → Bool) (es : List Entry) → ExactRows region cells es → Once es → Apart p (λ c. someHas c es)
-      → placeEntries (length cells) region es (markAll z (rowsWhere p 0 cells)) ≡ ok (markAll z (rowsWhere (λ c. p c || someHas c es) 0 cells))
-  unfolding placeEntries andThen
-  placed-besides p [] a o h =
-      ap (λ (rs : List ℕ). ok (markAll z rs)) (rows-ext p (λ c. p c || false) 0 cells (all-cells (λ c. p c ≡ p c || false) cells (λ c. sym (or-false (p c)))))
-  placed-besides p (e ∷ es) a o h =
+  -- entries whose cells do not pass p are placed, with the rows of cells that pass it marked: what is placed is what is marked
+  placed-besides : (next : ℕ) (p : Cell → Bool) (es : List Entry) → ExactRows region cells es → Once es → Apart p (λ c. someHas c es)
+      → placeEntries next (length cells) region es (markAll z (rowsWhere p 0 cells)) ≡ ok (markEntries region es (markAll z (rowsWhere p 0 cells)))
+  unfolding placeEntries markEntries andThen
+  placed-besides next p [] a o h = refl
+  placed-besides next p (e ∷ es) a o h =
       let q : Cell → Bool = λ c. p c || sameCell (e .cell) c in
-      ap (λ (x : Out Refusal (List ℕ)). andThen x (placeEntries (length cells) region es)) (placed-one p e (a .0) (λ c x. h c (rw (sameCell-sym c (e .cell), x))))
-      ∙ placed-besides q es (a .1) (o .1) (λ c x. rw (h c (rw x (or-true (sameCell c (e .cell)))), other-cell c (e .cell) es (o .0) x))
-      ∙ ap (λ (rs : List ℕ). ok (markAll z rs)) (rows-ext (λ c. q c || someHas c es) (λ c. p c || someHas c (e ∷ es)) 0 cells
-      (all-cells (λ c. q c || someHas c es ≡ p c || someHas c (e ∷ es)) cells (λ c. or-assoc (p c) (sameCell (e .cell) c) (someHas c es) ∙ rw (sameCell-sym c (e .cell)))))
+      let after : ℕ = nextNumber next (e .cell) in
+      ap (λ (x : Out Refusal (List ℕ)). andThen x (placeEntries after (length cells) region es))
+      (placed-one next p e (a .0) (λ c x. h c (rw (sameCell-sym c (e .cell), x))))
+      ∙ placed-besides after q es (a .1) (o .1) (λ c x. rw (h c (rw x (or-true (sameCell c (e .cell)))), other-cell c (e .cell) es (o .0) x))
+      ∙ ap (λ (g : List ℕ). ok (markEntries region es g)) (sym (marked-one region cells z short (f .bytes) p e (a .0)))
 
-  pub placed-all : (es : List Entry) → ExactRows region cells es → Once es → placeEntries (length cells) region es z ≡ ok (markAll z (rowsWhere (λ c. someHas c es) 0 cells))
+  pub placed-all : (next : ℕ) (es : List Entry) → ExactRows region cells es → Once es
+      → placeEntries next (length cells) region es z ≡ ok (markAll z (rowsWhere (λ c. someHas c es) 0 cells))
   unfolding markAll
-  placed-all es a o = rw (rows-none 0 cells) at (placed-besides (λ c. false) es a o (λ c x. refl))
+  placed-all next es a o =
+      (rw (rows-none 0 cells) at (placed-besides next (λ c. false) es a o (λ c x. refl))) ∙ ap ok (marked-all region cells z short (f .bytes) es a)
 
 -- ---- the audit
 
@@ -141,8 +107,9 @@ module _ (cells : List Cell) (es : List Entry) (region field : List ℕ) (w : Ha
       let p : Cell → Bool = λ c. someHas c es in
       let full : List ℕ = markAll zero (rowsWhere p 0 cells) in
       let n : count full (length cells) ≡ length cells = rows-counted p cells field h ∙ rows-all p 0 cells (w .covers) in
-      ap (λ (o : Out Refusal (List ℕ)). andThen o (λ f. check (eqb (count f (length cells)) (length cells)) Missing (ok (length cells))))
-      (placed-all region cells zero (w .short) (cleared-free (length cells) field b h) es (w .placed) (w .once))
+      ap (λ (o : Out Refusal (List ℕ)). andThen o (λ f.
+      check (eqb (count f (length cells)) (length cells)) (Missing (row (firstClear f 0 (length cells)))) (ok (length cells))))
+      (placed-all region cells zero (w .short) (cleared-free (length cells) field b h) firstNumber es (w .placed) (w .once))
       ∙ rw (eq-eqb (count full (length cells)) (length cells) n)
 
 -- ---- questions
@@ -174,15 +141,6 @@ module _ (q : ℕ) (ls : List (List ℕ)) where
       go true i = (a .0, i)
       go false i = i
 
-  chosen-once : (es : List Entry) → Once es → Once (chosenOf q ls es)
-  unfolding chosenOf
-  chosen-once [] o = tt
-  chosen-once (e ∷ es) o = go (chosen q ls (e .cell)) (chosen-once es (o .1))
-    where
-      go : (b : Bool) → Once (chosenOf q ls es) → Once (cond b (e ∷ chosenOf q ls es) (chosenOf q ls es))
-      go true i = (chosen-has (e .cell) es ∙ rw (o .0) (and-false (chosen q ls (e .cell))), i)
-      go false i = i
-
   chosen-covers : (es : List Entry) (cells : List Cell) → Covers es cells → All (λ c. someHas c (chosenOf q ls es) ≡ chosen q ls c) cells
   chosen-covers es [] h = tt
   chosen-covers es (c ∷ cells) h = (chosen-has c es ∙ rw (h .0) (and-true (chosen q ls c)), chosen-covers es cells (h .1))
@@ -212,13 +170,11 @@ module _ (q : ℕ) (ls : List (List ℕ)) where
 
   module _ (cells : List Cell) (es : List Entry) (region field : List ℕ) (w : HasColumn cells es region) (b : Bytes field) (h : size (length cells) ≤ length field) where
     pub column-answered : answered q ls (record { rows = length cells; entries = es; region = region }) (cleared (length cells) field)
-        ≡ ok (record { buffer = scan q ls cells .field ++ drop (size (length cells)) field; matched = scan q ls cells .matched })
-    unfolding answered andThen
+        ≡ record { buffer = scan q ls cells .field ++ drop (size (length cells)) field; matched = scan q ls cells .matched }
+    unfolding answered
     column-answered =
         let zero : List ℕ = cleared (length cells) field in
         let p : Cell → Bool = λ c. someHas c (chosenOf q ls es) in
         let e : rowsWhere p 0 cells ≡ rowsWhere (chosen q ls) 0 cells = rows-ext p (chosen q ls) 0 cells (chosen-covers es cells (w .covers)) in
-        ap (λ (o : Out Refusal (List ℕ)). andThen o (λ f. ok (record { buffer = f; matched = count f (length cells) })))
-        (placed-all region cells zero (w .short) (cleared-free (length cells) field b h) (chosenOf q ls es)
-        (chosen-placed region cells es (w .placed)) (chosen-once es (w .once)))
+        ap (counted (length cells)) (marked-all region cells zero (w .short) (bytes-zeroed (size (length cells)) field b) (chosenOf q ls es) (chosen-placed region cells es (w .placed)))
         ∙ rw (scanned cells, e, rows-counted (chosen q ls) cells field h, rows-marked (chosen q ls) cells field h)

@@ -1,33 +1,39 @@
 -- The claims of specs/Claims, proved in their order there.
 use Prim.Native.Nat.{ℕ, _+_, _<_, _≤_}
 use mathlib.Core.Path.{_≡_, sym, ap, _∙_}
+use mathlib.Core.Logic.{_↔_}
 use mathlib.Core.List.{List, _++_}
 use native.Mathlib.Decide.{decLt}
 use native.Mathlib.Omega.{arith}
 use borrow.Author.Tests.{le-leb, lt-leb}
 use lib.ListN.{length, replicate, length-replicate}
-use Rattle.numbers.specs.Meaning.{joined}
+use Rattle.numbers.specs.Meaning.{joined, Bytes}
 use Rattle.refusal.specs.Meaning.{limit}
+use Rattle.refusal.specs.declared.Refusal.{Refusal}
 use Rattle.refusal.specs.declared.Refusal.the-variants.{Room}
-use Rattle.row_field.specs.Meaning.{size}
+use Rattle.row_field.specs.Meaning.{size, cleared}
 use Rattle.row_field.proofs.Laws.{bytes-zeros}
+use Rattle.row_field.proofs.Counts.{length-zeroed, bit-zeroed}
 use Rattle.stored_value.specs.Meaning.{Cell}
-use Rattle.refusal.specs.Reading.{check, andThen}
+use Rattle.refusal.specs.Reading.{Out, refuse, ok, check, andThen}
 use Rattle.stored_value.proofs.Laws.{literals-back}
 use Rattle.dictionary.specs.Reading.{Dictionary}
 use Rattle.bitmap_index.specs.Meaning.{Column, Question}
 use Rattle.bitmap_index.specs.Layout.{ColumnBody, version1, version2}
-use Rattle.bitmap_index.specs.Reading.{roomFor, prepared, audit, ask}
-use Rattle.bitmap_index.specs.Claims.{ColumnIsAnswered, AcceptedIsAColumn, OneColumn, EachRowHasOnePlace, AcceptedIsAnswered, AnsweredAsTheScan, ShortOfRoom, RefusedForRoom, RefusedIsNoColumn, AcceptedAreTheColumns, UnknownVersionIsRefused, UnknownVersionYieldsNothing}
+use Rattle.bitmap_index.specs.Reading.{roomFor, prepared, audited, audit, Answer, answered, auditedAnswer, ask}
+use Rattle.bitmap_index.specs.Claims.{ColumnIsAnswered, AcceptedIsAColumn, OneColumn, EachRowHasOnePlace, AcceptedIsAnswered, AnsweredAsTheScan, ShortOfRoom, RefusedForRoom, RefusedIsNoColumn, AcceptedAreTheColumns, UnknownVersionIsRefused, UnknownVersionYieldsNothing, FaultIs, AuditNamesTheFault, AskNamesTheFault, OutsideIsContainer0, NothingBeforeBitmaps}
 use Rattle.bitmap_index.proofs.ScanAnswers.{HasColumn}
 use Rattle.bitmap_index.proofs.BodyAnswers.{answers-as-scan, all-patterns, region1, region2}
 use Rattle.dictionary.specs.Layout.{body1, body2}
 use Rattle.dictionary.proofs.LaidOut.{one-laid, two-laid}
-use Rattle.dictionary.proofs.Theorems.{one-has-each-once, two-has-each-once}
+use Rattle.dictionary.specs.Claims.{LaidOut, in-one, in-two}
+use Rattle.dictionary.proofs.Theorems.{read-is-laid-out, one-has-each-once, two-has-each-once, region-is-bytes}
 use Rattle.bitmap_index.proofs.SameColumn.{same-column}
 use Rattle.refusal.proofs.Laws.{not-ok, ok-same, then-ok, check-ok}
-use Rattle.bitmap_index.proofs.AcceptedStages.{audit-passed, asked-back, ask-parts}
-use Rattle.bitmap_index.proofs.Accepted.{holder, columnOf, length-table, passed-body, passed-once}
+use Rattle.bitmap_index.proofs.AcceptedStages.{prepared-back, audit-passed, asked-back, ask-parts}
+use Rattle.bitmap_index.proofs.Accepted.{holder, columnOf, length-table, passed-body, laid-patterns, passed-once}
+use Rattle.bitmap_index.proofs.CarriesNothing.{well-formed-bare, prepared-bare}
+use Rattle.bitmap_index.proofs.Faults.{refused-exactly, outside-broken}
 use Rattle.bitmap_index.proofs.Versions.{version-audited, version-audited-buffer, version-asked, version-asked-buffer}
 
 -- ---- demand 3, from a body to its answers
@@ -138,3 +144,40 @@ unknown-version-yields-nothing t q v s literal field n n′ =
       λ m e. not-ok (check-ok _ _ _ m (check-ok _ _ _ m (sym (w .audited) ∙ e) .1) .1),
       λ a e. not-ok (then-ok _ _ a (sym (w .answered) ∙ e) .2),
     )
+
+-- ---- which entry is broken
+
+region-short : (t : ℕ) (s : List ℕ) (d : Dictionary) → LaidOut t s d → length (d .region) ≤ length s
+region-short t s d (in-one rows nulls es region _ _ _ _ _ _ e c) = rw (e, c) (region1 rows nulls es region)
+region-short t s d (in-two rows nulls bs region _ _ _ _ _ _ _ _ e c) = rw (e, c) (region2 rows nulls bs region)
+
+-- a refusal that is followed by an answer is the audit's
+answered-refused : (o : Out Refusal ℕ) (a : Answer) (r : Refusal) → andThen o (λ rows. ok a) ≡ refuse r → o ≡ refuse r
+unfolding andThen
+answered-refused (refuse x) a r e = let i : x ≡ r = cc in rw i
+answered-refused (ok n) a r e = absurd (not-ok (sym e))
+
+audited-names-the-fault : (t : ℕ) (body field : List ℕ) (d : Dictionary) (r : Refusal) → Bytes body → prepared t body field ≡ ok d
+    → (audited d (cleared (d .rows) field) ≡ refuse r) ↔ FaultIs d r
+audited-names-the-fault t body field d r b e =
+    let (short, is, room) = prepared-back t body field d e in
+    let (known, laid) = read-is-laid-out t body d b short is in
+    refused-exactly d (cleared (d .rows) field) (rw (length-zeroed (size (d .rows)) field) room) (λ i l. bit-zeroed (size (d .rows)) field i (omega arith))
+    (region-is-bytes t body d b laid) (omega (arith, region-short t body d laid)) (laid-patterns t body d laid) r
+
+pub audit-names-the-fault : AuditNamesTheFault
+unfolding audit andThen
+audit-names-the-fault t body field d r b e = rw e (audited-names-the-fault t body field d r b e)
+
+pub ask-names-the-fault : AskNamesTheFault
+unfolding ask auditedAnswer andThen
+ask-names-the-fault t q literal body field ls d r b w e =
+    let (there, back) = audited-names-the-fault t body field d r b e in
+    let zero : List ℕ = cleared (d .rows) field in
+    rw (w, e) (λ x. there (answered-refused (audited d zero) (answered q ls d zero) r x), λ f. rw (back f))
+
+pub outside-is-container-0 : OutsideIsContainer0
+outside-is-container-0 region at long extent l says o = outside-broken region at long extent l says o
+
+pub nothing-before-bitmaps : NothingBeforeBitmaps
+nothing-before-bitmaps t q literal body field = (well-formed-bare t q literal body, prepared-bare t body field)

@@ -7,19 +7,24 @@ use mathlib.Core.Bool.{cond}
 use mathlib.Core.List.{List, [], _∷_, _++_}
 use lib.Dec.{eqb, ltb, leb}
 use lib.ListN.{length, drop}
-use Rattle.numbers.specs.Meaning.{Bytes, joined}
+use lib.IntN.{pos}
+use Rattle.numbers.specs.Meaning.{Bytes, joined, signed32, signBit, minusOne}
 use Rattle.refusal.specs.Meaning.{limit}
 use Rattle.refusal.specs.declared.Refusal.{Refusal}
-use Rattle.refusal.specs.declared.Refusal.the-variants.{Version, Room, Literal, Limit}
+use Rattle.refusal.specs.declared.Refusal.the-variants.{Short, Magic, Version, Head, Dict, Bitmap, Range, Twice, Missing, Room, Literal, Limit, Checksum, NoBin}
 use Rattle.refusal.specs.Reading.{refuse, ok, check, andThen}
-use Rattle.row_field.specs.Meaning.{size, cleared}
-use Rattle.stored_value.specs.Meaning.{types, Cell}
+use Rattle.refusal.specs.Claims.{CarriesNothing}
+use Rattle.row_field.specs.Meaning.{size, cleared, Below}
+use Rattle.roaring.specs.declared.Extent.{Extent}
+use Rattle.roaring.specs.declared.Extent.the-variants.{AsLong, Exactly}
+use Rattle.roaring.specs.Faults.{Broken}
+use Rattle.stored_value.specs.Meaning.{types, Cell, null, value}
 use Rattle.dictionary.specs.Layout.{Entry}
 use Rattle.dictionary.specs.Reading.{Dictionary, dictionary}
 use Rattle.dictionary.specs.Claims.{Once}
 use Rattle.bitmap_index.specs.Meaning.{Question, scan}
 use Rattle.bitmap_index.specs.Layout.{EntryRows, ColumnBody}
-use Rattle.bitmap_index.specs.Reading.{audit, auditBuffer, wellFormed, Answer, ask, askBuffer}
+use Rattle.bitmap_index.specs.Reading.{prepared, audit, auditBuffer, wellFormed, Answer, ask, askBuffer}
 
 -- ---- Demand 3, from a body to its answers. A reading that refuses everything does not have it
 
@@ -139,3 +144,124 @@ abbrev pub UnknownVersionYieldsNothing : Type 0
 UnknownVersionYieldsNothing =
     (t q v : ℕ) (s literal field : List ℕ) → (v ≡ 1 → ⊥) → (v ≡ 2 → ⊥)
     → ((n : ℕ) → audit t (v ∷ s) field ≡ ok n → ⊥) × ((a : Answer) → ask t q literal (v ∷ s) field ≡ ok a → ⊥)
+
+-- ---- 02, Ticket 2: which entry is broken. Said of the dictionary that was read, over the layout of entries and bitmaps
+
+-- a cell is a value's: 1, or null: 0; and how many of the entries are values'
+abbrev pub ofValue : Cell → ℕ
+ofValue null = 0
+ofValue (value v) = 1
+
+abbrev pub valuesIn : List Entry → ℕ
+valuesIn [] = 0
+valuesIn (e ∷ es) = ofValue (e .cell) + valuesIn es
+
+-- "the entry's number (0 for null, then 1 onward in stored order)", of a cell behind these entries
+abbrev pub numberBehind : List Entry → Cell → ℕ
+numberBehind earlier null = 0
+numberBehind earlier (value v) = valuesIn earlier + 1
+
+-- what an entry's length says: -1, as long as the bitmap is; any other, exactly so long
+pub data LengthSays : ℕ → Extent → Type 0 where
+  minus-one : LengthSays minusOne AsLong
+  other : (long : ℕ) → (long ≡ minusOne → ⊥) → LengthSays long (Exactly long)
+
+-- entries with nothing wrong, and the rows of each: all are below the row count, and none stands twice
+pub record Faultless (d : Dictionary) (each : List (List ℕ)) (es : List Entry) : Type 0 where
+  pub placed : RowsOfEach (d .region) each es
+  pub below : Below (d .rows) (joined each)
+  pub once : (r : ℕ) → times r (joined each) ≤ 1
+
+-- the entry e has this number; those before it have nothing wrong, and have the rows `each`
+pub record Reached (d : Dictionary) (number : ℕ) (e : Entry) (each : List (List ℕ)) : Type 0 where
+  pub earlier : List Entry
+  pub later : List Entry
+  pub stored : d .entries ≡ earlier ++ (e ∷ later)
+  pub numbered : number ≡ numberBehind earlier (e .cell)
+  pub sound : Faultless d each earlier
+
+-- the entry's bitmap is broken, in this container; a place behind the region has no bytes
+pub record BitmapBroken (d : Dictionary) (entry container : ℕ) : Type 0 where
+  pub e : Entry
+  pub earlier-rows : List (List ℕ)
+  pub reached : Reached d entry e earlier-rows
+  pub at : ℕ
+  pub place : signed32 (e .offset) ≡ pos at
+  pub extent : Extent
+  pub says : LengthSays (e .extent) extent
+  pub broken : Broken extent (drop at (d .region)) container
+
+-- the entry has a row at or above the row count
+pub record RowOutside (d : Dictionary) (entry : ℕ) : Type 0 where
+  pub e : Entry
+  pub earlier-rows : List (List ℕ)
+  pub reached : Reached d entry e earlier-rows
+  pub rows : List ℕ
+  pub has : EntryRows (d .region) rows e
+  pub row : ℕ
+  pub among : times row rows ≡ 1
+  pub outside : d .rows ≤ row
+
+-- the entry's rows are all below the row count, and one of them stands under an earlier entry
+pub record RowTwice (d : Dictionary) (entry : ℕ) : Type 0 where
+  pub e : Entry
+  pub earlier-rows : List (List ℕ)
+  pub reached : Reached d entry e earlier-rows
+  pub rows : List ℕ
+  pub has : EntryRows (d .region) rows e
+  pub below : Below (d .rows) rows
+  pub row : ℕ
+  pub among : times row rows ≡ 1
+  pub placed-before : times row (joined earlier-rows) ≡ 1
+
+-- nothing is wrong with any entry, but this row has no place; every lower one has
+pub record RowMissing (d : Dictionary) (row : ℕ) : Type 0 where
+  pub each : List (List ℕ)
+  pub sound : Faultless d each (d .entries)
+  pub within : row < d .rows
+  pub none : times row (joined each) ≡ 0
+  pub lower : (r : ℕ) → r < row → times r (joined each) ≡ 1
+
+-- the fault that a refusal behind ROOM says; no other refusal comes there
+abbrev pub FaultIs : Dictionary → Refusal → Type 0
+FaultIs d (Bitmap entry container) = BitmapBroken d entry container
+FaultIs d (Range entry) = RowOutside d entry
+FaultIs d (Twice entry) = RowTwice d entry
+FaultIs d (Missing row) = RowMissing d (row .0)
+FaultIs d Short = ⊥
+FaultIs d Magic = ⊥
+FaultIs d Version = ⊥
+FaultIs d Head = ⊥
+FaultIs d Dict = ⊥
+FaultIs d Room = ⊥
+FaultIs d Literal = ⊥
+FaultIs d Limit = ⊥
+FaultIs d Checksum = ⊥
+FaultIs d NoBin = ⊥
+
+-- behind ROOM Audit gives a refusal exactly where the fault that it says is there, and Ask of a well-formed question does too
+abbrev pub AuditNamesTheFault : Type 0
+AuditNamesTheFault =
+    (t : ℕ) (body field : List ℕ) (d : Dictionary) (r : Refusal) → Bytes body → prepared t body field ≡ ok d
+    → (audit t body field ≡ refuse r) ↔ FaultIs d r
+
+abbrev pub AskNamesTheFault : Type 0
+AskNamesTheFault =
+    (t q : ℕ) (literal body field : List ℕ) (ls : List (List ℕ)) (d : Dictionary) (r : Refusal) → Bytes body
+    → wellFormed t q literal body ≡ ok ls → prepared t body field ≡ ok d → (ask t q literal body field ≡ refuse r) ↔ FaultIs d r
+
+-- "A fault in place .. or a length below −1 or past the body, names container 0": the place is at or behind the region's end; the length is below -1, as 32 bits
+-- from the sign bit on; or the bitmap would end behind the region
+pub data OutsideRegion (region : List ℕ) (at long : ℕ) : Type 0 where
+  no-bytes : length region ≤ at → OutsideRegion region at long
+  below : signBit ≤ long → long < minusOne → OutsideRegion region at long
+  ends-behind : (long ≡ minusOne → ⊥) → length region < at + long → OutsideRegion region at long
+
+abbrev pub OutsideIsContainer0 : Type 0
+OutsideIsContainer0 =
+    (region : List ℕ) (at long : ℕ) (extent : Extent) → length region ≤ limit → LengthSays long extent → OutsideRegion region at long
+    → Broken extent (drop at region) 0
+
+-- what comes before a bitmap is looked at carries nothing: so a refusal that carries something is one of those above
+abbrev pub NothingBeforeBitmaps : Type 0
+NothingBeforeBitmaps = (t q : ℕ) (literal body field : List ℕ) → CarriesNothing (wellFormed t q literal body) × CarriesNothing (prepared t body field)

@@ -1,15 +1,14 @@
 -- What contracts say, in the reading's terms: of Audit and Ask, then of the functions that they are made of.
 use mathlib.Core.Path.{_≡_}
 use Prim.Native.Nat.{ℕ, _+_, _<_, _≤_}
-use mathlib.Core.List.{List, [], _∷_, _++_}
+use mathlib.Core.List.{List, _++_}
 use lib.IntN.{ℤ, pos, negsuc}
 use lib.ListN.{length, drop}
 use Rattle.numbers.specs.Meaning.{All, same, signed32}
 use Rattle.refusal.specs.declared.Refusal.{Refusal}
-use Rattle.refusal.specs.Reading.{Out, refuse, ok, numbersOf}
-use Rattle.row_field.specs.Meaning.{size, markAll, count, cleared}
-use Rattle.roaring.specs.Reading.{read}
-use Rattle.roaring.specs.Promises.{SoundBelow, rowsRead}
+use Rattle.refusal.specs.Reading.{Out, refuse, ok, numbersOf, faultIn}
+use Rattle.row_field.specs.Meaning.{size, count, cleared}
+use Rattle.roaring.specs.Promises.{SoundBelow}
 use Rattle.stored_value.specs.Meaning.{listed}
 use Rattle.stored_value.specs.Promises.{Entered}
 use Rattle.dictionary.specs.declared.Checked.{Checked}
@@ -25,19 +24,21 @@ use Rattle.bitmap_index.specs.declared.Outcome.{Outcome}
 use Rattle.bitmap_index.specs.declared.Outcome.the-variants.{Done}
 use Rattle.bitmap_index.specs.declared.Placing.{Placing}
 use Rattle.bitmap_index.specs.declared.Placing.the-variants.{Placed}
-use Rattle.bitmap_index.specs.Reading.{placeEntries, prepared, audited, audit, auditBuffer, chosenOf, Answer, answered, auditedAnswer, wellFormed, ask, answerBuffer, askBuffer, auditedBy, auditOut, auditNumbers, answeredBy, askOut, askNumbers}
+use Rattle.bitmap_index.specs.Reading.{firstNumber, placeEntries, prepared, audited, audit, auditBuffer, chosenOf, markEntries, Answer, answered, auditedAnswer, wellFormed, ask, answerBuffer, askBuffer, auditedBy, auditOut, auditNumbers, auditFault, answeredBy, askOut, askNumbers, askFault}
 
--- ---- Audit and Ask (01), for any bytes: the answer, what the lent buffer then holds, and the answer's number and count
+-- ---- Audit and Ask (01), for any bytes: the answer, what the lent buffer then holds, the answer's number and count, and where its fault is
 
 pub record AuditPromise (t : ℕ) (body before after : List ℕ) (r : Audited) : Type 0 where
   pub answer : r ≡ auditedBy (audit t body before)
   pub buffer : after ≡ auditBuffer t body before
   pub numbers : auditOut r ≡ numbersOf 0 auditNumbers (audit t body before)
+  pub fault : auditFault r ≡ faultIn (audit t body before)
 
 pub record AskPromise (t q : ℕ) (literal body before after : List ℕ) (r : Answered) : Type 0 where
   pub answer : r ≡ answeredBy (ask t q literal body before)
   pub buffer : after ≡ askBuffer t q literal body before
   pub numbers : askOut r ≡ numbersOf 0 askNumbers (ask t q literal body before)
+  pub fault : askFault r ≡ faultIn (ask t q literal body before)
 
 -- ---- what comes before a byte of the field is written
 
@@ -84,30 +85,18 @@ pub record Places (n : ℕ) (step : List ℕ → Out Refusal (List ℕ)) (before
   pub outcome : ComesTo n (step before) before after r
   pub behind : cleared n after ≡ cleared n before
 
--- entries of a body with this summary, placed in a field
-abbrev pub placeIn : List ℕ → Summary → List Entry → List ℕ → Out Refusal (List ℕ)
-placeIn body h es = placeEntries (h .rows) (drop (h .region .0) body) es
+-- entries of a body with this summary, placed in a field; `next` is the number of the next value's entry
+abbrev pub placeIn : ℕ → List ℕ → Summary → List Entry → List ℕ → Out Refusal (List ℕ)
+placeIn next body h es = placeEntries next (h .rows) (drop (h .region .0) body) es
 
 -- the rows of null's entry, if there is one, and of the values' entries
 abbrev pub PlacesNull : List ℕ → Summary → List ℕ → List ℕ → Placing → Type 0
-PlacesNull body h before after r = Places (h .rows) (placeIn body h (nullsOf h)) before after r
+PlacesNull body h before after r = Places (h .rows) (placeIn firstNumber body h (nullsOf h)) before after r
 
 abbrev pub PlacesValues : ℕ → List ℕ → Summary → List ℕ → List ℕ → Placing → Type 0
-PlacesValues t body h before after r = ForEntries t body h (λ es. Places (h .rows) (placeIn body h es) before after r)
+PlacesValues t body h before after r = ForEntries t body h (λ es. Places (h .rows) (placeIn firstNumber body h es) before after r)
 
 -- ---- marking the rows of chosen entries, once an audit has placed every entry's
-
--- the rows at an entry's place: the single row of a negative offset, or those of the bitmap there
-unfoldable pub rowsFor : ℤ → List ℕ → List ℕ
-rowsFor (negsuc r) region = r ∷ []
-rowsFor (pos o) region = rowsRead (read (drop o region))
-
-unfoldable pub rowsAt : List ℕ → Entry → List ℕ
-rowsAt region e = rowsFor (signed32 (e .offset)) region
-
-unfoldable pub markEntries : List ℕ → List Entry → List ℕ → List ℕ
-markEntries region [] field = field
-markEntries region (e ∷ es) field = markEntries region es (markAll field (rowsAt region e))
 
 -- where an offset is not negative, a bitmap stands at its place, with all its rows below n
 abbrev pub SoundAt : ℕ → List ℕ → ℤ → Type 0
@@ -176,7 +165,7 @@ pub record AuditAccepts (t : ℕ) (body : List ℕ) (h : Summary) (zero : List �
 
 -- an answer in a field that is zero, and one in any field, which is audited first: with a refusal the field is zero
 abbrev pub AnswersZero : ℕ → ℕ → List ℕ → List ℕ → Dictionary → List ℕ → List ℕ → Answered → Type 0
-AnswersZero t q literal body d zero after r = ForQuestion t q literal body (λ ls. Answers (answered q ls d zero) (cleared (d .rows) zero) after r)
+AnswersZero t q literal body d zero after r = ForQuestion t q literal body (λ ls. Answers (ok (answered q ls d zero)) (cleared (d .rows) zero) after r)
 
 abbrev pub AnswersField : ℕ → ℕ → List ℕ → List ℕ → Dictionary → List ℕ → List ℕ → Answered → Type 0
 AnswersField t q literal body d before after r =

@@ -1,20 +1,20 @@
 -- What Audit and Ask answer for any bytes (01, "Bitmap body" and "Questions"): their stages in 01's order, each begun only where the one before passed.
-use Prim.Native.Nat.{ℕ}
+use Prim.Native.Nat.{ℕ, _+_}
 use mathlib.Core.Bool.{not, _&&_, cond}
 use mathlib.Core.List.{List, [], _∷_}
 use lib.Dec.{eqb, ltb, leb}
 use lib.IntN.{ℤ, pos, negsuc}
 use lib.ListN.{length, drop}
-use Rattle.numbers.specs.Meaning.{signed32, minusOne}
+use Rattle.numbers.specs.Meaning.{signed32, minusOne, row}
 use Rattle.refusal.specs.declared.Refusal.{Refusal}
-use Rattle.refusal.specs.Meaning.{limit, numberOf}
+use Rattle.refusal.specs.Meaning.{limit, numberOf, noFault, faultOf}
 use Rattle.refusal.specs.declared.Refusal.the-variants.{Bitmap, Range, Twice, Missing, Room, Literal, Limit}
-use Rattle.row_field.specs.Meaning.{size, bit, mark, markAll, anySet, count, cleared}
+use Rattle.row_field.specs.Meaning.{size, bit, mark, markAll, anySet, count, firstClear, cleared}
 use Rattle.roaring.specs.declared.Extent.{Extent}
 use Rattle.roaring.specs.declared.Extent.the-variants.{AsLong, Exactly}
-use Rattle.roaring.specs.Reading.{measured, endOf}
+use Rattle.roaring.specs.Reading.{containerOf, read, measured, endOf, rowsRead}
 use Rattle.refusal.specs.Reading.{Out, refuse, ok, check, andThen, refusedAs}
-use Rattle.stored_value.specs.Meaning.{types, mostLiterals}
+use Rattle.stored_value.specs.Meaning.{types, mostLiterals, Cell, null, value}
 use Rattle.stored_value.specs.Reading.{literals}
 use Rattle.dictionary.specs.Layout.{Entry}
 use Rattle.dictionary.specs.Reading.{Dictionary, dictionary}
@@ -31,24 +31,41 @@ use Rattle.bitmap_index.specs.Meaning.{questions, chosen, takes, keeps}
 unfoldable pub extentOf : ℕ → Extent
 extentOf extent = cond (eqb extent minusOne) AsLong (Exactly extent)
 
--- a bitmap's rows placed in a field of n rows: "BITMAP, else RANGE, else TWICE"
-unfoldable pub placeBitmap : Extent → ℕ → List ℕ → List ℕ → Out Refusal (List ℕ)
-placeBitmap extent n bytes field =
-    andThen (refusedAs (λ container. Bitmap) (measured extent bytes)) (λ bitmap. check (leb (endOf (bitmap .rows)) n) Range
-    (check (not (anySet field (bitmap .rows))) Twice (ok (markAll field (bitmap .rows)))))
+-- 02, Ticket 2: "the entry's number (0 for null, then 1 onward in stored order)". Values are numbered from 1 also where null has no entry; `next` is the number of
+-- the next value's entry
+abbrev pub nullNumber : ℕ
+nullNumber = 0
+
+unfoldable pub entryNumber : ℕ → Cell → ℕ
+entryNumber next null = nullNumber
+entryNumber next (value v) = next
+
+-- the same behind an entry
+unfoldable pub nextNumber : ℕ → Cell → ℕ
+nextNumber next null = next
+nextNumber next (value v) = next + 1
+
+abbrev pub firstNumber : ℕ
+firstNumber = 1
+
+-- the rows of an entry's bitmap placed in a field of n rows: "BITMAP, else RANGE, else TWICE", each with the entry's number, BITMAP with the container too
+unfoldable pub placeBitmap : ℕ → Extent → ℕ → List ℕ → List ℕ → Out Refusal (List ℕ)
+placeBitmap entry extent n bytes field =
+    andThen (refusedAs (λ why. Bitmap entry (containerOf why)) (measured extent bytes)) (λ bitmap. check (leb (endOf (bitmap .rows)) n) (Range entry)
+    (check (not (anySet field (bitmap .rows))) (Twice entry) (ok (markAll field (bitmap .rows)))))
 
 -- "a negative offset means the single row −1 − offset, and the length isn't looked at .. Otherwise the bitmap starts at the body plus the offset"
-unfoldable pub placeAt : ℤ → ℕ → ℕ → List ℕ → List ℕ → Out Refusal (List ℕ)
-placeAt (negsuc r) extent n region field = check (ltb r n) Range (check (not (bit field r)) Twice (ok (mark field r)))
-placeAt (pos o) extent n region field = placeBitmap (extentOf extent) n (drop o region) field
+unfoldable pub placeAt : ℕ → ℤ → ℕ → ℕ → List ℕ → List ℕ → Out Refusal (List ℕ)
+placeAt entry (negsuc r) extent n region field = check (ltb r n) (Range entry) (check (not (bit field r)) (Twice entry) (ok (mark field r)))
+placeAt entry (pos o) extent n region field = placeBitmap entry (extentOf extent) n (drop o region) field
 
-unfoldable pub placeEntry : ℕ → List ℕ → List ℕ → Entry → Out Refusal (List ℕ)
-placeEntry n region field e = placeAt (signed32 (e .offset)) (e .extent) n region field
+unfoldable pub placeEntry : ℕ → ℕ → List ℕ → List ℕ → Entry → Out Refusal (List ℕ)
+placeEntry next n region field e = placeAt (entryNumber next (e .cell)) (signed32 (e .offset)) (e .extent) n region field
 
 -- "null's and each entry's bitmap in stored order"
-unfoldable pub placeEntries : ℕ → List ℕ → List Entry → List ℕ → Out Refusal (List ℕ)
-placeEntries n region [] field = ok field
-placeEntries n region (e ∷ es) field = andThen (placeEntry n region field e) (placeEntries n region es)
+unfoldable pub placeEntries : ℕ → ℕ → List ℕ → List Entry → List ℕ → Out Refusal (List ℕ)
+placeEntries next n region [] field = ok field
+placeEntries next n region (e ∷ es) field = andThen (placeEntry next n region field e) (placeEntries (nextNumber next (e .cell)) n region es)
 
 -- ---- Audit: the limit, the type, the dictionary, ROOM; then every bitmap in a zero field, then MISSING
 
@@ -60,10 +77,11 @@ roomFor field d = check (leb (size (d .rows)) (length field)) Room (ok d)
 unfoldable pub prepared : ℕ → List ℕ → List ℕ → Out Refusal Dictionary
 prepared t body field = check (leb (length body) limit) Limit (andThen (dictionary t body) (roomFor field))
 
--- in a field that is zero: every row has its place, and else "a row never placed"
+-- in a field that is zero: every row has its place, and else "a row never placed", the lowest of them
 unfoldable pub audited : Dictionary → List ℕ → Out Refusal ℕ
 audited d zero =
-    andThen (placeEntries (d .rows) (d .region) (d .entries) zero) (λ full. check (eqb (count full (d .rows)) (d .rows)) Missing (ok (d .rows)))
+    andThen (placeEntries firstNumber (d .rows) (d .region) (d .entries) zero) (λ full.
+    check (eqb (count full (d .rows)) (d .rows)) (Missing (row (firstClear full 0 (d .rows)))) (ok (d .rows)))
 
 unfoldable pub audit : ℕ → List ℕ → List ℕ → Out Refusal ℕ
 audit t body field = andThen (prepared t body field) (λ d. audited d (cleared (d .rows) field))
@@ -83,19 +101,36 @@ unfoldable pub chosenOf : ℕ → List (List ℕ) → List Entry → List Entry
 chosenOf q ls [] = []
 chosenOf q ls (e ∷ es) = cond (chosen q ls (e .cell)) (e ∷ chosenOf q ls es) (chosenOf q ls es)
 
+-- the rows at an entry's place, which the audit has placed before: the single row of a negative offset, or those of the bitmap there
+unfoldable pub rowsFor : ℤ → List ℕ → List ℕ
+rowsFor (negsuc r) region = r ∷ []
+rowsFor (pos o) region = rowsRead (read (drop o region))
+
+-- those of an entry
+unfoldable pub rowsAt : List ℕ → Entry → List ℕ
+rowsAt region e = rowsFor (signed32 (e .offset)) region
+
+-- the rows of entries, marked one entry after the other
+unfoldable pub markEntries : List ℕ → List Entry → List ℕ → List ℕ
+markEntries region [] field = field
+markEntries region (e ∷ es) field = markEntries region es (markAll field (rowsAt region e))
+
 -- what an accepted question leaves in the buffer, and how many rows it chose
 pub record Answer : Type 0 where
   pub buffer : List ℕ
   pub matched : ℕ
 
--- in a field that is zero: the chosen entries' rows, and the count of ones in the field
-unfoldable pub answered : ℕ → List (List ℕ) → Dictionary → List ℕ → Out Refusal Answer
-answered q ls d zero =
-    andThen (placeEntries (d .rows) (d .region) (chosenOf q ls (d .entries)) zero) (λ field. ok (record { buffer = field; matched = count field (d .rows) }))
+-- "Counts are counts of ones in the field", here of n rows
+abbrev pub counted : ℕ → List ℕ → Answer
+counted n field = record { buffer = field; matched = count field n }
+
+-- in a field that is zero: the chosen entries' rows are marked. An audit comes before, so that BITMAP, RANGE and TWICE aren't tested again
+unfoldable pub answered : ℕ → List (List ℕ) → Dictionary → List ℕ → Answer
+answered q ls d zero = counted (d .rows) (markEntries (d .region) (chosenOf q ls (d .entries)) zero)
 
 -- "audits the whole body, then answers"
 unfoldable pub auditedAnswer : ℕ → List (List ℕ) → Dictionary → List ℕ → Out Refusal Answer
-auditedAnswer q ls d zero = andThen (audited d zero) (λ rows. answered q ls d zero)
+auditedAnswer q ls d zero = andThen (audited d zero) (λ rows. ok (answered q ls d zero))
 
 -- "A well-formed question has a known type and name and literals that fit, in form and number": the limits on both buffers, the type and the question, then
 -- the literals in turn, then their number
@@ -132,6 +167,11 @@ auditOut (Rows n) = (0, n)
 abbrev pub auditNumbers : ℕ → ℕ × ℕ
 auditNumbers n = (0, n)
 
+-- where the answer's fault is, in three numbers: refusal's `faultIn` of the reading
+unfoldable pub auditFault : Audited → List ℕ
+auditFault (Audited.Refused r) = faultOf r
+auditFault (Rows n) = noFault
+
 -- Ask: a refusal, or skip where no row is chosen, else keep and how many are; skip and keep have the number 0, and a count of 0 is skip
 unfoldable pub answeredBy : Out Refusal Answer → Answered
 answeredBy (refuse r) = Answered.Refused r
@@ -144,3 +184,8 @@ askOut (Keep n) = (0, n)
 
 abbrev pub askNumbers : Answer → ℕ × ℕ
 askNumbers a = (0, a .matched)
+
+unfoldable pub askFault : Answered → List ℕ
+askFault (Answered.Refused r) = faultOf r
+askFault Skip = noFault
+askFault (Keep n) = noFault

@@ -8,10 +8,10 @@ ghost use Rattle.row_field.specs.Meaning.{size, count, markAll};
 ghost use Rattle.stored_value.specs.Meaning.{null, value};
 ghost use Rattle.dictionary.specs.Promises.{nullsOf, entryAt};
 ghost use Rattle.bitmap_index.specs.Meaning as meaning;
-ghost use Rattle.bitmap_index.specs.Reading.{extentOf, placeAt};
+ghost use Rattle.bitmap_index.specs.Reading.{extentOf, placeAt, rowsFor};
 ghost use Rattle.bitmap_index.specs.Promises.{AuditPromise, AskPromise, ForEntries, ForDictionary, Prepares, Ready, Asked, TestsQuestion};
 ghost use Rattle.bitmap_index.specs.Promises.{Places, PlacesNull, PlacesValues, AuditsZero, AuditsField};
-ghost use Rattle.bitmap_index.specs.Promises.{rowsFor, SoundAt, SoundEntryAt, SoundNull, AllSound, SomeLookup, ForLookup, MarksChosen, MarksAsked};
+ghost use Rattle.bitmap_index.specs.Promises.{SoundAt, SoundEntryAt, SoundNull, AllSound, SomeLookup, ForLookup, MarksChosen, MarksAsked};
 ghost use Rattle.bitmap_index.specs.Promises.{AuditAccepts, AnswersZero, AnswersField};
 use dictionary::Checked;
 use dictionary::EntryAt;
@@ -29,6 +29,11 @@ const QUESTIONS: u32 = 6;
 // The numbers of a hash table with room for as many literals as there may be.
 const TABLE: usize = hash_table::CHAINS
     + hash_table::NUMBERS * stored_value::MOST_LITERALS as usize;
+
+// The number of null's entry, and that of the first value's (document 02, Ticket 2).
+const NULL_NUMBER: u64 = 0;
+
+const FIRST_NUMBER: u64 = 1;
 
 // What Audit answers: a refusal, or the row count.
 pub enum Audited {
@@ -55,17 +60,17 @@ enum Placing {
     Placed(u64),
 }
 
-// Places a single row in a field for `rows` rows: RANGE, TWICE.
-fn place_row(field: &mut [u8], row: Row, rows: u64) -> Placing
+// Places the single row of an entry in a field for `rows` rows: RANGE, TWICE.
+fn place_row(field: &mut [u8], row: Row, rows: u64, entry: u64) -> Placing
     requires { ⌜ size rows ≤ length (now field) ⌝ }
-    ensures { λ r. ⌜ Places rows (placeAt (negsuc (row .0)) 0 rows []) (now (field .entry)) (now (field .exit)) r ⌝ }
+    ensures { λ r. ⌜ Places rows (placeAt entry (negsuc (row .0)) 0 rows []) (now (field .entry)) (now (field .exit)) r ⌝ }
 {
     let number = row.0;
     if rows <= number {
-        return Placing::Refused(Refusal::Range);
+        return Placing::Refused(Refusal::Range { entry });
     }
     if row_field::mark(field, row) {
-        return Placing::Refused(Refusal::Twice);
+        return Placing::Refused(Refusal::Twice { entry });
     }
     Placing::Placed(1)
 }
@@ -80,28 +85,39 @@ fn extent_of(extent: u64) -> Extent
     Extent::Exactly(extent as usize)
 }
 
-// Places the rows of the bitmap at a position of the region of bitmaps: BITMAP, RANGE, TWICE. The field is not touched before the bitmap is measured.
-fn place_bitmap(field: &mut [u8], region: &[u8], at: Position, extent: u64, rows: u64) -> Placing
+// Places the rows of an entry's bitmap, at a position of the region of bitmaps: BITMAP, RANGE, TWICE. The field is not touched before the bitmap is measured.
+// A place behind the region is the fault of container 0.
+fn place_bitmap(
+    field: &mut [u8],
+    region: &[u8],
+    at: Position,
+    extent: u64,
+    rows: u64,
+    entry: u64,
+) -> Placing
     requires { ⌜ size rows ≤ length (now field) ⌝ }
-    ensures { λ r. ⌜ Places rows (placeAt (pos (at .0)) extent rows (now (region .entry))) (now (field .entry)) (now (field .exit)) r ⌝ }
+    ensures { λ r. ⌜ Places rows (placeAt entry (pos (at .0)) extent rows (now (region .entry))) (now (field .entry)) (now (field .exit)) r ⌝ }
 {
     let offset = at.0;
     if region.len() < offset {
-        return Placing::Refused(Refusal::Bitmap);
+        return Placing::Refused(Refusal::Bitmap {
+            entry,
+            container: 0,
+        });
     }
     let measured = roaring::measure(&region[offset..], extent_of(extent));
     match measured {
-        Measured::Unsound(_) => Placing::Refused(Refusal::Bitmap),
+        Measured::Unsound(container) => Placing::Refused(Refusal::Bitmap { entry, container }),
         Measured::Sound {
             length: _,
             rows: many,
             end,
         } => {
             if rows < end {
-                return Placing::Refused(Refusal::Range);
+                return Placing::Refused(Refusal::Range { entry });
             }
             if roaring_mark::mark(field, &region[offset..], rows) {
-                return Placing::Refused(Refusal::Twice);
+                return Placing::Refused(Refusal::Twice { entry });
             }
             Placing::Placed(many)
         }
@@ -109,14 +125,28 @@ fn place_bitmap(field: &mut [u8], region: &[u8], at: Position, extent: u64, rows
 }
 
 // Places an entry's rows. A negative offset stands for the single row -1 - offset, and its extent isn't looked at.
-fn place_at(field: &mut [u8], region: &[u8], offset: i32, extent: u64, rows: u64) -> Placing
+fn place_at(
+    field: &mut [u8],
+    region: &[u8],
+    offset: i32,
+    extent: u64,
+    rows: u64,
+    entry: u64,
+) -> Placing
     requires { ⌜ size rows ≤ length (now field) ⌝ }
-    ensures { λ r. ⌜ Places rows (placeAt offset extent rows (now (region .entry))) (now (field .entry)) (now (field .exit)) r ⌝ }
+    ensures { λ r. ⌜ Places rows (placeAt entry offset extent rows (now (region .entry))) (now (field .entry)) (now (field .exit)) r ⌝ }
 {
     if offset < 0 {
-        return place_row(field, Row((-1 - offset) as u64), rows);
+        return place_row(field, Row((-1 - offset) as u64), rows, entry);
     }
-    place_bitmap(field, region, Position(offset as usize), extent, rows)
+    place_bitmap(
+        field,
+        region,
+        Position(offset as usize),
+        extent,
+        rows,
+        entry,
+    )
 }
 
 // Places null's rows, if it has an entry.
@@ -134,10 +164,11 @@ fn place_null(field: &mut [u8], body: &[u8], summary: Summary) -> Placing
         summary.null_offset,
         summary.null_extent,
         summary.rows,
+        NULL_NUMBER,
     )
 }
 
-// Places the rows of the values' entries, in their order, and adds up how many they are.
+// Places the rows of the values' entries, in their order, and adds up how many they are. They are numbered from 1, with and without a null.
 fn place_values(field: &mut [u8], body: &[u8], summary: Summary, t: u32) -> Placing
     requires { ⌜ Ready t (now body) summary (now field) ⌝ }
     ensures { λ r. ⌜ PlacesValues t (now (body .entry)) summary (now (field .entry)) (now (field .exit)) r ⌝ }
@@ -154,6 +185,7 @@ fn place_values(field: &mut [u8], body: &[u8], summary: Summary, t: u32) -> Plac
             entry.offset,
             entry.extent,
             summary.rows,
+            i + FIRST_NUMBER,
         );
         match placing {
             Placing::Refused(r) => return Placing::Refused(r),
@@ -182,7 +214,9 @@ fn audit_zero(field: &mut [u8], body: &[u8], summary: Summary, t: u32) -> Audite
                 Placing::Refused(r) => Audited::Refused(r),
                 Placing::Placed(m) => {
                     if m != summary.rows - n {
-                        return Audited::Refused(Refusal::Missing);
+                        return Audited::Refused(Refusal::Missing {
+                            row: row_field::first_clear(field, summary.rows),
+                        });
                     }
                     Audited::Rows(summary.rows)
                 }

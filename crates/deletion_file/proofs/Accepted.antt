@@ -17,13 +17,13 @@ use Rattle.crc32.specs.Meaning.{checksum}
 use Rattle.row_field.specs.Meaning.{size, markAll, cleared, Below}
 use Rattle.roaring.specs.declared.Extent.the-variants.{Exactly}
 use Rattle.roaring.specs.Layout.{Bitmap}
-use Rattle.roaring.specs.Reading.{measured, endOf}
+use Rattle.roaring.specs.Reading.{containerOf, measured, endOf}
 use Rattle.roaring.proofs.Measuring.{measured-back, end-below}
 use Rattle.roaring.proofs.RowsRising.{bitmap-rising}
 use Rattle.deletion_file.specs.declared.Deletions.the-variants.{Deleted}
-use Rattle.deletion_file.specs.Layout.{Bin, binBytes, binOf, frames, Framed}
+use Rattle.deletion_file.specs.Layout.{Bin, binBytes, binOf, frames, Framed, HoldsBytes, holds-bytes}
 use Rattle.refusal.specs.Reading.{Out, refuse, ok, andThen, refusedAs}
-use Rattle.deletion_file.specs.Reading.{bins, binNumbered, binIn, afterMagic, bitmapIn, markBitmap, deletionsReady, deletionsBy}
+use Rattle.deletion_file.specs.Reading.{bins, binNumbered, binIn, afterMagic, bitmapIn, binEntry, markBitmap, deletionsReady, deletionsBy}
 use Rattle.refusal.proofs.Laws.{not-ok, ok-same, check-ok, then-ok, refused-as-ok}
 use Rattle.deletion_file.proofs.BinSteps.{magic-back}
 use Rattle.deletion_file.proofs.Frames.{Between, between-first, between-next, nothing, walk-passed}
@@ -104,6 +104,11 @@ bitmap-cut file b bitmap t e =
     let p = walk-passed (length file) (drop 1 file) (v .0) (bytes-drop 1 file t) (v .1) in
     file-cut file b bitmap (v .0) (w .0) (bin-between b (v .0) (v .2)) t (first-byte file (leb-true _ _ (c .0)) (eqb-true _ _ (d .0))) (p .0) (p .1) (w .2)
 
+pub cut-held : {file : List ℕ} {b : ℕ} {bytes : List ℕ} → FileCut file b bytes → HoldsBytes b bytes file
+cut-held {bytes = bytes} c =
+    let p = c .between in
+    rw (← p .number, c .cut, p .cut) (holds-bytes (p .earlier) (p .later) bytes (rw (p .cut) at (c .framed)))
+
 -- ---- the bitmap
 
 pub record RowsMarked (n : ℕ) (field bytes after : List ℕ) : Type 0 where
@@ -113,7 +118,7 @@ pub record RowsMarked (n : ℕ) (field bytes after : List ℕ) : Type 0 where
   pub field-is : after ≡ markAll field rows
 
 -- a bitmap that is as long as the bytes is all of them
-whole-bitmap : (rows s x t : List ℕ) → s ≡ x ++ t → length s ≡ length x → Bitmap rows x → Bitmap rows s
+pub whole-bitmap : (rows s x t : List ℕ) → s ≡ x ++ t → length s ≡ length x → Bitmap rows x → Bitmap rows s
 whole-bitmap rows s x t e l m =
     let z : t ≡ [] = nothing t (omega (arith, simp length-append at (ap length e))) in
     rw (e, z, append-nil) m
@@ -121,10 +126,10 @@ whole-bitmap rows s x t e l m =
 pub bitmap-rows : (n : ℕ) (field bytes after : List ℕ) → Bytes bytes → markBitmap bytes n field ≡ ok after → RowsMarked n field bytes after
 unfolding markBitmap
 bitmap-rows n field bytes after b m =
-    let w = then-ok (refusedAs (λ _. Refusal.Bitmap) (measured (Exactly (length bytes)) bytes)) _ _ m in
+    let w = then-ok (refusedAs (λ fault. Refusal.Bitmap binEntry (containerOf fault)) (measured (Exactly (length bytes)) bytes)) _ _ m in
     let p = w .0 in
     let q = measured-back (Exactly (length bytes)) bytes p b (refused-as-ok _ _ _ (w .1)) in
-    let c = check-ok (leb (endOf (p .rows)) n) Range _ _ (w .2) in
+    let c = check-ok (leb (endOf (p .rows)) n) (Range binEntry) _ _ (w .2) in
     record {
       rows = p .rows;
       is-bitmap = whole-bitmap (p .rows) bytes (q .0) (q .1) (q .3) (q .4) (q .2);

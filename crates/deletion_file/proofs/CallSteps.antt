@@ -13,26 +13,26 @@ use Rattle.row_field.specs.Meaning.{count}
 use Rattle.row_field.specs.Promises.{MarkedRows}
 use Rattle.roaring.specs.declared.Extent.the-variants.{Exactly}
 use Rattle.roaring.specs.declared.Measured.{Measured}
-use Rattle.roaring.specs.Reading.{read, measured, endOf}
-use Rattle.roaring.specs.Promises.{MeasurePromise, SoundBelow, rowsRead}
+use Rattle.roaring.specs.Reading.{read, measured, endOf, rowsRead}
+use Rattle.roaring.specs.Promises.{MeasurePromise, SoundBelow}
 use Rattle.roaring.proofs.Measuring.{not-sound, is-sound, rows-measured, measured-sound}
 use Rattle.deletion_file.specs.declared.Deletions.the-variants.{Deleted}
 use Rattle.deletion_file.specs.declared.Deletions.{Deletions}
-use Rattle.refusal.specs.Reading.{Out, refuse, ok, check, andThen, refusedAs, numbersOf}
-use Rattle.deletion_file.specs.Reading.{bitmapIn, markBitmap, markBin, deletionsReady, deletions, leftBy, deletionsBuffer, deletionsBy, deletionsOut, deletionsNumbers}
+use Rattle.refusal.specs.Reading.{Out, refuse, ok, check, andThen, refusedAs, numbersOf, faultIn}
+use Rattle.deletion_file.specs.Reading.{bitmapIn, binEntry, markBitmap, markBin, deletionsReady, deletions, leftBy, deletionsBuffer, deletionsBy, deletionsOut, deletionsFault, deletionsNumbers}
 use Rattle.deletion_file.specs.Promises.{MarksRows, ClearsIfRoom, DeletionsPromise}
 
 -- ---- measured, compared, marked
 
 module _ (n : ℕ) (field bytes : List ℕ) {m : Measured} (p : MeasurePromise (Exactly (length bytes)) bytes m) where
-  pub unsound-so : {i : ℕ} → m ≡ Measured.Unsound i → MarksRows n (markBitmap bytes n) field field (Deletions.Refused Bitmap)
+  pub unsound-so : {i : ℕ} → m ≡ Measured.Unsound i → MarksRows n (markBitmap bytes n) field field (Deletions.Refused (Bitmap binEntry i))
   unfolding markBitmap andThen refusedAs deletionsBy leftBy
   unsound-so e =
       let u = not-sound (measured (Exactly (length bytes)) bytes) (sym e ∙ p .answer) in
       record { answer = rw u; field = rw u }
 
   module _ {long rows end : ℕ} (e : m ≡ Measured.Sound long rows end) where
-    pub beyond-so : n < end → MarksRows n (markBitmap bytes n) field field (Deletions.Refused Range)
+    pub beyond-so : n < end → MarksRows n (markBitmap bytes n) field field (Deletions.Refused (Range binEntry))
     unfolding markBitmap andThen refusedAs check deletionsBy leftBy
     beyond-so h =
         let q = is-sound (measured (Exactly (length bytes)) bytes) (sym e ∙ p .answer) in
@@ -71,11 +71,22 @@ module _ (file : List ℕ) (b n : ℕ) (field : List ℕ) where
   numbers-so (refuse r) = refl
   numbers-so (ok marked) = refl
 
+  fault-so : (o : Out Refusal (List ℕ)) → deletionsFault (deletionsBy n o) ≡ faultIn o
+  unfolding deletionsBy deletionsFault faultIn
+  fault-so (refuse r) = refl
+  fault-so (ok marked) = refl
+
   -- what the call comes to by the two readings
   said : {answer : Deletions} {after : List ℕ} (o ready : Out Refusal (List ℕ)) → deletionsReady file n field ≡ ready → deletions file b n field ≡ o
       → answer ≡ deletionsBy n o → after ≡ leftBy o (leftBy ready field) → DeletionsPromise file b n field after answer
   unfolding deletionsBuffer
-  said o ready i e a f = record { answer = rw e a; numbers = rw e (ap deletionsOut a ∙ numbers-so o); buffer = rw (e, i) f }
+  said o ready i e a f =
+      record {
+        answer = rw e a;
+        numbers = rw e (ap deletionsOut a ∙ numbers-so o);
+        fault = rw e (ap deletionsFault a ∙ fault-so o);
+        buffer = rw (e, i) f;
+      }
 
   refused : {r : Refusal} → deletionsReady file n field ≡ refuse r → DeletionsPromise file b n field field (Deletions.Refused r)
   unfolding deletions andThen deletionsBy leftBy

@@ -15,7 +15,7 @@ use Rattle.roaring.specs.declared.Extent.the-variants.{Exactly}
 use Rattle.roaring.specs.Reading.{measured, endOf}
 use Rattle.roaring.proofs.Measuring.{measured-laid, below-end}
 use Rattle.roaring.proofs.BitmapBytes.{bytes-bitmap}
-use Rattle.deletion_file.specs.Layout.{Bin, magic, binBytes, binOf, frames, Bins, none, more, DeletionFile, version-1, Framed, HasBin, has-bin}
+use Rattle.deletion_file.specs.Layout.{Bin, magic, binBytes, binOf, frames, Bins, none, more, DeletionFile, version-1, Framed, HoldsBytes, holds-bytes, HasBin, has-bin}
 use Rattle.refusal.specs.Reading.{ok, check, andThen, refusedAs}
 use Rattle.deletion_file.specs.Reading.{binNumbered, binIn, hasMagic, checksumHolds, afterMagic, bitmapIn, markBitmap}
 use Rattle.deletion_file.proofs.Frames.{Between, between-first, between-next, file-has-bin, walk-passes}
@@ -59,16 +59,17 @@ pub record LaidBitmap (b : ℕ) (rows file : List ℕ) : Type 0 where
   pub is-bitmap : Bitmap rows bitmap
   pub is-read : bitmapIn b file ≡ ok bitmap
 
-pub bitmap-laid : {b : ℕ} {rows file : List ℕ} → HasBin b rows file → LaidBitmap b rows file
+-- bytes behind a magic are found, whatever they are
+pub bytes-laid : {b : ℕ} {bytes file : List ℕ} → HoldsBytes b bytes file → bitmapIn b file ≡ ok bytes
 unfolding bitmapIn binIn check andThen
-bitmap-laid (has-bin earlier later {bitmap = bitmap} m f) =
-    let xs : List Bin = earlier ++ (binOf bitmap ∷ later) in
+bytes-laid (holds-bytes earlier later bytes f) =
+    let xs : List Bin = earlier ++ (binOf bytes ∷ later) in
     let w = walk-passes xs (length (1 ∷ frames xs)) f (omega arith) in
-    record {
-      bitmap = bitmap;
-      is-bitmap = m;
-      is-read = rw (le-leb 1 (length (1 ∷ frames xs)) (omega arith), w, bin-there earlier (binOf bitmap) later) (magic-laid bitmap);
-    }
+    rw (le-leb 1 (length (1 ∷ frames xs)) (omega arith), w, bin-there earlier (binOf bytes) later) (magic-laid bytes)
+
+pub bitmap-laid : {b : ℕ} {rows file : List ℕ} → HasBin b rows file → LaidBitmap b rows file
+bitmap-laid (has-bin earlier later {bitmap = bitmap} m f) =
+    record { bitmap = bitmap; is-bitmap = m; is-read = bytes-laid (holds-bytes earlier later bitmap f) }
 
 pub marked-laid : (n : ℕ) (field : List ℕ) {rows bitmap : List ℕ} → Bitmap rows bitmap → Below n rows → markBitmap bitmap n field ≡ ok (markAll field rows)
 unfolding markBitmap refusedAs check andThen

@@ -4,4 +4,6 @@ pub mod CallSteps
 pub mod Frames
 pub mod LaidOut
 pub mod Accepted
+pub mod BinFaults
+pub mod CarriesNothing
 pub mod Theorems

@@ -16,12 +16,15 @@ use Rattle.row_field.proofs.RowLists.{rising-within}
 use Rattle.row_field.proofs.Fronts.{marked-field, marked-count}
 use Rattle.roaring.specs.Layout.{Bitmap}
 use Rattle.roaring.proofs.RowsRising.{bitmap-rising}
+use Rattle.roaring.proofs.Theorems.{names-the-broken}
 use Rattle.deletion_file.specs.declared.Deletions.the-variants.{Deleted}
 use Rattle.deletion_file.specs.Reading.{bitmapIn, markBitmap, markBin, deletionsReady, deletions, leftBy, deletionsBuffer, deletionsBy}
-use Rattle.deletion_file.specs.Claims.{Allowed, AnswersRows, BinIsRead, LaidOutIsRead, AcceptedWasLaidOut, OtherVersion, RowsHaveVersion1}
+use Rattle.deletion_file.specs.Claims.{Allowed, AnswersRows, BinIsRead, LaidOutIsRead, AcceptedWasLaidOut, OtherVersion, RowsHaveVersion1, NamesTheFault, LooksAtHeldBytes, NothingBeforeBitmap}
+use Rattle.deletion_file.proofs.CarriesNothing.{ready-bare, bitmap-bare}
 use Rattle.deletion_file.proofs.Frames.{file-has-bin}
-use Rattle.deletion_file.proofs.LaidOut.{set-has-bin, bitmap-laid, marked-laid}
-use Rattle.deletion_file.proofs.Accepted.{bitmap-cut, bitmap-rows, ready-back, deleted-back}
+use Rattle.deletion_file.proofs.LaidOut.{set-has-bin, bytes-laid, bitmap-laid, marked-laid}
+use Rattle.deletion_file.proofs.Accepted.{bitmap-cut, cut-held, bitmap-rows, ready-back, deleted-back}
+use Rattle.deletion_file.proofs.BinFaults.{fault-named}
 
 -- ---- 1
 
@@ -107,3 +110,14 @@ rows-have-version-1 file b n buffer k e =
     let c = check-ok (leb 1 (length file)) Short _ _ (s .is-bitmap) in
     let d = check-ok (eqb (getD file 0 0) 1) Version _ _ (c .1) in
     eqb-true (getD file 0 0) 1 (d .0)
+
+-- ---- 4
+
+pub names-the-fault : NamesTheFault
+names-the-fault = fault-named names-the-broken
+
+pub looks-at-held-bytes : LooksAtHeldBytes
+looks-at-held-bytes file b bytes t = (λ e. cut-held (bitmap-cut file b bytes t e), λ h. bytes-laid h)
+
+pub nothing-before-bitmap : NothingBeforeBitmap
+nothing-before-bitmap file b n buffer = (ready-bare file n buffer, bitmap-bare b file)

@@ -46,6 +46,11 @@ pub data DeletionFile : List (List ℕ) → List ℕ → Type 0 where
 abbrev pub Framed : Bin → Type 0
 Framed x = (numberSize ≤ length (x .bytes)) × (length (x .bytes) < 256 ^ numberSize) × (x .sum < 256 ^ numberSize)
 
+-- bin b of a file has the magic and a true checksum, and behind the magic these bytes, whatever they are; what the other bins hold is left open
+pub data HoldsBytes : ℕ → List ℕ → List ℕ → Type 0 where
+  holds-bytes : (earlier later : List Bin) (bytes : List ℕ) → All Framed (earlier ++ (binOf bytes ∷ later))
+      → HoldsBytes (length earlier) bytes (1 ∷ frames (earlier ++ (binOf bytes ∷ later)))
+
 -- bin b of a file holds a bitmap of the rows; what the other bins hold is left open
 pub data HasBin : ℕ → List ℕ → List ℕ → Type 0 where
   has-bin : (earlier later : List Bin) {rows bitmap : List ℕ} → Bitmap rows bitmap → All Framed (earlier ++ (binOf bitmap ∷ later))

@@ -8,14 +8,14 @@ use lib.ListN.{length, take, drop}
 use Rattle.numbers.specs.Meaning.{beAt}
 use Rattle.refusal.specs.declared.Refusal.{Refusal}
 use Rattle.refusal.specs.declared.Refusal.the-variants.{Short}
-use Rattle.refusal.specs.Reading.{Out, refuse, ok, numbersOf}
+use Rattle.refusal.specs.Reading.{Out, refuse, ok, numbersOf, faultIn}
 use Rattle.row_field.specs.Meaning.{size, cleared}
 use Rattle.deletion_file.specs.declared.NextBin.{NextBin}
 use Rattle.deletion_file.specs.declared.Place.{Place}
 use Rattle.deletion_file.specs.declared.Place.the-variants.{Refused, At}
 use Rattle.deletion_file.specs.declared.Deletions.{Deletions}
 use Rattle.deletion_file.specs.Layout.{Bin, numberSize}
-use Rattle.deletion_file.specs.Reading.{over, bin, nextBin, binIn, afterMagic, bitmapIn, deletions, leftBy, deletionsBuffer, deletionsBy, deletionsOut, deletionsNumbers}
+use Rattle.deletion_file.specs.Reading.{over, bin, nextBin, binIn, afterMagic, bitmapIn, deletions, leftBy, deletionsBuffer, deletionsBy, deletionsOut, deletionsFault, deletionsNumbers}
 
 -- ---- a part of the file
 
@@ -74,8 +74,9 @@ pub record ClearsIfRoom (n : ℕ) (before after : List ℕ) (r : Bool) : Type 0 
   pub room : r ≡ leb (size n) (length before)
   pub field : after ≡ cond r (cleared n before) before
 
--- `read_deletions`: the answer, its numbers and what the buffer holds then
+-- `read_deletions`: the answer, its numbers, where its fault is and what the buffer holds then
 pub record DeletionsPromise (file : List ℕ) (b n : ℕ) (before after : List ℕ) (r : Deletions) : Type 0 where
   pub answer : r ≡ deletionsBy n (deletions file b n before)
   pub numbers : deletionsOut r ≡ numbersOf 0 (deletionsNumbers n) (deletions file b n before)
+  pub fault : deletionsFault r ≡ faultIn (deletions file b n before)
   pub buffer : after ≡ deletionsBuffer file b n before

@@ -6,14 +6,14 @@ use mathlib.Core.List.{List, [], _∷_}
 use lib.Dec.{eqb, leb}
 use lib.ListN.{length, take, drop, getD}
 use Rattle.numbers.specs.Meaning.{beAt, big, number}
-use Rattle.refusal.specs.Meaning.{limit, numberOf}
+use Rattle.refusal.specs.Meaning.{limit, numberOf, noFault, faultOf}
 use Rattle.refusal.specs.Reading.{Out, refuse, ok, check, andThen, refusedAs}
 use Rattle.refusal.specs.declared.Refusal.{Refusal}
 use Rattle.refusal.specs.declared.Refusal.the-variants.{Short, Magic, Version, Bitmap, Range, Room, Limit, Checksum, NoBin}
 use Rattle.crc32.specs.Meaning.{checksum}
 use Rattle.row_field.specs.Meaning.{size, markAll, count, cleared}
 use Rattle.roaring.specs.declared.Extent.the-variants.{Exactly}
-use Rattle.roaring.specs.Reading.{measured, endOf}
+use Rattle.roaring.specs.Reading.{containerOf, measured, endOf}
 use Rattle.deletion_file.specs.declared.Deletions.{Deletions}
 use Rattle.deletion_file.specs.declared.Deletions.the-variants.{Deleted}
 use Rattle.deletion_file.specs.Layout.{Bin, numberSize, magic}
@@ -81,12 +81,15 @@ bitmapIn b file =
 
 -- ---- the rows
 
--- a field of n rows with a bitmap's rows marked, "one bitmap filling the rest" of its bin: BITMAP, whichever container is at fault; RANGE, if n is below the
--- end of the rows
+-- 02, Ticket 2: "A deletion bin's entry number is 0"
+abbrev pub binEntry : ℕ
+binEntry = 0
+
+-- a field of n rows with a bitmap's rows marked, "one bitmap filling the rest" of its bin: BITMAP, with the container; RANGE, if n is below the end of the rows
 unfoldable pub markBitmap : List ℕ → ℕ → List ℕ → Out Refusal (List ℕ)
 markBitmap bytes n field =
-    andThen (refusedAs (λ _. Bitmap) (measured (Exactly (length bytes)) bytes)) (λ p.
-    check (leb (endOf (p .rows)) n) Range (ok (markAll field (p .rows))))
+    andThen (refusedAs (λ why. Bitmap binEntry (containerOf why)) (measured (Exactly (length bytes)) bytes)) (λ p.
+    check (leb (endOf (p .rows)) n) (Range binEntry) (ok (markAll field (p .rows))))
 
 -- a clear field of n rows with the rows of bin b marked
 unfoldable pub markBin : List ℕ → ℕ → ℕ → List ℕ → Out Refusal (List ℕ)
@@ -124,6 +127,11 @@ deletionsBy n (ok marked) = Deleted (count marked n)
 unfoldable pub deletionsOut : Deletions → ℕ × ℕ
 deletionsOut (Deletions.Refused r) = (numberOf r, 0)
 deletionsOut (Deleted n) = (0, n)
+
+-- where the answer's fault is, in three numbers
+unfoldable pub deletionsFault : Deletions → List ℕ
+deletionsFault (Deletions.Refused r) = faultOf r
+deletionsFault (Deleted n) = noFault
 
 -- what an accepted reading stands for in numbers
 unfoldable pub deletionsNumbers : ℕ → List ℕ → ℕ × ℕ

@@ -23,6 +23,9 @@ const NUMBER_SIZE: usize = 4;
 // What a bin takes besides its own bytes: its size in front and its checksum behind.
 const FRAME_SIZE: usize = 2 * NUMBER_SIZE;
 
+// The entry's number in a bin's refusals (document 02, Ticket 2).
+const BIN_ENTRY: u64 = 0;
+
 // What Read deletions answers: a refusal, or how many rows are deleted.
 pub enum Deletions {
     Refused(Refusal),
@@ -152,14 +155,17 @@ fn mark_bitmap(bitmap: &[u8], rows: u64, field: &mut [u8]) -> Deletions
 {
     let measured = roaring::measure(bitmap, Extent::Exactly(bitmap.len()));
     match measured {
-        Measured::Unsound(_) => Deletions::Refused(Refusal::Bitmap),
+        Measured::Unsound(container) => Deletions::Refused(Refusal::Bitmap {
+            entry: BIN_ENTRY,
+            container,
+        }),
         Measured::Sound {
             length: _,
             rows: _,
             end,
         } => {
             if rows < end {
-                return Deletions::Refused(Refusal::Range);
+                return Deletions::Refused(Refusal::Range { entry: BIN_ENTRY });
             }
             roaring_mark::mark(field, bitmap, rows);
             Deletions::Deleted(row_field::count(field, rows))

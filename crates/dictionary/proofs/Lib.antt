@@ -9,3 +9,4 @@ pub mod Steps
 pub mod Walks
 pub mod Offsets
 pub mod NextEntry
+pub mod CarriesNothing

@@ -8,15 +8,15 @@ use Rattle.numbers.specs.Meaning.{Bytes}
 use Rattle.numbers.specs.declared.Position.{Position}
 use Rattle.refusal.specs.Meaning.{numberOf}
 use Rattle.refusal.specs.declared.Refusal.{Refusal}
-use Rattle.refusal.specs.Reading.{Out, refuse, ok, andThen, numbersOf}
+use Rattle.refusal.specs.Reading.{Out, refuse, ok, andThen, numbersOf, faultIn}
 use Rattle.index_file.specs.declared.Located.{Located}
 use Rattle.index_file.specs.Reading.{Part, Sought, found, absent, find, locatedBy, soughtNumbers}
 use Rattle.index_file.proofs.Theorems.{found-within}
 use Rattle.bitmap_index.specs.declared.Answered.{Answered}
-use Rattle.bitmap_index.specs.Reading.{Answer, ask, answeredBy, askOut, askNumbers}
+use Rattle.bitmap_index.specs.Reading.{Answer, ask, answeredBy, askOut, askNumbers, askFault}
 use Rattle.bitmap_index.specs.Promises.{AskPromise}
 use Rattle.file_to_answers.specs.declared.FileAnswer.{FileAnswer}
-use Rattle.file_to_answers.specs.Reading.{used, lookedAt, askPart, askPartBuffer, askFile, askFileBuffer, fileAnswerBy, askFileOut, askFileNumbers}
+use Rattle.file_to_answers.specs.Reading.{used, lookedAt, askPart, askPartBuffer, askFile, askFileBuffer, fileAnswerBy, askFileOut, askFileNumbers, askFileFault}
 use Rattle.file_to_answers.specs.Promises.{LocatePromise, AskFilePromise, FileAsScan}
 use Rattle.file_to_answers.proofs.Theorems.{file-is-answered}
 
@@ -78,7 +78,7 @@ module _ (bytes column kind : List ℕ) {l : Located} (e : l ≡ locatedBy (find
 
 -- ---- Locate, then Ask
 
--- Ask's answer as the one call's, and its numbers
+-- Ask's answer as the one call's, its numbers and its fault
 asked : (o : Out Refusal Answer) → FileAnswer.Answered (answeredBy o) ≡ fileAnswerBy (andThen o (λ a. ok (found a)))
 unfolding fileAnswerBy andThen answeredBy
 asked (refuse r) = refl
@@ -88,6 +88,11 @@ numbered : (o : Out Refusal Answer) → numbersOf 0 askNumbers o ≡ numbersOf 0
 unfolding numbersOf andThen askFileNumbers
 numbered (refuse r) = refl
 numbered (ok a) = refl
+
+at-fault : (o : Out Refusal Answer) → faultIn o ≡ faultIn (andThen o (λ a. ok (found a)))
+unfolding faultIn andThen
+at-fault (refuse r) = refl
+at-fault (ok a) = refl
 
 -- for any bytes, and so for a column's file
 abbrev pub Promise : (bytes column kind : List ℕ) (t q : ℕ) (literals before after : List ℕ) → FileAnswer → Type 0
@@ -106,17 +111,24 @@ module _ (bytes column kind : List ℕ) (t q : ℕ) (literals before : List ℕ)
 
   module _ {l : Located} (e : l ≡ locatedBy (find bytes column kind)) where
     pub asked-absent : l ≡ Located.Absent → Promise bytes column kind t q literals before before FileAnswer.Absent
-    unfolding askFile askPart andThen askFileBuffer askPartBuffer fileAnswerBy askFileOut askFileNumbers numbersOf
-    asked-absent g = let x = was-read bytes column kind e g in both (record { answer = rw x; numbers = rw x; buffer = rw x })
+    unfolding askFile askPart andThen askFileBuffer askPartBuffer fileAnswerBy askFileOut askFileNumbers askFileFault numbersOf faultIn
+    asked-absent g = let x = was-read bytes column kind e g in both (record { answer = rw x; numbers = rw x; fault = rw x; buffer = rw x })
 
     pub asked-refused : {r : Refusal} → l ≡ Located.Refused r → Promise bytes column kind t q literals before before (FileAnswer.Answered (Answered.Refused r))
-    unfolding askFile andThen askFileBuffer askPartBuffer fileAnswerBy askFileOut askOut numbersOf
-    asked-refused g = let x = was-read bytes column kind e g in both (record { answer = rw x; numbers = rw x; buffer = rw x })
+    unfolding askFile andThen askFileBuffer askPartBuffer fileAnswerBy askFileOut askFileFault askOut askFault numbersOf faultIn
+    asked-refused g = let x = was-read bytes column kind e g in both (record { answer = rw x; numbers = rw x; fault = rw x; buffer = rw x })
 
     pub asked-found : {start : Position} {size : ℕ} → l ≡ Located.Found start size → {body : List ℕ} → body ≡ take size (drop (start .0) bytes)
         → {y : Answered} {after : List ℕ} → AskPromise t q literals body before after y → Promise bytes column kind t q literals before after (FileAnswer.Answered y)
-    unfolding askFile askPart andThen askFileBuffer askPartBuffer askFileOut
+    unfolding askFile askPart andThen askFileBuffer askPartBuffer askFileOut askFileFault
     asked-found g {body} p h =
         let x = was-read bytes column kind e g in
         let o = ask t q literals body before in
-        both (record { answer = rw (x, ← p, h .answer) (asked o); numbers = rw (x, ← p) (h .numbers ∙ numbered o); buffer = rw (x, ← p) (h .buffer) })
+        both (
+        record {
+          answer = rw (x, ← p, h .answer) (asked o);
+          numbers = rw (x, ← p) (h .numbers ∙ numbered o);
+          fault = rw (x, ← p) (h .fault ∙ at-fault o);
+          buffer = rw (x, ← p) (h .buffer);
+        }
+        )

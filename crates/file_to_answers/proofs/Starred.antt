@@ -22,7 +22,7 @@ use Rattle.index_file.specs.Reading.{soughtNumbers}
 use Rattle.index_file.specs.Reading as head
 use Rattle.bitmap_index.specs.Meaning.{Column, chosen, takes, scanFrom, scan, keeps}
 use Rattle.bitmap_index.specs.Layout.{ColumnEntries, single, ColumnBody, version1, version2}
-use Rattle.bitmap_index.specs.Reading.{placeAt, placeEntry, placeEntries, roomFor, prepared, audited, audit, chosenOf, answered, auditedAnswer, wellFormed, ask, answeredBy}
+use Rattle.bitmap_index.specs.Reading.{entryNumber, nextNumber, placeAt, placeEntry, placeEntries, roomFor, prepared, audited, audit, chosenOf, rowsFor, rowsAt, markEntries, answered, auditedAnswer, wellFormed, ask, answeredBy}
 use Rattle.file_to_answers.specs.Layout.{ColumnFile}
 use Rattle.file_to_answers.specs.Reading.{used, askPart, askFile}
 use Rattle.file_to_answers.specs.Starred.{cells, one, two, file, s, bitmap, names, Holds, StarredHolds}
@@ -101,21 +101,21 @@ run-bitmap =
     flagged-bitmap (record { key = 0; body = runs (record { start = 1; more = 3 } ∷ []) } ∷ []) (omega arith) (omega arith)
     (omega arith, omega arith, (omega arith, omega arith, (omega arith, omega arith, tt)), tt, tt)
 
-always : (extent n : ℕ) (region field : List ℕ) → n ≤ limit → placeAt (signed32 0x80000000) extent n region field ≡ refuse Range
+always : (entry extent n : ℕ) (region field : List ℕ) → n ≤ limit → placeAt entry (signed32 0x80000000) extent n region field ≡ refuse (Range entry)
 unfolding placeAt check
-always extent n region field h = rw (le-ltb 2147483647 n h)
+always entry extent n region field h = rw (le-ltb 2147483647 n h)
 
 -- an offset that names a row is laid out as this row alone
 named-0 : Holds (names 0xFFFFFFFF 0)
 unfolding placeAt
-named-0 = (refl, λ extent n region field. refl, λ c extent region h. single 0 refl (omega arith) refl h)
+named-0 = (refl, λ entry extent n region field. refl, λ c extent region h. single 0 refl (omega arith) refl h)
 
 named-last : Holds (names 0x80000000 2147483647)
 unfolding placeAt
-named-last = (refl, λ extent n region field. refl, λ c extent region h. single 2147483647 refl (omega arith) refl h)
+named-last = (refl, λ entry extent n region field. refl, λ c extent region h. single 2147483647 refl (omega arith) refl h)
 
 pub starred : StarredHolds
-unfolding number head.find head.file head.count head.name head.entries head.afterEntry head.columns head.afterColumn head.placed head.head soughtNumbers numbersOf used askFile askPart read readPlain readFlagged contents containers offsetIs body bodySize bodyValues sound valuesOf runsOf valuesRise runsRise bit mark markAll anySet zeroed upTo rowsFrom placeAt placeEntry placeEntries check andThen valueSize valueOf literals width isString booleanOk same sameCell signedNumber less listed countAtMost entriesOne listings past isDue entriesTwo behind blocksOf blocked nullOf dictionary chosen takes scanFrom scan roomFor prepared audited audit chosenOf answered auditedAnswer wellFormed ask answeredBy keeps
+unfolding number head.find head.file head.count head.name head.entries head.afterEntry head.columns head.afterColumn head.placed head.head soughtNumbers numbersOf used askFile askPart read readPlain readFlagged contents containers offsetIs body bodySize bodyValues sound valuesOf runsOf valuesRise runsRise bit mark markAll anySet zeroed upTo rowsFrom entryNumber nextNumber placeAt placeEntry placeEntries rowsFor rowsAt markEntries check andThen valueSize valueOf literals width isString booleanOk same sameCell signedNumber less listed countAtMost entriesOne listings past isDue entriesTwo behind blocksOf blocked nullOf dictionary chosen takes scanFrom scan roomFor prepared audited audit chosenOf answered auditedAnswer wellFormed ask answeredBy keeps
 starred = (
   (refl, refl, its-file, refl),
   (

@@ -4,7 +4,7 @@ use mathlib.Core.Path.{_≡_}
 use mathlib.Core.List.{List}
 use lib.ListN.{length}
 use Rattle.numbers.specs.Meaning.{joined}
-use Rattle.refusal.specs.Reading.{numbersOf}
+use Rattle.refusal.specs.Reading.{numbersOf, faultIn}
 use Rattle.row_field.specs.Meaning.{size}
 use Rattle.stored_value.specs.Meaning.{Cell}
 use Rattle.index_file.specs.Reading.{find, locateNumbers}
@@ -13,7 +13,7 @@ use Rattle.bitmap_index.specs.Reading.{Answer}
 use Rattle.bitmap_index.specs.Claims.{scanAnswer}
 use Rattle.file_to_answers.specs.declared.FileAnswer.{FileAnswer}
 use Rattle.file_to_answers.specs.Layout.{ColumnFile}
-use Rattle.file_to_answers.specs.Reading.{partOf, HandedBack, askFile, askFileBuffer, fileAnswerBy, askFileOut, askFileNumbers}
+use Rattle.file_to_answers.specs.Reading.{partOf, HandedBack, askFile, askFileBuffer, fileAnswerBy, askFileOut, askFileNumbers, askFileFault}
 
 -- `locate` with a buffer that stands at the place `buffer` of memory: the answer's number, and the part and where that stands
 pub record LocatePromise (bytes column kind : List ℕ) (buffer : ℕ × ℕ) (answer : ℕ) (body : List ℕ) (place : ℕ × ℕ) : Type 0 where
@@ -25,6 +25,7 @@ pub record LocatePromise (bytes column kind : List ℕ) (buffer : ℕ × ℕ) (a
 pub record AskFilePromise (bytes column kind : List ℕ) (t q : ℕ) (literals before after : List ℕ) (r : FileAnswer) : Type 0 where
   pub answer : r ≡ fileAnswerBy (askFile bytes column kind t q literals before)
   pub numbers : askFileOut r ≡ numbersOf 0 askFileNumbers (askFile bytes column kind t q literals before)
+  pub fault : askFileFault r ≡ faultIn (askFile bytes column kind t q literals before)
   pub buffer : after ≡ askFileBuffer bytes column kind t q literals before
 
 -- demand 3 of one call: for each column whose file it is and each well-formed question whose literals these are, if the field has room, what is said here of

@@ -3,10 +3,11 @@ use Prim.Native.Nat.{ℕ, _+_}
 use mathlib.Core.Path.{_≡_}
 use mathlib.Core.List.{List, [], _∷_}
 use Rattle.refusal.specs.declared.Refusal.{Refusal}
+use Rattle.refusal.specs.Meaning.{noFault}
 use Rattle.refusal.specs.Reading.{Out, refuse, ok, andThen}
 use Rattle.index_file.specs.Reading.{Part, Sought, found, absent, bytesOf, find, foundNumber, absentNumber}
 use Rattle.bitmap_index.specs.declared.Answered.{Answered}
-use Rattle.bitmap_index.specs.Reading.{Answer, ask, askBuffer, answeredBy, askOut}
+use Rattle.bitmap_index.specs.Reading.{Answer, ask, askBuffer, answeredBy, askOut, askFault}
 use Rattle.file_to_answers.specs.declared.FileAnswer.{FileAnswer}
 
 -- ---- Locate
@@ -67,3 +68,8 @@ askFileOut (FileAnswer.Answered a) = askOut a
 unfoldable pub askFileNumbers : Sought Answer → ℕ × ℕ
 askFileNumbers absent = (absentNumber, 0)
 askFileNumbers (found a) = (foundNumber, a .matched)
+
+-- where its fault is, in three numbers: Ask's, and all 0 with ABSENT. A refusal of Locate carries nothing (index_file's claim `FindCarriesNothing`)
+unfoldable pub askFileFault : FileAnswer → List ℕ
+askFileFault FileAnswer.Absent = noFault
+askFileFault (FileAnswer.Answered a) = askFault a

@@ -76,9 +76,10 @@ Holds (answers q v field matched answer) =
 Holds (reads bytes rows) = (read bytes ≡ ok (parsed rows (length bytes) [])) × Bitmap rows bytes
 Holds (names offset row) =
     (signed32 offset ≡ negsuc row)
-    × ((extent n : ℕ) (region field : List ℕ) → placeAt (signed32 offset) extent n region field ≡ check (ltb row n) Range (check (not (bit field row)) Twice (ok (mark field row))))
+    × ((entry extent n : ℕ) (region field : List ℕ)
+    → placeAt entry (signed32 offset) extent n region field ≡ check (ltb row n) (Range entry) (check (not (bit field row)) (Twice entry) (ok (mark field row))))
     × ((c : Cell) (extent : ℕ) (region : List ℕ) → extent < fourBytes → EntryRows region (row ∷ []) (record { cell = c; offset = offset; extent = extent }))
-Holds (outside offset) = (extent n : ℕ) (region field : List ℕ) → n ≤ limit → placeAt (signed32 offset) extent n region field ≡ refuse Range
+Holds (outside offset) = (entry extent n : ℕ) (region field : List ℕ) → n ≤ limit → placeAt entry (signed32 offset) extent n region field ≡ refuse (Range entry)
 
 abbrev pub table : List Case
 table =

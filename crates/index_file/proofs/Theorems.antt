@@ -13,10 +13,11 @@ use Rattle.refusal.specs.Reading.{refuse, ok, numbersOf}
 use Rattle.refusal.proofs.Laws.{ok-same}
 use Rattle.index_file.specs.Layout.{magic, frontSize}
 use Rattle.index_file.specs.Reading.{found, absent, Part, bytesOf, find, soughtNumbers}
-use Rattle.index_file.specs.Claims.{LaidOutIsFound, FoundIsLaidOut, OneBody, UnlistedIsAbsent, AbsentIsUnlisted, NumberOfFound, NumberOfAbsent, OtherVersionIsRefused, OtherVersionIsNotFound}
+use Rattle.index_file.specs.Claims.{LaidOutIsFound, FoundIsLaidOut, OneBody, UnlistedIsAbsent, AbsentIsUnlisted, NumberOfFound, NumberOfAbsent, OtherVersionIsRefused, OtherVersionIsNotFound, FindCarriesNothing}
 use Rattle.index_file.proofs.Laws.{file-short, file-magic, file-version, find-long, find-column, find-kind, find-file}
 use Rattle.index_file.proofs.Laid.{partOf, laid-find, unlisted-file}
 use Rattle.index_file.proofs.Accepted.{accepted, within, unlisted}
+use Rattle.index_file.proofs.CarriesNothing.{find-bare}
 
 pub laid-out-is-found : LaidOutIsFound
 laid-out-is-found column kind body bytes f small = (partOf f, laid-find f small, sym (f .part))
@@ -46,10 +47,10 @@ refusal-numbers Refusal.Magic = (omega arith, omega arith)
 refusal-numbers Refusal.Version = (omega arith, omega arith)
 refusal-numbers Refusal.Head = (omega arith, omega arith)
 refusal-numbers Refusal.Dict = (omega arith, omega arith)
-refusal-numbers Refusal.Bitmap = (omega arith, omega arith)
-refusal-numbers Refusal.Range = (omega arith, omega arith)
-refusal-numbers Refusal.Twice = (omega arith, omega arith)
-refusal-numbers Refusal.Missing = (omega arith, omega arith)
+refusal-numbers (Refusal.Bitmap entry container) = (omega arith, omega arith)
+refusal-numbers (Refusal.Range entry) = (omega arith, omega arith)
+refusal-numbers (Refusal.Twice entry) = (omega arith, omega arith)
+refusal-numbers (Refusal.Missing row) = (omega arith, omega arith)
 refusal-numbers Refusal.Room = (omega arith, omega arith)
 refusal-numbers Refusal.Literal = (omega arith, omega arith)
 refusal-numbers Refusal.Limit = (omega arith, omega arith)
@@ -95,3 +96,8 @@ other-version-is-not-found bytes column kind other =
                 ]
           ]
     ]
+
+-- ---- where a fault is
+
+pub find-carries-nothing : FindCarriesNothing
+find-carries-nothing = find-bare

@@ -8,6 +8,7 @@ use Rattle.numbers.specs.Meaning.{beAt, Bytes}
 use Rattle.refusal.specs.Meaning.{limit}
 use Rattle.refusal.specs.declared.Refusal.{Refusal}
 use Rattle.refusal.specs.Reading.{Out, refuse, ok}
+use Rattle.refusal.specs.Claims.{CarriesNothing}
 use Rattle.index_file.specs.Layout.{magic, fileVersion, frontSize, Headed, File, Unlisted}
 use Rattle.index_file.specs.Reading.{Sought, found, absent, Part, bytesOf, find, foundNumber, absentNumber, locateNumbers}
 
@@ -57,3 +58,7 @@ OtherVersionIsNotFound =
     (bytes column kind : List ℕ) → (beAt 4 bytes 8 ≡ fileVersion → ⊥)
     → (find bytes column kind ≡ refuse Refusal.Limit) ⊎ ((find bytes column kind ≡ refuse Refusal.Short)
     ⊎ ((find bytes column kind ≡ refuse Refusal.Magic) ⊎ (find bytes column kind ≡ refuse Refusal.Version)))
+
+-- 02, Ticket 2: a refusal of Locate carries nothing.
+abbrev pub FindCarriesNothing : Type 0
+FindCarriesNothing = (bytes column kind : List ℕ) → CarriesNothing (find bytes column kind)

@@ -7,6 +7,7 @@ use lib.Dec.{eqb, leb, ltb}
 use lib.IntN.{ℤ, pos, negsuc}
 use lib.ListN.{length, drop, getD}
 use Rattle.numbers.specs.declared.Position.{Position}
+use Rattle.numbers.specs.declared.Row.{Row}
 
 -- each of the list has the property
 abbrev pub All : {A : Type 0} → (A → Type 0) → List A → Type 0
@@ -84,6 +85,9 @@ twoBytes = 65536
 abbrev pub fourBytes : ℕ
 fourBytes = 4294967296
 
--- a byte position, as the code's kind of its own
+-- a byte position and a row number, as the code's kinds of their own
 abbrev pub position : ℕ → Position
 position p = record { 0 = p }
+
+abbrev pub row : ℕ → Row
+row r = record { 0 = r }

@@ -1,17 +1,18 @@
--- What each call of the C interface promises: its number and what it writes through pointers, by what the reading of 01's call stands for in numbers, and what
--- the lent buffer holds after it. `before` and `after` are that buffer's bytes around the call.
+-- What each call of the C interface promises: its number, its counts and where its fault is, as the reading of the call says them, and what the lent buffer holds
+-- after it. `before` and `after` are that buffer's bytes around the call.
 use Prim.Native.Nat.{ℕ}
 use mathlib.Core.Path.{_≡_}
 use mathlib.Core.List.{List}
-use Rattle.refusal.specs.Reading.{numbersOf}
+use Rattle.refusal.specs.Reading.{numbersOf, faultIn}
 use Rattle.subtract.specs.Reading.{subtraction, subtractBuffer, subtractNumbers}
 use Rattle.deletion_file.specs.Reading.{deletions, deletionsBuffer, deletionsNumbers}
 use Rattle.index_file.specs.Reading.{find, locateNumbers}
 use Rattle.bitmap_index.specs.Reading.{audit, auditBuffer, auditNumbers, ask, askBuffer, askNumbers}
 use Rattle.file_to_answers.specs.Reading.{askFile, askFileBuffer, askFileNumbers}
 
-pub record ReadDeletions (file : List ℕ) (bin rows : ℕ) (before after : List ℕ) (number deleted : ℕ) : Type 0 where
+pub record ReadDeletions (file : List ℕ) (bin rows : ℕ) (before after : List ℕ) (number deleted : ℕ) (fault : List ℕ) : Type 0 where
   pub numbers : (number, deleted) ≡ numbersOf 0 (deletionsNumbers rows) (deletions file bin rows before)
+  pub fault-is : fault ≡ faultIn (deletions file bin rows before)
   pub buffer : after ≡ deletionsBuffer file bin rows before
 
 -- `before` and `after` are the first buffer's
@@ -23,15 +24,18 @@ pub record Subtract (second : List ℕ) (rows : ℕ) (before after : List ℕ) (
 pub record Locate (bytes column kind : List ℕ) (number start length : ℕ) : Type 0 where
   pub numbers : (number, (start, length)) ≡ locateNumbers (find bytes column kind)
 
-pub record Audit (body : List ℕ) (t : ℕ) (before after : List ℕ) (number rows : ℕ) : Type 0 where
+pub record Audit (body : List ℕ) (t : ℕ) (before after : List ℕ) (number rows : ℕ) (fault : List ℕ) : Type 0 where
   pub numbers : (number, rows) ≡ numbersOf 0 auditNumbers (audit t body before)
+  pub fault-is : fault ≡ faultIn (audit t body before)
   pub buffer : after ≡ auditBuffer t body before
 
-pub record Ask (body : List ℕ) (t q : ℕ) (literals before after : List ℕ) (number matched : ℕ) : Type 0 where
+pub record Ask (body : List ℕ) (t q : ℕ) (literals before after : List ℕ) (number matched : ℕ) (fault : List ℕ) : Type 0 where
   pub numbers : (number, matched) ≡ numbersOf 0 askNumbers (ask t q literals body before)
+  pub fault-is : fault ≡ faultIn (ask t q literals body before)
   pub buffer : after ≡ askBuffer t q literals body before
 
 -- `bytes` as for Locate
-pub record AskFile (bytes column kind : List ℕ) (t q : ℕ) (literals before after : List ℕ) (number matched : ℕ) : Type 0 where
+pub record AskFile (bytes column kind : List ℕ) (t q : ℕ) (literals before after : List ℕ) (number matched : ℕ) (fault : List ℕ) : Type 0 where
   pub numbers : (number, matched) ≡ numbersOf 0 askFileNumbers (askFile bytes column kind t q literals before)
+  pub fault-is : fault ≡ faultIn (askFile bytes column kind t q literals before)
   pub buffer : after ≡ askFileBuffer bytes column kind t q literals before

@@ -1,7 +1,8 @@
 // The C interface (include/poddurance.h). Each function answers a number, 0 for accepted, 255 for ABSENT (Locate and Ask of a file) and else the
-// refusal's number in document 01, and writes counts through pointers; with ABSENT and a refusal the counts are 0.
+// refusal's number in document 01, and writes counts through pointers; with ABSENT and a refusal the counts are 0. Where a fault is (entry, container, row) is
+// written through a pointer too: 0 in each number that the refusal does not carry, and all 0 with every other answer.
 ghost use mathlib.Core.Path.{_≡_};
-ghost use Rattle.bitmap_index.specs.Reading.{askOut};
+ghost use Rattle.bitmap_index.specs.Reading.{askOut, askFault};
 ghost use Rattle.file_to_answers.specs.Reading.{lookedAt};
 ghost use Rattle.file_to_answers.specs.Promises.{FileAsScan};
 ghost use Rattle.poddurance.specs.Promises.{ReadDeletions, Subtract, Locate, Audit, Ask, AskFile};
@@ -21,17 +22,20 @@ pub extern "C" fn poddurance_read_deletions(
     rows: u64,
     field: &mut [u8],
     deleted: &mut u64,
+    fault: &mut [u64; 3],
 ) -> u8
-    ensures { λ r. ⌜ ReadDeletions (now (file .entry)) bin rows (now (field .entry)) (now (field .exit)) r (now (deleted .exit)) ⌝ }
+    ensures { λ r. ⌜ ReadDeletions (now (file .entry)) bin rows (now (field .entry)) (now (field .exit)) r (now (deleted .exit)) (now (fault .exit)) ⌝ }
 {
     let answer = deletion_file::read_deletions(file, bin, rows, field);
     match answer {
         Deletions::Refused(r) => {
             *deleted = 0;
+            *fault = refusal::fault(r);
             refusal::number(r)
         }
         Deletions::Deleted(n) => {
             *deleted = n;
+            *fault = refusal::NO_FAULT;
             ACCEPTED
         }
     }
@@ -101,37 +105,48 @@ pub extern "C" fn poddurance_locate<'a>(
 }
 
 #[no_mangle]
-pub extern "C" fn poddurance_audit(body: &[u8], t: u32, field: &mut [u8], rows: &mut u64) -> u8
-    ensures { λ r. ⌜ Audit (now (body .entry)) t (now (field .entry)) (now (field .exit)) r (now (rows .exit)) ⌝ }
+pub extern "C" fn poddurance_audit(
+    body: &[u8],
+    t: u32,
+    field: &mut [u8],
+    rows: &mut u64,
+    fault: &mut [u64; 3],
+) -> u8
+    ensures { λ r. ⌜ Audit (now (body .entry)) t (now (field .entry)) (now (field .exit)) r (now (rows .exit)) (now (fault .exit)) ⌝ }
 {
     let answer = bitmap_index::audit(body, t, field);
     match answer {
         Audited::Refused(r) => {
             *rows = 0;
+            *fault = refusal::fault(r);
             refusal::number(r)
         }
         Audited::Rows(n) => {
             *rows = n;
+            *fault = refusal::NO_FAULT;
             ACCEPTED
         }
     }
 }
 
-// The number of an answer to a question, and through `matched` its count.
-fn answered(answer: Answered, matched: &mut u64) -> u8
-    ensures { λ r. ⌜ (r, now (matched .exit)) ≡ askOut answer ⌝ }
+// The number of an answer to a question, and through pointers its count and where its fault is.
+fn answered(answer: Answered, matched: &mut u64, fault: &mut [u64; 3]) -> u8
+    ensures { λ r. ⌜ ((r, now (matched .exit)) ≡ askOut answer) × (now (fault .exit) ≡ askFault answer) ⌝ }
 {
     match answer {
         Answered::Refused(r) => {
             *matched = 0;
+            *fault = refusal::fault(r);
             refusal::number(r)
         }
         Answered::Skip => {
             *matched = 0;
+            *fault = refusal::NO_FAULT;
             ACCEPTED
         }
         Answered::Keep(n) => {
             *matched = n;
+            *fault = refusal::NO_FAULT;
             ACCEPTED
         }
     }
@@ -145,12 +160,14 @@ pub extern "C" fn poddurance_ask(
     literals: &[u8],
     field: &mut [u8],
     matched: &mut u64,
+    fault: &mut [u64; 3],
 ) -> u8
-    ensures { λ r. ⌜ Ask (now (body .entry)) t question (now (literals .entry)) (now (field .entry)) (now (field .exit)) r (now (matched .exit)) ⌝ }
+    ensures { λ r. ⌜ Ask (now (body .entry)) t question (now (literals .entry)) (now (field .entry)) (now (field .exit)) r (now (matched .exit)) (now (fault .exit)) ⌝ }
 {
     answered(
         bitmap_index::ask(body, t, question, literals, field),
         matched,
+        fault,
     )
 }
 
@@ -166,9 +183,10 @@ pub extern "C" fn poddurance_ask_file<'a>(
     literals: &[u8],
     field: &mut [u8],
     matched: &mut u64,
+    fault: &mut [u64; 3],
 ) -> u8
     ensures any_bytes { λ r. ⌜ AskFile (lookedAt (now (embedded .entry)) (now (file .entry))) (now (column .entry)) (now (kind .entry))
-        t question (now (literals .entry)) (now (field .entry)) (now (field .exit)) r (now (matched .exit)) ⌝ }
+        t question (now (literals .entry)) (now (field .entry)) (now (field .exit)) r (now (matched .exit)) (now (fault .exit)) ⌝ }
     ensures demand_3 { λ r. ⌜ FileAsScan (lookedAt (now (embedded .entry)) (now (file .entry))) (now (column .entry)) (now (kind .entry))
         t question (now (literals .entry)) (now (field .entry)) (λ a. (r ≡ 0) × (now (matched .exit) ≡ a .matched) × (now (field .exit) ≡ a .buffer)) ⌝ }
 {
@@ -185,8 +203,9 @@ pub extern "C" fn poddurance_ask_file<'a>(
     match answer {
         FileAnswer::Absent => {
             *matched = 0; // what is not listed has no count
+            *fault = refusal::NO_FAULT;
             index_file::ABSENT
         }
-        FileAnswer::Answered(a) => answered(a, matched),
+        FileAnswer::Answered(a) => answered(a, matched, fault),
     }
 }

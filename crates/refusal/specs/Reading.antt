@@ -2,8 +2,9 @@
 -- that of the stages.
 use Prim.Native.Nat.{ℕ}
 use mathlib.Core.Bool.{Bool, true, false}
+use mathlib.Core.List.{List}
 use Rattle.refusal.specs.declared.Refusal.{Refusal}
-use Rattle.refusal.specs.Meaning.{numberOf}
+use Rattle.refusal.specs.Meaning.{numberOf, faultOf, noFault}
 
 -- a refusal, or what was read. A crate that knows no refusal of 01 has a type of its own for the reason, R
 pub data Out (R A : Type 0) : Type 0 where
@@ -29,3 +30,8 @@ refusedAs why (ok a) = ok a
 unfoldable pub numbersOf : {A B : Type 0} → B → (A → ℕ × B) → Out Refusal A → ℕ × B
 numbersOf none accepted (refuse r) = (numberOf r, none)
 numbersOf none accepted (ok a) = accepted a
+
+-- where the fault of a reading is, in three numbers: all 0 where it is no refusal
+unfoldable pub faultIn : {A : Type 0} → Out Refusal A → List ℕ
+faultIn (refuse r) = faultOf r
+faultIn (ok a) = noFault

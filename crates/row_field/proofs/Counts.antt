@@ -24,7 +24,7 @@ unfoldable pub tally : (ℕ → Bool) → ℕ → ℕ → ℕ
 tally p a zero = 0
 tally p a (suc k) = tick (p a) + tally p (a + 1) k
 
-tick-le : (b : Bool) → tick b ≤ 1
+pub tick-le : (b : Bool) → tick b ≤ 1
 tick-le true = omega arith
 tick-le false = omega arith
 
@@ -51,7 +51,7 @@ tally-none p a (suc k) h =
     let e : p a ≡ false = h a (omega arith) (omega arith) in
     rw e (omega (arith, tally-none p (a + 1) k (λ r l m. h r (omega arith) (omega arith))))
 
-tick-true : (b : Bool) → tick b ≡ 1 → b ≡ true
+pub tick-true : (b : Bool) → tick b ≡ 1 → b ≡ true
 tick-true true e = refl
 tick-true false e = absurd (omega arith)
 

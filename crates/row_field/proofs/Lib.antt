@@ -5,5 +5,7 @@ pub mod Marks
 pub mod Loops
 pub mod Counts
 pub mod Fronts
+pub mod LowestClear
 pub mod ByteRows
 pub mod RunRows
+pub mod FirstClear

@@ -74,3 +74,8 @@ rowsOf f = rowsFrom f 0 (length f * 8)
 -- how many rows below n are set in f
 abbrev pub count : List ℕ → ℕ → ℕ
 count f n = length (rowsFrom f 0 n)
+
+-- the first of the k rows from a on that is not set in f, and the row behind them where all are set
+unfoldable pub firstClear : List ℕ → ℕ → ℕ → ℕ
+firstClear f a zero = a
+firstClear f a (suc k) = cond (bit f a) (firstClear f (a + 1) k) a

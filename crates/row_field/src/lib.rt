@@ -1,9 +1,10 @@
 // Row fields (document 01): a field for n rows is the first ceil(n/8) bytes of a lent buffer, row r the bit of weight 2^(r mod 8) in byte r/8.
 ghost use mathlib.Core.Path.{_≡_};
-ghost use Prim.Native.Nat.{_+_, _-_, _*_, _%_, _^_, _<_, _≤_, min};
+ghost use Prim.Native.Nat.{ℕ, _+_, _-_, _*_, _%_, _^_, _<_, _≤_, min};
+ghost use mathlib.Core.Bool.{true};
 ghost use lib.Dec.{leb};
 ghost use lib.ListN.{length};
-ghost use Rattle.row_field.specs.Meaning.{size, bit, cleared, upTo, rowsOf};
+ghost use Rattle.row_field.specs.Meaning.{size, bit, cleared, upTo, rowsOf, firstClear};
 ghost use Rattle.row_field.specs.Meaning as meaning;
 ghost use Rattle.row_field.specs.Promises.{byteRows, MarkedRows, MarkedInTurn};
 use numbers::Position;
@@ -207,4 +208,35 @@ pub fn count(field: &[u8], rows: u64) -> u64
         return total + u8::count_ones(last) as u64;
     }
     total
+}
+
+// How many of the bytes before `end` come before the first that is not full.
+fn full_bytes(field: &[u8], end: Position) -> usize
+    requires { ⌜ end .0 ≤ length (now field) ⌝ }
+    ensures { λ n. ⌜ (n ≤ end .0) × ((r : ℕ) → r < n * 8 → bit (now (field .entry)) r ≡ true) ⌝ }
+{
+    let stop = end.0;
+    let mut i = 0;
+    while i < stop {
+        if field[i] != 255 {
+            return i;
+        }
+        i += 1;
+    }
+    stop
+}
+
+// The lowest row below `rows` that is not set, and `rows` where all are set. Full bytes are passed over at once.
+pub fn first_clear(field: &[u8], rows: u64) -> Row
+    ensures { λ r. ⌜ r .0 ≡ firstClear (now (field .entry)) 0 rows ⌝ }
+{
+    let whole = smaller(rows / 8, field.len() as u64) as usize;
+    let mut row = full_bytes(field, Position(whole)) as u64 * 8;
+    while row < rows {
+        if !bit_at(field, row) {
+            return Row(row);
+        }
+        row += 1;
+    }
+    Row(rows)
 }

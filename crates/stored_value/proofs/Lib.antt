@@ -5,3 +5,4 @@ pub mod Laws
 pub mod Steps
 pub mod Entering
 pub mod Order
+pub mod CarriesNothing

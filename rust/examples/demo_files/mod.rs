@@ -1,8 +1,10 @@
-//! The files of `demo/`, made from one table of telemetry. The example `make_demo` writes them, and the test `demo` compares them with
-//! those in the repository.
+//! The files of `demo/`, made from the telemetry of two data files: three pumps for eight minutes, and one pump for a day. The example
+//! `make_demo` writes them, and the test `demo` compares them with those in the repository.
+
+use std::ops::Range;
 
 use reference::types;
-use reference::writer::{bitmap, body, deletion_file, index_file, BitmapForm, Column, Groups, Layout};
+use reference::writer::{bitmap, body, body_traced, deletion_file, index_file, BitmapForm, Column, Groups, Layout, Traced};
 
 /// State and alarm of a pump at one time; an alarm that the pump didn't report is null.
 pub type Sample = (&'static str, Option<bool>);
@@ -31,6 +33,21 @@ pub const DELETED_ELSEWHERE: [u32; 2] = [7, 31];
 /// A sample of the state `fault`, which the damaged files have lost or doubled.
 const FAULT_ROW: u32 = 16;
 
+/// The seconds of a day: one sample each, of one pump, and more than the 65,536 rows of a container.
+pub const DAY: u32 = 86_400;
+
+/// The states of that pump in stored order, and when it is in each. All of them have rows in both containers.
+pub const DAY_STATES: [(&str, &[Range<u32>]); 3] = [
+    ("fault", &[at(10, 3)..at(10, 6), at(19, 30)..at(19, 35)]),
+    ("idle", &[0..at(6, 0), at(20, 0)..DAY]),
+    ("running", &[at(6, 0)..at(10, 3), at(10, 6)..at(19, 30), at(19, 35)..at(20, 0)]),
+];
+
+/// The second of the day at which a minute begins.
+const fn at(hour: u32, minute: u32) -> u32 {
+    60 * (60 * hour + minute)
+}
+
 /// The column `state`, a STRING.
 pub fn state() -> Column {
     let cells: Vec<Option<&str>> = SAMPLES.iter().flatten().map(|(state, _)| Some(*state)).collect();
@@ -52,6 +69,7 @@ pub fn files() -> Vec<(&'static str, Vec<u8>)> {
         ("pumps-v2.index", pumps(&states, &alarms, 2)),
         ("pumps-row-lost.index", pumps(&row_lost(states.clone()), &alarms, 1)),
         ("pumps-row-doubled.index", pumps(&row_doubled(states), &alarms, 2)),
+        ("day-broken.index", index_file(&[("state", "bitmap", &broken(day()))])),
         ("pumps.deletions", deletion_file(&deletions)),
     ]
 }
@@ -73,6 +91,23 @@ fn row_doubled(mut states: Groups) -> Groups {
     running.push(FAULT_ROW);
     running.sort_unstable();
     states
+}
+
+/// The body of the day, version 2, two blocks.
+pub fn day() -> Traced {
+    let rows = |seconds: &[Range<u32>]| seconds.iter().cloned().flatten().collect();
+    let values = DAY_STATES.iter().map(|(state, seconds)| (state.as_bytes().to_vec(), rows(seconds))).collect();
+    let groups = Groups { ty: types::STRING, rows: DAY, nulls: Vec::new(), values };
+    body_traced(&groups, &Layout::version(2).with_form(BitmapForm::Smallest).with_blocks_of(2))
+}
+
+/// The lowest bit of the last run of `idle` flips: the run, in the second container, has a row less than the container's header says.
+fn broken(mut day: Traced) -> Vec<u8> {
+    // Two containers of runs for each state, in stored order.
+    let runs = day.fields.iter().filter(|field| field.name == "runs").nth(3).expect("the second container of the second state");
+    // A run is its start and its length less 1, two bytes each.
+    day.bytes[runs.at + runs.width - 2] ^= 1;
+    day.bytes
 }
 
 fn rows_of<'a>(states: &'a mut Groups, state: &str) -> &'a mut Vec<u32> {

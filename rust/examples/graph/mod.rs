@@ -38,7 +38,7 @@ pub fn in_fault_as_it_stands(index: &[u8]) -> Option<Vec<u64>> {
         at += 4 + length + 4;
     }
     let mut field = [0; (PUMPS * MINUTES / 8) as usize];
-    Bitmap::parse(body.get(at + place?..)?)?.place(&mut field);
+    Bitmap::parse(body.get(at + place?..)?).ok()?.place(&mut field);
     Some((0..PUMPS * MINUTES).filter(|row| field[*row as usize / 8] >> (row % 8) & 1 == 1).collect())
 }
 

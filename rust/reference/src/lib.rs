@@ -16,12 +16,12 @@
 //!
 //! let mut field = [0];
 //! let asked = literals(STRING, &["on"]);
-//! assert_eq!(reader::ask_file(&[], &file, b"state", b"bitmap", STRING, EQUAL, &asked, &mut field), (0, 2));
+//! assert_eq!(reader::ask_file(&[], &file, b"state", b"bitmap", STRING, EQUAL, &asked, &mut field), (0, 2, reader::NO_FAULT));
 //! assert_eq!((field.to_vec(), 2), scan(&column, EQUAL, &["on"]));
 //!
 //! let deletions = deletion_file(&[bitmap(&[3], &BitmapForm::Smallest)]);
 //! let mut deleted = [0];
-//! assert_eq!(reader::read_deletions(&deletions, 0, 4, &mut deleted), (0, 1));
+//! assert_eq!(reader::read_deletions(&deletions, 0, 4, &mut deleted), (0, 1, reader::NO_FAULT));
 //! assert_eq!(reader::subtract(&mut field, &deleted, 4), (0, 1, 1));
 //! assert_eq!(field, [0b0001]);
 //! ```

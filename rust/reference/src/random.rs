@@ -430,17 +430,19 @@ pub fn list_twice(random: &mut Random, columns: &mut Vec<IndexedColumn>, column:
 /// A bitmap whose counts and offsets fit its containers, as a rule. Keys may be equal, rows out of order, runs overlapping
 /// or too long, cardinalities, offsets and flags wrong, each now and then.
 pub fn near_bitmap(random: &mut Random) -> Vec<u8> {
+    /// Containers whose flags fill two bytes and a part of a third.
+    const MANY: usize = 20;
     let with_runs = random.percent(60);
-    let count = random.between(1, 6);
+    let count = if random.percent(5) { MANY } else { random.between(1, 6) };
     let fault = *random.pick(&[0, 1, 4]);
     let mut key = random.below(3) as u16;
-    let mut flags = 0u8;
+    let mut flags = vec![0u8; count.div_ceil(8)];
     let mut headers: Vec<u8> = Vec::new();
     let mut containers: Vec<Vec<u8>> = Vec::new();
     for i in 0..count {
         let (mut cardinality, bytes) = match random.below(5) {
             0..=1 if with_runs => {
-                flags |= 1 << i;
+                flags[i / 8] |= 1 << (i % 8);
                 near_runs(random, fault)
             }
             2 => near_bits(random, fault),
@@ -455,13 +457,14 @@ pub fn near_bitmap(random: &mut Random) -> Vec<u8> {
         key = if random.percent(fault) { key.saturating_sub(random.below(2) as u16) } else { key + random.between(1, 2) as u16 };
     }
     if random.percent(fault) {
-        flags |= 1 << random.below(8);
+        let flag = random.below(8 * flags.len());
+        flags[flag / 8] |= 1 << (flag % 8);
     }
 
     let mut out: Vec<u8> = Vec::new();
     if with_runs {
         out.extend((12347 | (count as u32 - 1) << 16).to_le_bytes());
-        out.push(flags);
+        out.extend(&flags);
     } else {
         out.extend(12346u32.to_le_bytes());
         out.extend((count as u32).to_le_bytes());
@@ -677,10 +680,7 @@ pub fn break_groups(random: &mut Random, groups: &mut Groups) {
 }
 
 fn some_rows<'a>(random: &mut Random, groups: &'a mut Groups) -> &'a mut Vec<u32> {
-    match random.below(groups.values.len() + 1) {
-        0 => &mut groups.nulls,
-        i => &mut groups.values[i - 1].1,
-    }
+    groups.rows_of(random.below(groups.values.len() + 1))
 }
 
 /// The bytes with one or two changes at fields of their structure.

@@ -1,36 +1,62 @@
 //! The calls: Locate, Audit, Ask, Ask of a file, Read deletions and Subtract.
 //!
 //! Each answers a number first: 0 accepted, 255 ABSENT (Locate and Ask of a file alone), otherwise a refusal's number.
-//! Counts, start and length are 0 with any answer but 0.
+//! Counts, start and length are 0 with any answer but 0. The calls that read bitmaps end with where a refusal's cause is.
 
 use std::cmp::Ordering;
 use std::collections::HashSet;
 
 use crate::crc32::crc32;
-use crate::roaring::{count_ones, Bitmap};
+use crate::roaring::{count_ones, Bitmap, Broken};
 use crate::types::{self, Width};
 
 pub const ACCEPTED: u8 = 0;
 pub const ABSENT: u8 = 255;
 
-/// Why a call refused, with its number.
+/// Where the cause of a refusal is: entry, container and row, 0 in each that the refusal doesn't carry.
+pub type Fault = [u64; 3];
+
+pub const NO_FAULT: Fault = [0; 3];
+
+/// Why a call refused. Entries are numbered in stored order, null's as 0 and the values' from 1; containers and rows from 0.
 #[derive(Clone, Copy, Debug, PartialEq, Eq)]
-#[repr(u8)]
-pub enum Refusal {
-    Short = 1,
-    Magic = 2,
-    Version = 3,
-    Head = 4,
-    Dict = 5,
-    Bitmap = 6,
-    Range = 7,
-    Twice = 8,
-    Missing = 9,
-    Room = 10,
-    Literal = 11,
-    Limit = 12,
-    Checksum = 13,
-    NoBin = 14,
+enum Refusal {
+    Short,
+    Magic,
+    Version,
+    Head,
+    Dict,
+    Bitmap { entry: u64, container: u64 },
+    Range { entry: u64 },
+    Twice { entry: u64 },
+    Missing { row: u64 },
+    Room,
+    Literal,
+    Limit,
+    Checksum,
+    NoBin,
+}
+
+impl Refusal {
+    /// Its number and its fault.
+    fn said(self) -> (u8, Fault) {
+        match self {
+            Refusal::Short => (1, NO_FAULT),
+            Refusal::Magic => (2, NO_FAULT),
+            Refusal::Version => (3, NO_FAULT),
+            Refusal::Head => (4, NO_FAULT),
+            Refusal::Dict => (5, NO_FAULT),
+            Refusal::Bitmap { entry, container } => (6, [entry, container, 0]),
+            Refusal::Range { entry } => (7, [entry, 0, 0]),
+            Refusal::Twice { entry } => (8, [entry, 0, 0]),
+            Refusal::Missing { row } => (9, [0, 0, row]),
+            Refusal::Room => (10, NO_FAULT),
+            Refusal::Literal => (11, NO_FAULT),
+            Refusal::Limit => (12, NO_FAULT),
+            Refusal::Checksum => (13, NO_FAULT),
+            Refusal::NoBin => (14, NO_FAULT),
+        }
+    }
 }
 
 /// The most bytes of an input buffer, and the most rows.
@@ -48,6 +74,8 @@ const SHORTEST_HEAD: usize = 24;
 
 const DELETION_VERSION: u8 = 1;
 const BIN_MAGIC: u32 = 1_581_511_376;
+/// The entry that a fault in a bin names: it has none.
+const BIN_ENTRY: u64 = 0;
 
 /// Finds the index of kind `kind` on column `column`: answer, start and length in the buffer that was looked at.
 pub fn locate(embedded: &[u8], file: &[u8], column: &[u8], kind: &[u8]) -> (u8, u64, u64) {
@@ -55,21 +83,21 @@ pub fn locate(embedded: &[u8], file: &[u8], column: &[u8], kind: &[u8]) -> (u8, 
     match locate_in(file, column, kind) {
         Ok(Some((start, length))) => (ACCEPTED, start as u64, length as u64),
         Ok(None) => (ABSENT, 0, 0),
-        Err(refusal) => (refusal as u8, 0, 0),
+        Err(refusal) => (refusal.said().0, 0, 0),
     }
 }
 
-/// Whether the body gives every row exactly one place: answer and row count. The field is left zero from ROOM on.
-pub fn audit(body: &[u8], ty: u32, field: &mut [u8]) -> (u8, u64) {
+/// Whether the body gives every row exactly one place: answer, row count and fault. The field is left zero from ROOM on.
+pub fn audit(body: &[u8], ty: u32, field: &mut [u8]) -> (u8, u64, Fault) {
     counted(try_audit(body, ty, field))
 }
 
-/// Audits the body and sets the rows that the question chooses: answer and their count.
-pub fn ask(body: &[u8], ty: u32, question: u32, literals: &[u8], field: &mut [u8]) -> (u8, u64) {
+/// Audits the body and sets the rows that the question chooses: answer, their count, and fault.
+pub fn ask(body: &[u8], ty: u32, question: u32, literals: &[u8], field: &mut [u8]) -> (u8, u64, Fault) {
     counted(try_ask(body, ty, question, literals, field))
 }
 
-/// Locates the index, then asks its body: answer and count. Without a body the field is left alone.
+/// Locates the index, then asks its body: answer, count and fault. Without a body the field is left alone.
 #[allow(clippy::too_many_arguments)]
 pub fn ask_file(
     embedded: &[u8],
@@ -80,18 +108,18 @@ pub fn ask_file(
     question: u32,
     literals: &[u8],
     field: &mut [u8],
-) -> (u8, u64) {
+) -> (u8, u64, Fault) {
     match locate(embedded, file, column, kind) {
         (ACCEPTED, start, length) => {
             let looked_at = if embedded.is_empty() { file } else { embedded };
             ask(&looked_at[start as usize..][..length as usize], ty, question, literals, field)
         }
-        (answer, ..) => (answer, 0),
+        (answer, ..) => (answer, 0, NO_FAULT),
     }
 }
 
-/// Sets the rows of one bin of a deletion file: answer and their count.
-pub fn read_deletions(file: &[u8], bin: u64, rows: u64, field: &mut [u8]) -> (u8, u64) {
+/// Sets the rows of one bin of a deletion file: answer, their count, and fault.
+pub fn read_deletions(file: &[u8], bin: u64, rows: u64, field: &mut [u8]) -> (u8, u64, Fault) {
     counted(try_read_deletions(file, bin, rows, field))
 }
 
@@ -99,14 +127,17 @@ pub fn read_deletions(file: &[u8], bin: u64, rows: u64, field: &mut [u8]) -> (u8
 pub fn subtract(first: &mut [u8], second: &[u8], rows: u64) -> (u8, u64, u64) {
     match try_subtract(first, second, rows) {
         Ok((left, removed)) => (ACCEPTED, left, removed),
-        Err(refusal) => (refusal as u8, 0, 0),
+        Err(refusal) => (refusal.said().0, 0, 0),
     }
 }
 
-fn counted(result: Result<u64, Refusal>) -> (u8, u64) {
+fn counted(result: Result<u64, Refusal>) -> (u8, u64, Fault) {
     match result {
-        Ok(count) => (ACCEPTED, count),
-        Err(refusal) => (refusal as u8, 0),
+        Ok(count) => (ACCEPTED, count, NO_FAULT),
+        Err(refusal) => {
+            let (number, fault) = refusal.said();
+            (number, 0, fault)
+        }
     }
 }
 
@@ -269,8 +300,9 @@ fn read_literals(bytes: &[u8], ty: u32, width: Width) -> Result<Vec<&[u8]>, Refu
 /// What a body says before its bitmaps.
 struct Dictionary<'a> {
     rows: u64,
-    /// Null's entry first, if there is one, then the values in stored order.
-    entries: Vec<Entry<'a>>,
+    null: Option<Entry<'a>>,
+    /// In stored order.
+    values: Vec<Entry<'a>>,
     bitmaps: &'a [u8],
 }
 
@@ -300,18 +332,22 @@ impl<'a> Dictionary<'a> {
             1 => true,
             _ => return Err(Refusal::Dict),
         };
-        let mut entries = Vec::new();
+        let mut null = None;
         if has_null {
             let offset = input.i32()?;
             let length = if version == 2 { input.i32()? } else { OPEN_LENGTH };
-            entries.push(Entry { value: None, offset, length });
+            null = Some(Entry { value: None, offset, length });
         }
-        if version == 1 {
-            read_entries_v1(&mut input, ty, width, values, &mut entries)?;
-        } else {
-            read_entries_v2(&mut input, ty, width, values, &mut entries)?;
-        }
-        Ok(Dictionary { rows, entries, bitmaps: input.rest() })
+        let values = match version {
+            1 => read_entries_v1(&mut input, ty, width, values)?,
+            _ => read_entries_v2(&mut input, ty, width, values)?,
+        };
+        Ok(Dictionary { rows, null, values, bitmaps: input.rest() })
+    }
+
+    /// Each entry with its number: null's, if there is one, is 0; the values' are 1 and on, whether there is a null or not.
+    fn numbered(&self) -> impl Iterator<Item = (u64, &Entry<'a>)> {
+        self.null.iter().map(|null| (0, null)).chain((1..).zip(&self.values))
     }
 
     /// Gives every row its place in the field, and hands back the rows of the entries that were asked for.
@@ -319,13 +355,13 @@ impl<'a> Dictionary<'a> {
         field.fill(0);
         let mut kept = Vec::new();
         let mut placed = 0;
-        for entry in &self.entries {
-            let rows = self.entry_rows(entry)?;
+        for (number, entry) in self.numbered() {
+            let rows = self.entry_rows(entry).map_err(|broken| bitmap_refusal(number, broken))?;
             if rows.last().is_some_and(|last| u64::from(last) >= self.rows) {
-                return Err(Refusal::Range);
+                return Err(Refusal::Range { entry: number });
             }
             if !rows.place(field) {
-                return Err(Refusal::Twice);
+                return Err(Refusal::Twice { entry: number });
             }
             placed += rows.count();
             if wanted(entry) {
@@ -334,22 +370,35 @@ impl<'a> Dictionary<'a> {
         }
         // No row is outside the field and none is there twice, so the number tells whether one is missing.
         if placed != self.rows {
-            return Err(Refusal::Missing);
+            return Err(Refusal::Missing { row: first_clear(field) });
         }
         Ok(kept)
     }
 
-    fn entry_rows(&self, entry: &Entry) -> Result<EntryRows<'a>, Refusal> {
+    /// The rows of an entry, or the container that is broken in its bitmap.
+    fn entry_rows(&self, entry: &Entry) -> Result<EntryRows<'a>, Broken> {
         let Ok(offset) = usize::try_from(entry.offset) else {
             return Ok(EntryRows::One((-1 - entry.offset) as u32));
         };
-        let bytes = self.bitmaps.get(offset..).ok_or(Refusal::Bitmap)?;
-        let bitmap = Bitmap::parse(bytes).ok_or(Refusal::Bitmap)?;
-        if entry.length != OPEN_LENGTH && usize::try_from(entry.length) != Ok(bitmap.size()) {
-            return Err(Refusal::Bitmap);
-        }
+        let bytes = self.bitmaps.get(offset..).ok_or(Broken::IN_FRONT)?;
+        let bitmap = if entry.length == OPEN_LENGTH {
+            Bitmap::parse(bytes)?
+        } else {
+            let length = usize::try_from(entry.length).map_err(|_| Broken::IN_FRONT)?;
+            Bitmap::parse_whole(bytes.get(..length).ok_or(Broken::IN_FRONT)?)?
+        };
         Ok(EntryRows::Many(bitmap))
     }
+}
+
+fn bitmap_refusal(entry: u64, Broken(container): Broken) -> Refusal {
+    Refusal::Bitmap { entry, container: container as u64 }
+}
+
+/// The lowest row that isn't set, of a field in which one isn't.
+fn first_clear(field: &[u8]) -> u64 {
+    let byte = field.iter().take_while(|byte| **byte == 0xFF).count();
+    8 * byte as u64 + u64::from(field[byte].trailing_ones())
 }
 
 /// The rows of one entry.
@@ -388,15 +437,9 @@ impl EntryRows<'_> {
     }
 }
 
-fn read_entries_v1<'a>(
-    input: &mut Input<'a>,
-    ty: u32,
-    width: Width,
-    values: usize,
-    entries: &mut Vec<Entry<'a>>,
-) -> Result<(), Refusal> {
+fn read_entries_v1<'a>(input: &mut Input<'a>, ty: u32, width: Width, values: usize) -> Result<Vec<Entry<'a>>, Refusal> {
     let mut seen = HashSet::with_capacity(values);
-    entries.reserve(values);
+    let mut entries = Vec::with_capacity(values);
     for _ in 0..values {
         let value = input.value(ty, width)?;
         if !seen.insert(value) {
@@ -404,16 +447,10 @@ fn read_entries_v1<'a>(
         }
         entries.push(Entry { value: Some(value), offset: input.i32()?, length: OPEN_LENGTH });
     }
-    Ok(())
+    Ok(entries)
 }
 
-fn read_entries_v2<'a>(
-    input: &mut Input<'a>,
-    ty: u32,
-    width: Width,
-    values: usize,
-    entries: &mut Vec<Entry<'a>>,
-) -> Result<(), Refusal> {
+fn read_entries_v2<'a>(input: &mut Input<'a>, ty: u32, width: Width, values: usize) -> Result<Vec<Entry<'a>>, Refusal> {
     let blocks = input.count_up_to(MAX_BLOCKS)?;
     if (blocks == 0) != (values == 0) {
         return Err(Refusal::Dict);
@@ -428,7 +465,7 @@ fn read_entries_v2<'a>(
     let is_here = |offset: i32, input: &Input| usize::try_from(offset) == Ok(input.at - blocks_start);
     let mut total = 0;
     let mut previous: Option<&[u8]> = None;
-    entries.reserve(values);
+    let mut entries = Vec::with_capacity(values);
     for (first, offset) in directory {
         if !is_here(offset, input) {
             return Err(Refusal::Dict);
@@ -453,7 +490,7 @@ fn read_entries_v2<'a>(
     if !is_here(bitmaps_offset, input) || total != values {
         return Err(Refusal::Dict);
     }
-    Ok(())
+    Ok(entries)
 }
 
 // Read deletions
@@ -467,7 +504,7 @@ fn try_read_deletions(file: &[u8], bin: u64, rows: u64, buffer: &mut [u8]) -> Re
     field.fill(0);
     let bitmap = bin_bitmap(file, bin)?;
     if bitmap.last_row().is_some_and(|last| u64::from(last) >= rows) {
-        return Err(Refusal::Range);
+        return Err(Refusal::Range { entry: BIN_ENTRY });
     }
     bitmap.place(field);
     Ok(bitmap.cardinality())
@@ -501,7 +538,7 @@ fn bin_bitmap(file: &[u8], asked: u64) -> Result<Bitmap<'_>, Refusal> {
     if crc32(bin) != checksum {
         return Err(Refusal::Checksum);
     }
-    Bitmap::parse(bitmap).filter(|parsed| parsed.size() == bitmap.len()).ok_or(Refusal::Bitmap)
+    Bitmap::parse_whole(bitmap).map_err(|broken| bitmap_refusal(BIN_ENTRY, broken))
 }
 
 // Subtract

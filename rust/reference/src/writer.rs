@@ -56,6 +56,14 @@ pub struct Groups {
 }
 
 impl Groups {
+    /// The rows of null, entry 0, or of a value, 1 and on.
+    pub fn rows_of(&mut self, entry: usize) -> &mut Vec<u32> {
+        match entry {
+            0 => &mut self.nulls,
+            _ => &mut self.values[entry - 1].1,
+        }
+    }
+
     /// Adds a value that no row has, unless it is there already.
     pub fn add_unused(&mut self, value: Vec<u8>) {
         let ty = self.ty;

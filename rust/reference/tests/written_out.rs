@@ -1,6 +1,6 @@
 //! The files that document 01 writes out.
 
-use reference::reader::{ask, audit, locate, read_deletions, subtract};
+use reference::reader::{ask, audit, locate, read_deletions, subtract, NO_FAULT};
 use reference::types::*;
 use reference::writer::{bitmap, body_of, deletion_file, index_file, BitmapForm, Column, ContainerForm, Layout};
 
@@ -44,7 +44,7 @@ fn small_version_2_is_written() {
 fn small_questions() {
     for body in [hex(VERSION_1), hex(VERSION_2)] {
         let mut field = [0xAA, 0xBB];
-        assert_eq!(audit(&body, TINYINT, &mut field), (0, 3));
+        assert_eq!(audit(&body, TINYINT, &mut field), (0, 3, NO_FAULT));
         assert_eq!(field, [0x00, 0xBB]);
         for (question, literals, bits, count) in [
             (EQUAL, vec![7], 0x01, 1),
@@ -57,11 +57,11 @@ fn small_questions() {
             (IS_NOT_NULL, vec![], 0x03, 2),
         ] {
             let mut field = [0xAA, 0xBB];
-            assert_eq!(ask(&body, TINYINT, question, &literals, &mut field), (0, count));
+            assert_eq!(ask(&body, TINYINT, question, &literals, &mut field), (0, count, NO_FAULT));
             assert_eq!(field, [bits, 0xBB]);
         }
         let mut none = [];
-        assert_eq!(audit(&body, TINYINT, &mut none), (10, 0));
+        assert_eq!(audit(&body, TINYINT, &mut none), (10, 0, NO_FAULT));
     }
 }
 
@@ -77,24 +77,24 @@ fn small_bitmaps() {
 
     let file = deletion_file(&[array, run]);
     let mut field = [0xFF, 0xFF];
-    assert_eq!(read_deletions(&file, 0, 6, &mut field), (0, 3));
+    assert_eq!(read_deletions(&file, 0, 6, &mut field), (0, 3, NO_FAULT));
     assert_eq!(field, [0x25, 0xFF]);
-    assert_eq!(read_deletions(&file, 1, 6, &mut field), (0, 4));
+    assert_eq!(read_deletions(&file, 1, 6, &mut field), (0, 4, NO_FAULT));
     assert_eq!(field, [0x1E, 0xFF]);
-    assert_eq!(read_deletions(&file, 1, 4, &mut field), (7, 0));
+    assert_eq!(read_deletions(&file, 1, 4, &mut field), (7, 0, NO_FAULT));
     assert_eq!(field, [0x00, 0xFF]);
-    assert_eq!(read_deletions(&file, 2, 6, &mut field), (14, 0));
-    assert_eq!(read_deletions(&[], 0, 6, &mut field), (1, 0));
+    assert_eq!(read_deletions(&file, 2, 6, &mut field), (14, 0, NO_FAULT));
+    assert_eq!(read_deletions(&[], 0, 6, &mut field), (1, 0, NO_FAULT));
 }
 
 #[test]
 fn single_rows() {
     let body = hex("01 00 00 00 01 00 00 00 01 00 07 FF FF FF FF");
     let mut field = [0xFF];
-    assert_eq!(ask(&body, TINYINT, EQUAL, &[7], &mut field), (0, 1));
+    assert_eq!(ask(&body, TINYINT, EQUAL, &[7], &mut field), (0, 1, NO_FAULT));
     assert_eq!(field, [0x01]);
     let body = hex("01 00 00 00 01 00 00 00 01 00 07 80 00 00 00");
-    assert_eq!(audit(&body, TINYINT, &mut field), (7, 0));
+    assert_eq!(audit(&body, TINYINT, &mut field), (7, 0, [1, 0, 0]));
     assert_eq!(field, [0x00]);
 }
 
@@ -106,10 +106,10 @@ fn events() {
         let body = body_of(&column, &Layout::version(version));
         let mut field = [0xFF];
         let asked = literals(STRING, &["login", "purchase"]);
-        assert_eq!(ask(&body, STRING, IN, &asked, &mut field), (0, 4));
+        assert_eq!(ask(&body, STRING, IN, &asked, &mut field), (0, 4, NO_FAULT));
         assert_eq!(field, [0b10_1101]);
         let asked = literals(STRING, &["login"]);
-        assert_eq!(ask(&body, STRING, NOT_IN, &asked, &mut field), (0, 3));
+        assert_eq!(ask(&body, STRING, NOT_IN, &asked, &mut field), (0, 3, NO_FAULT));
         assert_eq!(field, [0b01_1010]);
     }
 }
@@ -119,8 +119,8 @@ fn zero_rows() {
     for version in [1, 2] {
         let body = body_of(&Column::new(INT, Vec::new()), &Layout::version(version));
         let mut field = [0x5A];
-        assert_eq!(audit(&body, INT, &mut field), (0, 0));
-        assert_eq!(ask(&body, INT, NOT_IN, &[], &mut field), (0, 0));
+        assert_eq!(audit(&body, INT, &mut field), (0, 0, NO_FAULT));
+        assert_eq!(ask(&body, INT, NOT_IN, &[], &mut field), (0, 0, NO_FAULT));
         assert_eq!(field, [0x5A]);
     }
 }
@@ -132,19 +132,19 @@ fn array_up_to_4096_rows() {
     assert_eq!(stored.len(), 16 + 2 * 4096);
     let mut field = [0; 1025];
     let file = deletion_file(&[stored]);
-    assert_eq!(read_deletions(&file, 0, 8193, &mut field), (0, 4096));
+    assert_eq!(read_deletions(&file, 0, 8193, &mut field), (0, 4096, NO_FAULT));
 
     let rows: Vec<u32> = (0..4097).map(|row| 2 * row).collect();
     let stored = bitmap(&rows, &BitmapForm::WithoutRuns);
     assert_eq!(stored.len(), 16 + 8192);
     let file = deletion_file(&[stored]);
-    assert_eq!(read_deletions(&file, 0, 8193, &mut field), (0, 4097));
+    assert_eq!(read_deletions(&file, 0, 8193, &mut field), (0, 4097, NO_FAULT));
 
     // 4,097 rows as an array: the header's cardinality promises bits.
     let mut stored = hex("3A 30 00 00 01 00 00 00 00 00 00 10 10 00 00 00");
     stored.extend(rows.iter().flat_map(|row| (*row as u16).to_le_bytes()));
     let file = deletion_file(&[stored]);
-    assert_eq!(read_deletions(&file, 0, 8193, &mut field), (6, 0));
+    assert_eq!(read_deletions(&file, 0, 8193, &mut field), (6, 0, NO_FAULT));
 }
 
 #[test]
@@ -155,4 +155,57 @@ fn subtraction() {
     assert_eq!(subtract(&mut first, &[0xFF], 12), (10, 0, 0));
     assert_eq!(subtract(&mut first, &[0xFF; 2], 1 << 31), (12, 0, 0));
     assert_eq!(first, [0xF0, 0xF0, 0x77]);
+}
+
+/// The small body with one byte changed: the entry, the container, the row.
+#[test]
+fn faults_of_the_small_body() {
+    for (at, byte, answer, fault) in [
+        (4, 4, 9, [0, 0, 3]),
+        (4, 2, 7, [0, 0, 0]),
+        (10, 0, 6, [0, 0, 0]),
+        (15, 0, 6, [1, 0, 0]),
+        (18, 0xFC, 7, [1, 0, 0]),
+        (18, 0xFD, 8, [1, 0, 0]),
+        (20, 0, 6, [2, 0, 0]),
+        (23, 0xFC, 7, [2, 0, 0]),
+        (23, 0xFF, 8, [2, 0, 0]),
+        (19, 7, 5, NO_FAULT),
+    ] {
+        let mut body = hex(VERSION_1);
+        body[at] = byte;
+        assert_eq!(audit(&body, TINYINT, &mut [0]), (answer, 0, fault), "byte {at}");
+        assert_eq!(ask(&body, TINYINT, EQUAL, &[7], &mut [0]), (answer, 0, fault), "byte {at}");
+    }
+}
+
+/// Rows 5 and 65,542 as two arrays without offsets, changed, cut and made longer: the container.
+#[test]
+fn faults_of_two_containers() {
+    let sound = "3B 30 01 00 00 00 00 00 00 01 00 00 00 05 00 06 00";
+    for (text, container) in [
+        ("", 0),
+        ("3B 30 01", 0),
+        ("3C 30 01 00 00 00 00 00 00 01 00 00 00 05 00 06 00", 0),
+        ("3B 30 01 00 04 00 00 00 00 01 00 00 00 05 00 06 00", 0),
+        ("3B 30 01 00 00 00 00 00 00 01 00 00", 0),
+        ("3B 30 01 00 00 00 00 00 00 01 00 00 00", 0),
+        ("3B 30 01 00 00 00 00 00 00 01 00 00 00 05", 0),
+        ("3B 30 01 00 00 00 00 00 00 01 00 00 00 05 00", 1),
+        ("3B 30 01 00 00 00 00 00 00 01 00 00 00 05 00 06", 1),
+        ("3B 30 01 00 00 00 00 00 00 00 00 00 00 05 00 06 00", 1),
+        ("3B 30 01 00 00 01 00 00 00 01 00 00 00 05 00 06 00", 1),
+        ("3B 30 01 00 00 00 00 00 00 01 00 01 00 05 00 06 00", 1),
+        ("3B 30 01 00 00 00 00 01 00 01 00 00 00 05 00 05 00", 0),
+        ("3B 30 01 00 00 00 00 01 00 01 00 00 00 05 00 06 00", 1),
+        ("3B 30 01 00 01 00 00 00 00 01 00 00 00 00 00 06 00", 0),
+        ("3B 30 01 00 00 00 00 00 00 01 00 00 00 05 00 06 00 00", 2),
+        ("3A 30 00 00 00 00 00 00 00", 0),
+    ] {
+        let file = deletion_file(&[hex(text)]);
+        assert_eq!(read_deletions(&file, 0, 65_543, &mut [0; 8_193]), (6, 0, [0, container, 0]), "{text}");
+    }
+    let file = deletion_file(&[hex(sound)]);
+    assert_eq!(read_deletions(&file, 0, 65_543, &mut [0; 8_193]), (0, 2, NO_FAULT));
+    assert_eq!(read_deletions(&file, 0, 65_542, &mut [0; 8_193]), (7, 0, NO_FAULT));
 }

@@ -60,7 +60,7 @@ pub fn several_containers(both: &mut Comparison, random: &mut Random) {
     }
     for _ in 0..3 {
         let entry = random.below(groups.values.len() + 1);
-        let of_entry = rows_of(&mut groups.clone(), entry).clone();
+        let of_entry = groups.clone().rows_of(entry).clone();
         if of_entry.is_empty() {
             continue;
         }
@@ -90,14 +90,6 @@ fn of_bitmaps(traced: &Traced) -> Traced {
     Traced { bytes: traced.bytes.clone(), fields }
 }
 
-/// The rows of null, entry 0, or of a value.
-fn rows_of(groups: &mut Groups, entry: usize) -> &mut Vec<u32> {
-    match entry {
-        0 => &mut groups.nulls,
-        _ => &mut groups.values[entry - 1].1,
-    }
-}
-
 fn insert(rows: &mut Vec<u32>, row: u32) {
     if let Err(at) = rows.binary_search(&row) {
         rows.insert(at, row);
@@ -116,16 +108,16 @@ fn change(random: &mut Random, groups: &Groups, entry: usize, row: u32) -> (Grou
     let other = (entry + random.between(1, groups.values.len())) % (groups.values.len() + 1);
     let answer = match random.below(5) {
         0 => {
-            remove(rows_of(&mut said, entry), row);
+            remove(said.rows_of(entry), row);
             MISSING
         }
         1 => {
-            insert(rows_of(&mut said, other), row);
+            insert(said.rows_of(other), row);
             TWICE
         }
         2 => move_row(&mut said, entry, other, row),
         3 => {
-            insert(rows_of(&mut said, entry), groups.rows);
+            insert(said.rows_of(entry), groups.rows);
             RANGE
         }
         _ => {
@@ -139,8 +131,8 @@ fn change(random: &mut Random, groups: &Groups, entry: usize, row: u32) -> (Grou
 /// The entry loses the row and has one of the other's instead, so that the number of rows is right and a row is there twice; where the
 /// other has none, the row is only lost.
 fn move_row(said: &mut Groups, entry: usize, other: usize, row: u32) -> u8 {
-    let others = rows_of(said, other).clone();
-    let rows = rows_of(said, entry);
+    let others = said.rows_of(other).clone();
+    let rows = said.rows_of(entry);
     remove(rows, row);
     match others.get(others.partition_point(|other| *other < row)).or(others.last()) {
         Some(doubled) => {
@@ -244,7 +236,7 @@ pub fn many_literals(both: &mut Comparison) {
                     for question in [IN, NOT_IN] {
                         let (expected, count) = scan(&column, question, &distinct);
                         let found = both.ask(&body, ty, question, &asked, &vec![0xA5; rows.div_ceil(8)]);
-                        let sound = found == (0, count, expected);
+                        let sound = found == (0, count, expected, NO_FAULT);
                         both.demand(sound, &format!("Ask of {number} literals"), &[("body", &body), ("literals", &asked)]);
                     }
                 }
@@ -273,8 +265,8 @@ pub fn one_byte_apart(both: &mut Comparison) {
             for body in &bodies {
                 let (alone, with_text) =
                     (types::literals(STRING, &[&other]), types::literals(STRING, &[&other[..], text.as_bytes()]));
-                assert_eq!(both.ask(body, STRING, EQUAL, &alone, &[0xA5]), (0, 0, vec![0]));
-                assert_eq!(both.ask(body, STRING, IN, &with_text, &[0xA5]), (0, 1, vec![1]));
+                assert_eq!(both.ask(body, STRING, EQUAL, &alone, &[0xA5]), (0, 0, vec![0], NO_FAULT));
+                assert_eq!(both.ask(body, STRING, IN, &with_text, &[0xA5]), (0, 1, vec![1], NO_FAULT));
             }
         }
     }
@@ -338,31 +330,35 @@ pub fn rows_of_containers(both: &mut Comparison, random: &mut Random) {
         for (i, form) in [BitmapForm::WithoutRuns, BitmapForm::Smallest, runs].into_iter().enumerate() {
             let layout = Layout::version(1 + i as u8 % 2).with_form(form);
             let field = random::field(random, rows as usize + 1);
-            let mut audit = |said: &Groups, answer: u8| {
+            let mut audit = |said: &Groups, answer: u8, fault: Fault| {
                 let body = body(said, &layout);
                 let found = both.audit(&body, TINYINT, &field);
-                both.demand(found.0 == answer, &format!("Audit that is to answer {answer}"), &[("body", &body)]);
+                let what = format!("Audit that is to answer {answer} and {fault:?}");
+                both.demand((found.0, found.3) == (answer, fault), &what, &[("body", &body)]);
             };
-            audit(&groups, 0);
-            audit(&Groups { rows: rows - 1, ..groups.clone() }, RANGE);
-            audit(&Groups { rows: rows + 1, ..groups.clone() }, MISSING);
+            let of = |entry: usize| [entry as u64, 0, 0];
+            audit(&groups, 0, NO_FAULT);
+            let last = (0..3).find(|entry| groups.clone().rows_of(*entry).contains(&(rows - 1))).expect("an owner");
+            audit(&Groups { rows: rows - 1, ..groups.clone() }, RANGE, of(last));
+            audit(&Groups { rows: rows + 1, ..groups.clone() }, MISSING, [0, 0, rows.into()]);
             for entry in 0..3 {
                 let mut said = groups.clone();
-                insert(rows_of(&mut said, entry), rows);
-                audit(&said, RANGE);
-                let of_entry = rows_of(&mut groups.clone(), entry).clone();
+                insert(said.rows_of(entry), rows);
+                audit(&said, RANGE, of(entry));
+                let of_entry = groups.clone().rows_of(entry).clone();
                 for within in of_entry.chunk_by(|a, b| a / CONTAINER == b / CONTAINER) {
                     for row in [within[0], within[within.len() / 2], within[within.len() - 1]] {
                         let mut said = groups.clone();
-                        remove(rows_of(&mut said, entry), row);
-                        audit(&said, MISSING);
+                        remove(said.rows_of(entry), row);
+                        audit(&said, MISSING, [0, 0, row.into()]);
                         let other = (entry + 1) % 3;
+                        let later = of(entry.max(other));
                         let mut said = groups.clone();
-                        insert(rows_of(&mut said, other), row);
-                        audit(&said, TWICE);
+                        insert(said.rows_of(other), row);
+                        audit(&said, TWICE, later);
                         let mut said = groups.clone();
                         let answer = move_row(&mut said, entry, other, row);
-                        audit(&said, answer);
+                        audit(&said, answer, if answer == TWICE { later } else { [0, 0, row.into()] });
                     }
                 }
             }
@@ -401,7 +397,12 @@ pub fn fault_in_a_container(both: &mut Comparison) {
         let traced = body_traced(&groups, &Layout::version(version).with_form(form));
         assert_eq!(both.audit(&traced.bytes, TINYINT, &field).0, 0);
         let mut faults = 0;
+        // Null's bitmap comes first, and the value's has as many containers.
+        let mut before = 0;
         for at in of_bitmaps(&traced).fields {
+            let here = [u64::from(before / containers), u64::from(before % containers), 0];
+            let in_container = ["run number", "runs", "array", "bits"].contains(&at.name);
+            before += u32::from(in_container && at.name != "run number");
             let places = [0, at.width / 4 * 2, (at.width - 1) / 2 * 2].map(|inside| at.at + inside);
             for (i, place) in places.into_iter().enumerate() {
                 // One more: rows stand elsewhere, or their number, or what is said of them, is another.
@@ -409,15 +410,20 @@ pub fn fault_in_a_container(both: &mut Comparison) {
                 more[place] = more[place].wrapping_add(1);
                 let found = both.audit(&more, TINYINT, &field);
                 assert_ne!(found.0, 0, "{} at {place}", at.name);
-                faults += usize::from(found.0 == BITMAP);
+                if found.0 == BITMAP {
+                    assert!(!in_container || found.3 == here, "{} at {place}: {:?} instead of {here:?}", at.name, found.3);
+                    faults += 1;
+                }
                 // As the one before: the rows of an array no longer rise.
                 if at.name == "array" && i > 0 {
                     let mut equal = traced.bytes.clone();
                     equal.copy_within(place - 2..place, place);
-                    assert_eq!(both.audit(&equal, TINYINT, &field).0, BITMAP, "the array at {}", at.at);
+                    let found = both.audit(&equal, TINYINT, &field);
+                    assert_eq!((found.0, found.3), (BITMAP, here), "the array at {}", at.at);
                 }
             }
         }
-        assert!(faults > 3 * containers as usize, "{faults} faults of form");
+        assert_eq!(before, 2 * containers);
+        assert!(faults > 3 * containers, "{faults} faults of form");
     }
 }

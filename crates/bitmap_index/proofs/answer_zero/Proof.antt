@@ -1,7 +1,7 @@
--- `answer_zero` meets its contract: after an accepted audit the chosen entries' rows are the answer; no row says skip.
+-- `answer_zero` meets its contract: an accepted audit found every entry sound, so that the chosen ones' rows can be marked; no row says skip.
 use Rattle.numbers.proofs.ByteLists.{bytes-drop}
 use Rattle.dictionary.specs.Promises.{dictionaryOf}
-use Rattle.bitmap_index.proofs.Answering.{audited-sound, audited-answers}
+use Rattle.bitmap_index.proofs.Answering.{audited-sound}
 use Rattle.bitmap_index.proofs.Asking.{zero-skip, zero-keep}
 use borrow.Author.Needs.{needs}
 use Rattle.bitmap_index.proofs.answer_zero.Statement.{statement}
@@ -24,27 +24,15 @@ mark-asked-requires c κs =
 returns : tie.Need-returns
 returns c =
     let marked = c .before .before .before .before .before in
-    let known = marked .before .before .before in
-    let start = known .before .before in
-    let a = start .args in
-    let region = bytes-drop (a .summary .region .0) (a .body .now) (λ i. known .shared-slice-known .given i .fits) in
-    λ es d ls w.
-    let (n, ok) = start .pre .0 .accepts es d in
-    zero-skip (a .question) ls (dictionaryOf (a .body .now) (a .summary) es) (a .field .now)
-    (audited-answers (dictionaryOf (a .body .now) (a .summary) es) (a .field .now) region n ok (a .question) ls (marked .mark-asked .ensures es d ls w))
+    let a = marked .before .before .before .before .before .args in
+    λ es d ls w. zero-skip (a .question) ls (dictionaryOf (a .body .now) (a .summary) es) (a .field .now) (marked .mark-asked .ensures es d ls w)
     (c .before .count .ensures) (c .if1 .taken)
 
 returns-2 : tie.Need-returns-2
 returns-2 c =
     let marked = c .before .before .before .before .before in
-    let known = marked .before .before .before in
-    let start = known .before .before in
-    let a = start .args in
-    let region = bytes-drop (a .summary .region .0) (a .body .now) (λ i. known .shared-slice-known .given i .fits) in
-    λ es d ls w.
-    let (n, ok) = start .pre .0 .accepts es d in
-    zero-keep (a .question) ls (dictionaryOf (a .body .now) (a .summary) es) (a .field .now)
-    (audited-answers (dictionaryOf (a .body .now) (a .summary) es) (a .field .now) region n ok (a .question) ls (marked .mark-asked .ensures es d ls w))
+    let a = marked .before .before .before .before .before .args in
+    λ es d ls w. zero-keep (a .question) ls (dictionaryOf (a .body .now) (a .summary) es) (a .field .now) (marked .mark-asked .ensures es d ls w)
     (c .before .count .ensures) (c .if1 .left)
 
 pub answer-zero-spec : {M : Type 1} → statement M

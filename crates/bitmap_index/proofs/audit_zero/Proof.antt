@@ -30,14 +30,15 @@ sub-if1 c =
 
 returns : tie.Need-returns
 returns c =
-    let values = c .before .before .before .before .before .before .before in
+    let at-if = c .before .before in
+    let values = at-if .before .before .before .before .before .before .before in
     let told = values .before .before .before in
     let nulls = told .before .before .before .before in
     let start = nulls .before .before .before .before in
     let a = start .args in
     λ es l. some-missing (a .summary) (a .body .now) (a .field .now) (nulls .place-null .ensures) es (told .nulls2 .given .1)
     (values .place-values .ensures es l)
-    (c .before .before .before .values2 .given .1) (start .pre .1) (c .if1 .taken)
+    (at-if .before .before .before .values2 .given .1) (start .pre .1) (at-if .if1 .taken) (c .first-clear .ensures)
 
 returns-2 : tie.Need-returns-2
 returns-2 c =
@@ -70,4 +71,4 @@ audit-zero-spec =
     tie.close
     (tie.spec
     place-null-requires (λ c. search needs) (λ c. search needs) place-values-requires (λ c. search needs) (λ c. search needs) sub-if1
-    (λ c. search needs) returns (λ c. search needs) returns-2 (λ c. search needs) returns-3 (λ c. search needs) returns-4)
+    (λ c κs. search needs) (λ c. search needs) returns (λ c. search needs) returns-2 (λ c. search needs) returns-3 (λ c. search needs) returns-4)

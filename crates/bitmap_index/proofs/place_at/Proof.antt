@@ -5,31 +5,31 @@ use borrow.Author.Needs.{needs}
 use Rattle.bitmap_index.proofs.place_at.Statement.{statement}
 use Rattle.bitmap_index.proofs.place_at.Tie as tie
 
-sub-t9 : tie.Need-sub-t9
-sub-t9 c = row-fits (c .before .before .before .before .args .offset) (c .before .before .before .before .fits .offset) (c .before .if1 .taken)
+sub-t10 : tie.Need-sub-t10
+sub-t10 c = row-fits (c .before .before .before .before .args .offset) (c .before .before .before .before .fits .offset) (c .before .if1 .taken)
 
-cast-t10 : tie.Need-cast-t10
-cast-t10 c = row-cast (c .before .before .before .before .args .offset) (c .before .before .before .before .fits .offset) (c .before .if1 .taken)
+cast-t11 : tie.Need-cast-t11
+cast-t11 c = row-cast (c .before .before .before .before .args .offset) (c .before .before .before .before .fits .offset) (c .before .if1 .taken)
 
 returns : tie.Need-returns
 returns c =
     let start = c .before .before .before .before .before .before .before in
     let a = start .args in
-    as-row (a .offset) (a .extent) (a .rows) (a .region .now) (a .field .now) (start .fits .offset) (c .before .before .before .before .if1 .taken)
+    as-row (a .entry) (a .offset) (a .extent) (a .rows) (a .region .now) (a .field .now) (start .fits .offset) (c .before .before .before .before .if1 .taken)
     (c .before .before .place-row .ensures)
 
-cast-t14 : tie.Need-cast-t14
-cast-t14 c = place-cast (c .before .before .before .before .args .offset) (c .before .before .before .before .fits .offset) (c .before .if1 .left)
+cast-t15 : tie.Need-cast-t15
+cast-t15 c = place-cast (c .before .before .before .before .args .offset) (c .before .before .before .before .fits .offset) (c .before .if1 .left)
 
 returns-2 : tie.Need-returns-2
 returns-2 c =
     let start = c .before .before .before .before .before .before .before in
     let a = start .args in
-    as-place (a .offset) (a .extent) (a .rows) (a .region .now) (a .field .now) (start .fits .offset) (c .before .before .before .before .if1 .left)
+    as-place (a .entry) (a .offset) (a .extent) (a .rows) (a .region .now) (a .field .now) (start .fits .offset) (c .before .before .before .before .if1 .left)
     (c .before .before .place-bitmap .ensures)
 
 pub place-at-spec : {M : Type 1} → statement M
 place-at-spec =
     tie.close
     (tie.spec
-    sub-t9 cast-t10 (λ c κs. search needs) (λ c. search needs) returns cast-t14 (λ c κs. search needs) (λ c. search needs) returns-2)
+    sub-t10 cast-t11 (λ c κs. search needs) (λ c. search needs) returns cast-t15 (λ c κs. search needs) (λ c. search needs) returns-2)

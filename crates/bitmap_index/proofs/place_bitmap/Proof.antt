@@ -7,16 +7,16 @@ use Rattle.bitmap_index.proofs.place_bitmap.Tie as tie
 returns : tie.Need-returns
 returns c =
     let a = c .before .before .before .args in
-    behind-region (a .at .0) (a .extent) (a .rows) (a .region .now) (a .field .now) (c .if1 .taken)
+    behind-region (a .entry) (a .at .0) (a .extent) (a .rows) (a .region .now) (a .field .now) (c .if1 .taken)
 
 returns-2 : tie.Need-returns-2
 returns-2 c =
     let told = c .before .before in
     let measured = told .before .before in
     let a = measured .before .before .before .before .before .before .args in
-    bitmap-range (a .at .0) (a .extent) (a .rows) (a .region .now) (a .field .now) (to-end (a .at .0) (a .region .now))
+    bitmap-range (a .entry) (a .at .0) (a .extent) (a .rows) (a .region .now) (a .field .now) (to-end (a .at .0) (a .region .now))
     (measured .before .extent-of .ensures) (measured .measure .ensures)
-    (told .measured .given .1) (c .if2 .taken)
+    (told .measured2 .given .1) (c .if2 .taken)
 
 mark-requires : tie.Need-mark-requires
 mark-requires c κs =
@@ -25,9 +25,9 @@ mark-requires c κs =
     let measured = told .before .before in
     let known = measured .before .before .before .before in
     let a = known .before .before .args in
-    bitmap-sound (a .at .0) (a .extent) (a .rows) (a .region .now) (a .field .now) (to-end (a .at .0) (a .region .now))
+    bitmap-sound (a .entry) (a .at .0) (a .extent) (a .rows) (a .region .now) (a .field .now) (to-end (a .at .0) (a .region .now))
     (measured .before .extent-of .ensures) (measured .measure .ensures)
-    (told .measured .given .1) (λ i. known .shared-slice-known .given i .fits) (left .if2 .left)
+    (told .measured2 .given .1) (λ i. known .shared-slice-known .given i .fits) (left .if2 .left)
 
 returns-3 : tie.Need-returns-3
 returns-3 c =
@@ -37,17 +37,17 @@ returns-3 c =
     let measured = told .before .before in
     let known = measured .before .before .before .before in
     let a = known .before .before .args in
-    bitmap-twice (a .at .0) (a .extent) (a .rows) (a .region .now) (a .field .now) (to-end (a .at .0) (a .region .now))
+    bitmap-twice (a .entry) (a .at .0) (a .extent) (a .rows) (a .region .now) (a .field .now) (to-end (a .at .0) (a .region .now))
     (measured .before .extent-of .ensures) (measured .measure .ensures)
-    (told .measured .given .1) (λ i. known .shared-slice-known .given i .fits) (left .if2 .left) (marked .mark .ensures) (c .if3 .taken)
+    (told .measured2 .given .1) (λ i. known .shared-slice-known .given i .fits) (left .if2 .left) (marked .mark .ensures) (c .if3 .taken)
 
 returns-4 : tie.Need-returns-4
 returns-4 c =
-    let measured = c .before .before in
+    let measured = c .before .before .before in
     let a = measured .before .before .before .before .before .before .args in
-    bitmap-unsound (a .at .0) (a .extent) (a .rows) (a .region .now) (a .field .now) (to-end (a .at .0) (a .region .now))
+    bitmap-unsound (a .entry) (a .at .0) (a .extent) (a .rows) (a .region .now) (a .field .now) (to-end (a .at .0) (a .region .now))
     (measured .before .extent-of .ensures) (measured .measure .ensures)
-    (c .enum-told .given .1)
+    (c .before .measured .given .1)
 
 returns-5 : tie.Need-returns-5
 returns-5 c =
@@ -58,9 +58,9 @@ returns-5 c =
     let known = measured .before .before .before .before in
     let start = known .before .before in
     let a = start .args in
-    bitmap-done (a .at .0) (a .extent) (a .rows) (a .region .now) (a .field .now) (to-end (a .at .0) (a .region .now))
+    bitmap-done (a .entry) (a .at .0) (a .extent) (a .rows) (a .region .now) (a .field .now) (to-end (a .at .0) (a .region .now))
     (measured .before .extent-of .ensures) (measured .measure .ensures)
-    (told .measured .given .1) (λ i. known .shared-slice-known .given i .fits) (left .if2 .left) (marked .mark .ensures) (start .pre) (c .if3 .left)
+    (told .measured2 .given .1) (λ i. known .shared-slice-known .given i .fits) (left .if2 .left) (marked .mark .ensures) (start .pre) (c .if3 .left)
 
 pub place-bitmap-spec : {M : Type 1} → statement M
 place-bitmap-spec =

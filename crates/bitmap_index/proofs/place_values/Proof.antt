@@ -76,5 +76,5 @@ pub place-values-spec : {M : Type 1} → statement M
 place-values-spec =
     tie.close
     (tie.spec
-    Inv-loop μ-loop loop-holds (λ c κs. search needs) (λ c. search needs) part-place-at-start (λ c. search needs) place-at-requires (λ c. search needs)
-    (λ c. search needs) returns (λ c. search needs) add-sum (λ c. search needs) (λ c. search needs) loop-again (λ c. search needs) returns-2)
+    Inv-loop μ-loop loop-holds (λ c κs. search needs) (λ c. search needs) part-place-at-start (λ c. search needs) (λ c. search needs) place-at-requires
+    (λ c. search needs) (λ c. search needs) returns (λ c. search needs) add-sum (λ c. search needs) (λ c. search needs) loop-again (λ c. search needs) returns-2)

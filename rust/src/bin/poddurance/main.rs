@@ -13,7 +13,8 @@ use std::fs::File;
 use std::io::{self, BufWriter, Read, Write};
 use std::process::ExitCode;
 
-use poddurance::{ask, ask_file, audit, locate, raw, read_deletions, subtract};
+use poddurance::raw::{self, Fault};
+use poddurance::{ask, ask_file, audit, locate, read_deletions, subtract};
 use poddurance::{Error, Literals, Question, Refusal, RowField, LIMIT};
 
 use args::{Command, Deletions, IndexBytes, IndexOf, Job, Source, BITMAP};
@@ -72,7 +73,10 @@ fn carry_out(command: Command) -> Result<Outcome, String> {
             let deleted = match RowField::for_rows(rows) {
                 Ok(field) => read_deletions(&bytes, deletions.bin, field),
                 // There is no field for so many rows. The library says so as well, and needs no room for it.
-                Err(_) => Err(refusal_numbered(raw::read_deletions(&bytes, deletions.bin, rows, &mut []).0)),
+                Err(_) => {
+                    let (answer, _, fault) = raw::read_deletions(&bytes, deletions.bin, rows, &mut []);
+                    Err(refusal_from(answer, fault))
+                }
             };
             match deleted {
                 Ok(deleted) => Outcome::Deleted { count: deleted.count(), rows, field: deleted.into_field() },
@@ -118,7 +122,8 @@ fn place(buffers: &Buffers, column: String, kind: String) -> Outcome {
     match raw::locate(&buffers.embedded, &buffers.file, column.as_bytes(), kind.as_bytes()) {
         (raw::ACCEPTED, start, length) => Outcome::Found { column, kind, start, length },
         (raw::ABSENT, ..) => Outcome::Absent { column, kind },
-        (number, ..) => Outcome::Refused { refusal: refusal_numbered(number), part: Part::Index },
+        // What Locate refuses has no entry.
+        (number, ..) => Outcome::Refused { refusal: refusal_from(number, Fault::NONE), part: Part::Index },
     }
 }
 
@@ -200,8 +205,8 @@ fn refusal_of(error: Error) -> Refusal {
     error.refusal().unwrap_or_else(|| unreachable!("each field was made for the row count it is used with: {error}"))
 }
 
-fn refusal_numbered(answer: u8) -> Refusal {
-    Refusal::from_number(answer).unwrap_or_else(|| unreachable!("{answer} is no refusal of the library"))
+fn refusal_from(answer: u8, fault: Fault) -> Refusal {
+    Refusal::from_raw(answer, fault).unwrap_or_else(|| unreachable!("{answer} is no refusal of the library"))
 }
 
 /// The bytes of a file or of standard input, and where they are over the limit just enough that the library finds them so.

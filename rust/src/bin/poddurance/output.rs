@@ -79,17 +79,25 @@ impl Outcome {
                 writeln!(out, "deleted: {count} of {}", counted(*rows, "row"))?;
                 list_rows(field, list, out)
             }
-            Outcome::Refused { refusal, part: Part::DeletionsBesideIndex } => {
-                writeln!(out, "refused: {refusal}, in the deletion file")
+            Outcome::Refused { refusal, part: Part::Index | Part::Literals } => writeln!(out, "refused: {refusal}"),
+            Outcome::Refused { refusal, part } => {
+                write!(out, "refused: {}", refusal.title())?;
+                if *part == Part::DeletionsBesideIndex {
+                    write!(out, ", in the deletion file")?;
+                }
+                // A bin has no entries, and the 0 in their place would be taken for null's.
+                match refusal.container() {
+                    Some(container) => writeln!(out, ": container {container}"),
+                    None => writeln!(out),
+                }
             }
-            Outcome::Refused { refusal, .. } => writeln!(out, "refused: {refusal}"),
             Outcome::RowsDiffer { index_rows, data_rows } => {
                 writeln!(out, "refused: {}", difference(*index_rows, *data_rows))
             }
         }
     }
 
-    /// One object on one line. Its keys go by `answer` and don't change with the values.
+    /// One object on one line. Its keys go by `answer`, those of a refusal by its `name` too, and don't change with the other values.
     pub fn write_json(&self, list: bool, out: &mut impl Write) -> io::Result<()> {
         match self {
             Outcome::Listed { columns } => json_columns(columns, out)?,
@@ -124,6 +132,9 @@ impl Outcome {
                 };
                 let (name, number, meaning) = (refusal.name(), refusal.number(), quoted(refusal.meaning()));
                 write!(out, r#"{{"answer":"refused","file":{file},"name":"{name}","number":{number},"meaning":{meaning}"#)?;
+                for (key, number) in refusal.carried() {
+                    write!(out, r#","{key}":{number}"#)?;
+                }
             }
             // Nor for this.
             Outcome::RowsDiffer { index_rows, data_rows } => json_refused(&difference(*index_rows, *data_rows), out)?,
@@ -404,6 +415,46 @@ mod tests {
         }
     }
 
+    /// What each refusal says of where its cause is: in the line of an index, of deletions and of deletions beside an index, and in JSON.
+    #[test]
+    fn where_the_cause_is() {
+        let bitmap = Refusal::Bitmap { entry: 3, container: 1 };
+        let of_a_bin = Refusal::Bitmap { entry: 0, container: 1 };
+        for (refusal, part, line, keys) in [
+            (
+                bitmap,
+                Part::Index,
+                "place, length or form of a bitmap is wrong: entry 3, container 1",
+                r#","entry":3,"container":1"#,
+            ),
+            (of_a_bin, Part::Deletions, "place, length or form of a bitmap is wrong: container 1", r#","entry":0,"container":1"#),
+            (
+                of_a_bin,
+                Part::DeletionsBesideIndex,
+                "place, length or form of a bitmap is wrong, in the deletion file: container 1",
+                r#","entry":0,"container":1"#,
+            ),
+            (Refusal::Range { entry: 2 }, Part::Index, "a row at or above the row count: entry 2", r#","entry":2"#),
+            (Refusal::Range { entry: 0 }, Part::Index, "a row at or above the row count: entry 0", r#","entry":0"#),
+            (Refusal::Range { entry: 0 }, Part::Deletions, "a row at or above the row count", r#","entry":0"#),
+            (
+                Refusal::Range { entry: 0 },
+                Part::DeletionsBesideIndex,
+                "a row at or above the row count, in the deletion file",
+                r#","entry":0"#,
+            ),
+            (Refusal::Twice { entry: 2 }, Part::Index, "a row already placed: entry 2", r#","entry":2"#),
+            (Refusal::Missing { row: 16 }, Part::Index, "a row never placed: row 16", r#","row":16"#),
+            (Refusal::Dict, Part::Index, "dictionary breaks a rule", ""),
+        ] {
+            let (name, number, meaning) = (refusal.name(), refusal.number(), quoted(refusal.meaning()));
+            let refused = Outcome::Refused { refusal, part };
+            assert_eq!(text(&refused, false), format!("refused: {name} ({number}), {line}\n"));
+            let said = json(&refused, false);
+            assert!(said.ends_with(&format!("\"number\":{number},\"meaning\":{meaning}{keys}}}\n")), "{said}");
+        }
+    }
+
     #[test]
     fn rows_that_differ() {
         let differ = Outcome::RowsDiffer { index_rows: 3, data_rows: 1000 };
@@ -426,7 +477,7 @@ mod tests {
     #[test]
     fn help_has_the_keys() {
         let name = || "s".to_string();
-        let refused = |part| Outcome::Refused { refusal: Refusal::Twice, part };
+        let refused = |part| Outcome::Refused { refusal: Refusal::Limit, part };
         for outcome in [
             Outcome::Found { column: name(), kind: name(), start: 47, length: 1 },
             Outcome::Absent { column: name(), kind: name() },
@@ -445,6 +496,20 @@ mod tests {
             let line = include_str!("help.txt").lines().find(|line| line.trim_start().starts_with(start));
             assert_eq!(keys(line.expect("every answer has a line")), keys(&json), "{start}");
         }
+        // The keys that a refusal has besides stand behind its name, in a sentence of their own.
+        let help = include_str!("help.txt").split_whitespace().collect::<Vec<_>>().join(" ");
+        let sentence = help.split(". ").find(|sentence| sentence.starts_with("A refusal that says where its cause is"));
+        let (_, listed) = sentence.and_then(|sentence| sentence.split_once(": ")).expect("the help has the sentence");
+        let listed: Vec<(&str, Vec<&str>)> = listed
+            .split("; ")
+            .flat_map(|part| {
+                let (names, keys) = part.split_at(part.find(" \"").expect("keys behind names"));
+                let keys: Vec<&str> = keys.split('"').skip(1).step_by(2).collect();
+                names.split(" and ").map(move |name| (name, keys.clone())).collect::<Vec<_>>()
+            })
+            .collect();
+        let carrying = Refusal::ALL.into_iter().map(|refusal| (refusal.name(), refusal.carried().map(|(key, _)| key).collect()));
+        assert_eq!(listed, carrying.filter(|(_, keys): &(_, Vec<&str>)| !keys.is_empty()).collect::<Vec<_>>());
     }
 
     #[test]

@@ -1,0 +1,217 @@
+//! Each call made of the library and of the reference reader, the answers compared: number, counts, fault, and what is left in lent memory.
+
+// Each test file takes what it needs.
+#![allow(dead_code)]
+
+use poddurance::raw;
+use reference::reader::{self, Fault};
+
+use crate::support::{hex, say, Lender, Tally};
+
+pub const LOCATE: usize = 0;
+pub const AUDIT: usize = 1;
+pub const ASK: usize = 2;
+pub const ASK_FILE: usize = 3;
+pub const READ_DELETIONS: usize = 4;
+pub const SUBTRACT: usize = 5;
+
+/// What both say of a call: answer, count, the field as they leave it, and where a refusal's cause is.
+pub type Found = (u8, u64, Vec<u8>, Fault);
+
+/// The library's answer, its fault in the reference reader's form: entry, container, row.
+pub fn said((answer, count, fault): (u8, u64, raw::Fault)) -> (u8, u64, Fault) {
+    (answer, count, [fault.entry, fault.container, fault.row])
+}
+
+/// Makes each call of both, compares, and counts the answers.
+pub struct Comparison {
+    /// The seed of the round, or nothing for a fixed case.
+    pub seed: Option<u64>,
+    pub tally: Tally,
+    pub first: Lender,
+    pub second: Lender,
+    pub third: Lender,
+    pub fourth: Lender,
+    pub fifth: Lender,
+    pub sixth: Lender,
+}
+
+/// What Locate is asked: two buffers, of which it looks at one, and two names.
+#[derive(Clone, Copy)]
+pub struct Where<'a> {
+    pub embedded: &'a [u8],
+    pub file: &'a [u8],
+    pub column: &'a [u8],
+    pub kind: &'a [u8],
+}
+
+impl<'a> Where<'a> {
+    pub fn in_file(file: &'a [u8], column: &'a [u8], kind: &'a [u8]) -> Where<'a> {
+        Where { embedded: &[], file, column, kind }
+    }
+
+    /// The bitmap index on a column `s`.
+    pub fn small(file: &'a [u8]) -> Where<'a> {
+        Where::in_file(file, b"s", b"bitmap")
+    }
+}
+
+/// What is asked of a body: type, question and literals.
+#[derive(Clone, Copy)]
+pub struct Asked<'a> {
+    pub ty: u32,
+    pub question: u32,
+    pub literals: &'a [u8],
+}
+
+impl Comparison {
+    pub fn new() -> Comparison {
+        let [first, second, third, fourth, fifth, sixth] = [(); 6].map(|()| Lender::new());
+        Comparison { seed: None, tally: Tally::new(), first, second, third, fourth, fifth, sixth }
+    }
+
+    pub fn locate(&mut self, embedded: &[u8], file: &[u8], column: &[u8], kind: &[u8]) -> (u8, u64, u64) {
+        let expected = reader::locate(embedded, file, column, kind);
+        let lent = (self.first.lend(embedded), self.second.lend(file), self.third.lend(column), self.fourth.lend(kind));
+        let found = raw::locate(lent.0, lent.1, lent.2, lent.3);
+        let same = found == expected && lent.0 == embedded && lent.1 == file && lent.2 == column && lent.3 == kind;
+        if !same {
+            let inputs = [("embedded", embedded), ("file", file), ("column", column), ("kind", kind)];
+            self.fail("Locate", &inputs, &format!("library {found:?}, reference reader {expected:?}"));
+        }
+        self.tally.add(LOCATE, found.0);
+        found
+    }
+
+    pub fn audit(&mut self, body: &[u8], ty: u32, field: &[u8]) -> Found {
+        let mut expected_field = field.to_vec();
+        let expected = reader::audit(body, ty, &mut expected_field);
+        let (lent_body, lent_field) = (self.first.lend(body), self.second.lend(field));
+        let found = said(raw::audit(lent_body, ty, lent_field));
+        let same = found == expected && lent_field == expected_field && lent_body == body;
+        if !same {
+            let found_field = lent_field.to_vec();
+            let inputs = [
+                ("body", body),
+                ("field before", field),
+                ("field after, library", &found_field),
+                ("field after, reference reader", &expected_field),
+            ];
+            self.fail("Audit", &inputs, &format!("type {ty}: library {found:?}, reference reader {expected:?}"));
+        }
+        self.tally.add(AUDIT, found.0);
+        (found.0, found.1, expected_field, found.2)
+    }
+
+    pub fn ask(&mut self, body: &[u8], ty: u32, question: u32, literals: &[u8], field: &[u8]) -> Found {
+        let mut expected_field = field.to_vec();
+        let expected = reader::ask(body, ty, question, literals, &mut expected_field);
+        let (lent_body, lent_literals, lent_field) = (self.first.lend(body), self.second.lend(literals), self.third.lend(field));
+        let found = said(raw::ask(lent_body, ty, question, lent_literals, lent_field));
+        let same = found == expected && lent_field == expected_field && lent_body == body && lent_literals == literals;
+        if !same {
+            let found_field = lent_field.to_vec();
+            let inputs = [
+                ("body", body),
+                ("literals", literals),
+                ("field before", field),
+                ("field after, library", &found_field),
+                ("field after, reference reader", &expected_field),
+            ];
+            let answers = format!("type {ty}, question {question}: library {found:?}, reference reader {expected:?}");
+            self.fail("Ask", &inputs, &answers);
+        }
+        self.tally.add(ASK, found.0);
+        (found.0, found.1, expected_field, found.2)
+    }
+
+    pub fn ask_file(&mut self, at: Where, asked: Asked, field: &[u8]) -> Found {
+        let Where { embedded, file, column, kind } = at;
+        let Asked { ty, question, literals } = asked;
+        let mut expected_field = field.to_vec();
+        let expected = reader::ask_file(embedded, file, column, kind, ty, question, literals, &mut expected_field);
+        let lent = (self.first.lend(embedded), self.second.lend(file), self.third.lend(column), self.fourth.lend(kind));
+        let (lent_literals, lent_field) = (self.fifth.lend(literals), self.sixth.lend(field));
+        let found = said(raw::ask_file(lent.0, lent.1, lent.2, lent.3, ty, question, lent_literals, lent_field));
+        let kept = lent.0 == embedded && lent.1 == file && lent.2 == column && lent.3 == kind && lent_literals == literals;
+        if !(found == expected && lent_field == expected_field && kept) {
+            let found_field = lent_field.to_vec();
+            let inputs = [
+                ("embedded", embedded),
+                ("file", file),
+                ("column", column),
+                ("kind", kind),
+                ("literals", literals),
+                ("field before", field),
+                ("field after, library", &found_field),
+                ("field after, reference reader", &expected_field),
+            ];
+            let answers = format!("type {ty}, question {question}: library {found:?}, reference reader {expected:?}");
+            self.fail("Ask file", &inputs, &answers);
+        }
+        self.tally.add(ASK_FILE, found.0);
+        (found.0, found.1, expected_field, found.2)
+    }
+
+    pub fn read_deletions(&mut self, file: &[u8], bin: u64, rows: u64, field: &[u8]) -> Found {
+        let mut expected_field = field.to_vec();
+        let expected = reader::read_deletions(file, bin, rows, &mut expected_field);
+        let (lent_file, lent_field) = (self.first.lend(file), self.second.lend(field));
+        let found = said(raw::read_deletions(lent_file, bin, rows, lent_field));
+        let same = found == expected && lent_field == expected_field && lent_file == file;
+        if !same {
+            let found_field = lent_field.to_vec();
+            let inputs = [
+                ("file", file),
+                ("field before", field),
+                ("field after, library", &found_field),
+                ("field after, reference reader", &expected_field),
+            ];
+            let answers = format!("bin {bin}, rows {rows}: library {found:?}, reference reader {expected:?}");
+            self.fail("Read deletions", &inputs, &answers);
+        }
+        self.tally.add(READ_DELETIONS, found.0);
+        (found.0, found.1, expected_field, found.2)
+    }
+
+    pub fn subtract(&mut self, first: &[u8], second: &[u8], rows: u64) -> (u8, u64, u64, Vec<u8>) {
+        let mut expected_first = first.to_vec();
+        let expected = reader::subtract(&mut expected_first, second, rows);
+        let (lent_first, lent_second) = (self.first.lend(first), self.second.lend(second));
+        let found = raw::subtract(lent_first, lent_second, rows);
+        let same = found == expected && lent_first == expected_first && lent_second == second;
+        if !same {
+            let found_first = lent_first.to_vec();
+            let inputs = [
+                ("first before", first),
+                ("second", second),
+                ("first after, library", &found_first),
+                ("first after, reference reader", &expected_first),
+            ];
+            self.fail("Subtract", &inputs, &format!("rows {rows}: library {found:?}, reference reader {expected:?}"));
+        }
+        self.tally.add(SUBTRACT, found.0);
+        (found.0, found.1, found.2, expected_first)
+    }
+
+    /// Prints the inputs and how to repeat them, and ends the test.
+    pub fn fail(&self, call: &str, inputs: &[(&str, &[u8])], answers: &str) -> ! {
+        say(&format!("{call} differs: {answers}"));
+        for (name, bytes) in inputs {
+            say(&format!("{name} ({} bytes): {}", bytes.len(), hex(bytes)));
+        }
+        match self.seed {
+            Some(seed) => panic!(
+                "{call} differs; alone again with PODDURANCE_SEED={seed} PODDURANCE_CASES=1 cargo test --test differential"
+            ),
+            None => panic!("{call} differs in a fixed case"),
+        }
+    }
+
+    /// A demand on sound input: where it doesn't hold, both readers may be wrong alike.
+    pub fn demand(&self, holds: bool, what: &str, inputs: &[(&str, &[u8])]) {
+        if !holds {
+            self.fail(what, inputs, "the answer isn't the one that the column gives");
+        }
+    }
+}
