@@ -30,7 +30,7 @@ pub extern "C" fn poddurance_read_deletions(
     match answer {
         Deletions::Refused(r) => {
             *deleted = 0;
-            *fault = refusal::fault(r);
+            *fault = refusal::fault(r); // of a bin the container
             refusal::number(r)
         }
         Deletions::Deleted(n) => {
