@@ -12,11 +12,11 @@
 mod plot;
 #[path = "../examples/svg/mod.rs"]
 mod svg;
+mod timing;
 
 use std::fs;
 use std::hint::black_box;
 use std::path::Path;
-use std::process::Command;
 use std::time::{Duration, Instant};
 
 use poddurance::raw;
@@ -24,6 +24,7 @@ use reference::random::Random;
 use reference::reader;
 use reference::types;
 use reference::writer::{bitmap, body, deletion_file, index_file, BitmapForm, ContainerForm, Groups, Layout};
+use timing::{grouped, median_by, print_machine, shown, time, Effort, Patience};
 
 /// The rows of one Roaring container.
 const CONTAINER: u32 = 65_536;
@@ -59,15 +60,8 @@ const FULL: Sizes = Sizes {
 const QUICK: Sizes = Sizes { one: 1_000, two: 1_000, columns: 1_000, rows: 1_000_000, plotted: &[10_000, 100_000] };
 
 fn main() {
-    let quick = !std::env::args().any(|word| word == "--bench") || std::env::var_os("PODDURANCE_QUICK").is_some();
-    let (sizes, patience, usual_runs) = match quick {
-        true => (QUICK, Patience { least: 3, most: 3, time: Duration::ZERO }, 1),
-        false => (FULL, Patience { least: 15, most: 10_001, time: Duration::from_secs(2) }, 3),
-    };
-    let runs = match std::env::var("PODDURANCE_RUNS") {
-        Ok(runs) => runs.parse().ok().filter(|runs| *runs > 0).expect("PODDURANCE_RUNS is a number of runs"),
-        Err(_) => usual_runs,
-    };
+    let Effort { quick, patience, runs } = Effort::asked();
+    let sizes = if quick { QUICK } else { FULL };
 
     print_machine(runs);
     print_cells("input", "call", ["library", "reference", "ratio", "library/memcpy", "reference/memcpy"].map(str::to_string));
@@ -118,7 +112,7 @@ fn table(sizes: &Sizes, patience: &Patience, runs: usize) {
         for (line, times) in lines.iter().zip(&mut measured) {
             times.push(measure(line, patience));
             if run == runs {
-                print_line(line, median_run(times));
+                print_line(line, median_by(times, Times::ratio));
             }
         }
     }
@@ -387,13 +381,6 @@ fn compare(Line { call, rows, .. }: &Line) {
 
 // Measuring
 
-/// How often to time a call: until the time is up, but within these numbers.
-struct Patience {
-    least: usize,
-    most: usize,
-    time: Duration,
-}
-
 /// The medians of one run.
 #[derive(Clone, Copy)]
 struct Times {
@@ -414,7 +401,7 @@ fn measure(Line { call, rows, copied, .. }: &Line, patience: &Patience) -> Times
     let (mut library, mut reference, mut memcpy) = (Vec::new(), Vec::new(), Vec::new());
 
     let started = Instant::now();
-    while library.len() < patience.least || library.len() < patience.most && started.elapsed() < patience.time {
+    while patience.lasts(library.len(), started) {
         // Neither is always the one that finds the caches as the other left them.
         let library_first = library.len() % 2 == 0;
         for library_now in [library_first, !library_first] {
@@ -433,24 +420,9 @@ fn measure(Line { call, rows, copied, .. }: &Line, patience: &Patience) -> Times
     Times { library: median(library), reference: median(reference), memcpy: copied.map(|_| median(memcpy)) }
 }
 
-fn time<R>(call: impl FnOnce() -> R) -> Duration {
-    let started = Instant::now();
-    let result = call();
-    let taken = started.elapsed();
-    black_box(result);
-    taken
-}
-
 fn median(mut times: Vec<Duration>) -> Duration {
     times.sort_unstable();
     times[times.len() / 2]
-}
-
-/// The run whose ratio is the median.
-fn median_run(runs: &[Times]) -> Times {
-    let mut runs = runs.to_vec();
-    runs.sort_by(|one, other| one.ratio().total_cmp(&other.ratio()));
-    runs[runs.len() / 2]
 }
 
 // Printing
@@ -466,33 +438,4 @@ fn print_line(line: &Line, times: Times) {
 fn print_cells(what: &str, call: &str, numbers: [String; 5]) {
     let [library, reference, ratio, of_library, of_reference] = numbers;
     println!("| {what:<28} | {call:<14} | {library:>9} | {reference:>9} | {ratio:>7} | {of_library:>14} | {of_reference:>16} |");
-}
-
-fn shown(time: Duration) -> String {
-    let nanoseconds = time.as_nanos() as f64;
-    match nanoseconds {
-        ..1e3 => format!("{nanoseconds} ns"),
-        ..1e6 => format!("{:.2} µs", nanoseconds / 1e3),
-        _ => format!("{:.2} ms", nanoseconds / 1e6),
-    }
-}
-
-/// A number with a comma before each three digits.
-fn grouped(number: usize) -> String {
-    match number {
-        0..1_000 => number.to_string(),
-        _ => format!("{},{:03}", grouped(number / 1_000), number % 1_000),
-    }
-}
-
-fn print_machine(runs: usize) {
-    let unknown = || "unknown".to_string();
-    let processors = fs::read_to_string("/proc/cpuinfo").unwrap_or_default();
-    let model = processors.lines().find_map(|line| line.strip_prefix("model name")?.split_once(": "));
-    let model = model.map_or_else(unknown, |(_, model)| model.to_string());
-    let cores = std::thread::available_parallelism().map_or_else(|_| unknown(), |cores| cores.to_string());
-    let rustc = Command::new("rustc").arg("--version").output().ok().and_then(|output| String::from_utf8(output.stdout).ok());
-    let rustc = rustc.map_or_else(unknown, |text| text.trim().to_string());
-    let load = fs::read_to_string("/proc/loadavg").ok().and_then(|text| text.split(' ').next().map(str::to_string));
-    println!("{model}, {cores} cores, {rustc}, load {} at the start, runs: {runs}\n", load.unwrap_or_else(unknown));
 }

@@ -1,5 +1,6 @@
 //! The build step: which archive it links, when it has it made, and who sees how far the proofs are. A script stands for `rt`, and a
-//! shell for cargo: it keeps back what the build script prints, as cargo does, and has a standard error of its own.
+//! shell for cargo: it keeps back what the build script prints, as cargo does, and has a standard error of its own. All of it is
+//! tested on this package's step; benchmark_loops has the same step for an archive of its own.
 
 mod support;
 
@@ -16,46 +17,73 @@ use std::time::{Duration, SystemTime};
 
 use support::say;
 
-/// The build script as a program.
-fn program() -> &'static Path {
-    static PROGRAM: OnceLock<PathBuf> = OnceLock::new();
-    PROGRAM.get_or_init(|| {
-        let program = Path::new(env!("CARGO_TARGET_TMPDIR")).join("build-step");
-        let source = Path::new(env!("CARGO_MANIFEST_DIR")).join("build.rs");
-        let compiler = std::env::var_os("RUSTC").unwrap_or_else(|| "rustc".into());
-        let status = Command::new(compiler).args(["--edition", "2021", "-o"]).arg(&program).arg(source).status().unwrap();
-        assert!(status.success(), "build.rs doesn't compile");
-        program
-    })
+/// A package with a build step.
+struct Package {
+    /// The crate whose archive it links.
+    name: &'static str,
+    /// Its folder in the repository.
+    folder: &'static str,
+    program: OnceLock<PathBuf>,
 }
 
-/// A repository of three crates that the archive is made from and one that it isn't.
+static PODDURANCE: Package = Package { name: "poddurance", folder: "rust", program: OnceLock::new() };
+static BENCHMARK_LOOPS: Package = Package { name: "benchmark_loops", folder: "rust/benchmark_loops", program: OnceLock::new() };
+
+impl Package {
+    /// The build script as a program.
+    fn program(&self) -> &Path {
+        self.program.get_or_init(|| {
+            let program = Path::new(env!("CARGO_TARGET_TMPDIR")).join(format!("build-step-of-{}", self.name));
+            let source = Path::new(env!("CARGO_MANIFEST_DIR")).join("..").join(self.folder).join("build.rs");
+            let compiler = std::env::var_os("RUSTC").unwrap_or_else(|| "rustc".into());
+            let status = Command::new(compiler).args(["--edition", "2021", "-o"]).arg(&program).arg(source).status().unwrap();
+            assert!(status.success(), "the build.rs of {} doesn't compile", self.name);
+            program
+        })
+    }
+}
+
+/// A repository of three crates that the archive is made from and two that it isn't. One of these is what the archive of
+/// benchmark_loops is made from, with one of the three.
 struct Repository {
     root: PathBuf,
+    package: &'static Package,
 }
 
 const NUMBER_OF_CRATES: &str = "3";
+const CRATES: &str = "\
+# NAME: what it is built on.
+numbers:
+roaring: numbers
+poddurance: numbers roaring
+cases: roaring io libc
+benchmark_loops: numbers
+";
 
 impl Repository {
     fn new(name: &str) -> Repository {
+        Repository::with(name, &PODDURANCE)
+    }
+
+    /// The repository, in which that package's step is run.
+    fn with(name: &str, package: &'static Package) -> Repository {
         let root = Path::new(env!("CARGO_TARGET_TMPDIR")).join(format!("build-step-{name}"));
         let _ = fs::remove_dir_all(&root);
-        for one in ["numbers", "roaring", "poddurance", "cases"] {
+        for one in ["numbers", "roaring", "poddurance", "cases", "benchmark_loops"] {
             fs::create_dir_all(root.join("crates").join(one).join("src")).unwrap();
             fs::write(root.join("crates").join(one).join("src/lib.rt"), "").unwrap();
         }
-        let list =
-            "# NAME: what it is built on.\nnumbers:\nroaring: numbers\npoddurance: numbers roaring\ncases: roaring io libc\n";
-        fs::write(root.join("crates.txt"), list).unwrap();
-        fs::create_dir(root.join("rust")).unwrap();
+        fs::write(root.join("crates.txt"), CRATES).unwrap();
+        fs::create_dir_all(root.join(package.folder)).unwrap();
         fs::create_dir(root.join("bin")).unwrap();
-        Repository { root }
+        Repository { root, package }
     }
 
-    /// What `rt staticlib poddurance` does.
+    /// What `rt staticlib` does for the package's crate.
     fn rt(&self, script: &str) {
         let path = self.root.join("bin/rt");
-        fs::write(&path, format!("#!/bin/sh\n[ \"$*\" = 'staticlib poddurance' ] || exit 9\n{script}")).unwrap();
+        let name = self.package.name;
+        fs::write(&path, format!("#!/bin/sh\n[ \"$*\" = 'staticlib {name}' ] || exit 9\n{script}")).unwrap();
         fs::set_permissions(&path, fs::Permissions::from_mode(0o755)).unwrap();
     }
 
@@ -72,9 +100,10 @@ impl Repository {
     fn build(&self) -> Command {
         let mut shell = Command::new("/bin/sh");
         // In a process of its own, and not as the last command, so that the script has this shell for its parent.
-        shell.args(["-c", "(exec \"$0\" >kept.out 2>kept.err </dev/null); status=$?; exit $status"]).arg(program());
-        shell.current_dir(self.root.join("rust"));
-        shell.env_remove("PODDURANCE_LIB_DIR").env("CARGO_MANIFEST_DIR", self.root.join("rust"));
+        shell.args(["-c", "(exec \"$0\" >kept.out 2>kept.err </dev/null); status=$?; exit $status"]).arg(self.package.program());
+        let folder = self.root.join(self.package.folder);
+        shell.current_dir(&folder);
+        shell.env_remove("PODDURANCE_LIB_DIR").env("CARGO_MANIFEST_DIR", folder);
         shell.env("CARGO_CFG_TARGET_ARCH", "x86_64").env("CARGO_CFG_TARGET_OS", "linux").env("TERM", "xterm");
         // Where no script stands for rt there is none on the path, nor anything else.
         let bin = self.root.join("bin");
@@ -86,12 +115,13 @@ impl Repository {
 
     /// What the script printed for cargo to read, and for whoever asks cargo.
     fn kept(&self) -> (String, String) {
-        let read = |name: &str| fs::read_to_string(self.root.join("rust").join(name)).unwrap();
+        let read = |name: &str| fs::read_to_string(self.root.join(self.package.folder).join(name)).unwrap();
         (read("kept.out"), read("kept.err"))
     }
 
     fn links(&self, folder: &Path) -> bool {
-        let linked = format!("cargo:rustc-link-search=native={}\ncargo:rustc-link-lib=static=poddurance\n", folder.display());
+        let name = self.package.name;
+        let linked = format!("cargo:rustc-link-search=native={}\ncargo:rustc-link-lib=static={name}\n", folder.display());
         self.kept().0.ends_with(&linked)
     }
 }
@@ -269,6 +299,24 @@ fn the_archive_is_made_where_it_is_missing_or_old() {
 }
 
 #[test]
+fn crates_that_the_archive_is_not_made_from_are_not_looked_at() {
+    let repository = Repository::new("others");
+    repository.rt("exit 7");
+    let made = SystemTime::now() + Duration::from_secs(60);
+    repository.write_archive(made);
+    let change = |one: &str| {
+        let source = repository.root.join("crates").join(one).join("src/lib.rt");
+        File::options().write(true).open(source).unwrap().set_modified(made + Duration::from_secs(1)).unwrap();
+    };
+    let builds = || repository.build().stderr(Stdio::null()).status().unwrap().success();
+    change("cases");
+    change("benchmark_loops");
+    assert!(builds());
+    change("numbers");
+    assert!(!builds());
+}
+
+#[test]
 fn what_goes_wrong_is_said() {
     let repository = Repository::new("wrong");
     let complains = |repository: &Repository, set: &[(&str, &str)], reason: &str| {
@@ -315,6 +363,67 @@ fn a_prebuilt_archive_is_linked_as_it_is() {
     assert!(out.contains("cargo:rerun-if-env-changed=PODDURANCE_LIB_DIR\n"));
     // Set to nothing it is not set.
     assert!(!repository.build().env("PODDURANCE_LIB_DIR", "").stderr(Stdio::null()).status().unwrap().success());
+}
+
+#[test]
+fn the_other_package_links_an_archive_of_its_own() {
+    // Made in the same root, from the two crates that it needs.
+    let repository = Repository::with("other", &BENCHMARK_LOOPS);
+    repository.rt("
+[ -f crates.txt ] || exit 8
+echo 'rt: numbers proved (1 s)' >&2
+echo 'rt: roaring proved (1 s)' >&2
+mkdir -p target/staticlib && : >target/staticlib/libbenchmark_loops.a
+");
+    let output = repository.build().stderr(Stdio::piped()).output().unwrap();
+    assert!(output.status.success());
+    let expected = "\
+benchmark_loops: libbenchmark_loops.a is missing: rt proves 2 crates to make it, which takes minutes
+benchmark_loops: numbers proved, 1 of 2 crates, N s so far
+benchmark_loops: the archive is made: 2 crates proved, N s
+";
+    assert_eq!(without_seconds(&String::from_utf8(output.stderr).unwrap()), expected);
+    assert!(repository.links(&repository.root.join("target/staticlib")));
+    let (out, _) = repository.kept();
+    for path in ["crates.txt", "crates", "target/staticlib/libbenchmark_loops.a"] {
+        let line = format!("cargo:rerun-if-changed={}\n", repository.root.join(path).display());
+        assert!(out.contains(&line), "{out}");
+    }
+    // It is not made again, and libpoddurance.a, which isn't there, is not asked for.
+    repository.rt("exit 7");
+    assert!(repository.build().stderr(Stdio::null()).status().unwrap().success());
+
+    // A folder of archives made elsewhere must have this one too.
+    let folder = repository.root.join("elsewhere");
+    fs::create_dir(&folder).unwrap();
+    File::create(folder.join("libpoddurance.a")).unwrap();
+    let build = || repository.build().env("PODDURANCE_LIB_DIR", &folder).stderr(Stdio::null()).status().unwrap();
+    assert_eq!(build().code(), Some(1));
+    let none =
+        format!("benchmark_loops: PODDURANCE_LIB_DIR is {}, and there is no libbenchmark_loops.a in it\n", folder.display());
+    assert_eq!(repository.kept().1, none);
+    File::create(folder.join("libbenchmark_loops.a")).unwrap();
+    assert!(build().success());
+    assert!(repository.links(&folder));
+}
+
+/// Both steps run rt, which has no lock over target/. Cargo runs the second after the first because the package of the second depends
+/// on that of the first, and not for its tests alone, and because that one has `links`.
+#[test]
+fn cargo_runs_one_step_after_the_other_and_the_second_for_its_own_package_alone() {
+    let mut cargo = Command::new(env!("CARGO"));
+    cargo.args(["metadata", "--offline", "--no-deps", "--format-version", "1"]).current_dir(env!("CARGO_MANIFEST_DIR"));
+    let text = String::from_utf8(cargo.output().unwrap().stdout).unwrap();
+    let depends_on =
+        |name: &str, kind: &str| text.contains(&format!(r#"{{"name":"{name}","source":null,"req":"*","kind":{kind},"#));
+    assert!(text.contains(r#""links":"poddurance""#), "{text}");
+    assert!(depends_on("poddurance", "null"), "{text}");
+
+    // No package needs it, and none of cargo's commands takes it in by itself.
+    assert!(["null", r#""dev""#, r#""build""#].iter().all(|kind| !depends_on("benchmark_loops", kind)), "{text}");
+    let (_, default_members) = text.split_once(r#""workspace_default_members":["#).unwrap();
+    let (default_members, _) = default_members.split_once(']').unwrap();
+    assert!(default_members.contains("reference") && !default_members.contains("benchmark_loops"), "{default_members}");
 }
 
 extern "C" {

@@ -1,0 +1,2 @@
+-- The rows of a run, taken one after the other.
+pub mod Runs

@@ -1,0 +1,8 @@
+//! Links libbenchmark_loops.a, and has it made first where it is missing or older than the sources.
+
+#[path = "../build/archive.rs"]
+mod archive;
+
+fn main() {
+    archive::build_step("benchmark_loops", |package| package.parent()?.parent());
+}
