@@ -57,7 +57,7 @@ bytes-next to i h =
     rw (e, upTo-append (i * 8) 8 ((to - (i + 1)) * 8), d, all-rows (i * 8) 8 0)
 
 -- rows from one past the end on
-upTo-past : (f : List ℕ) (a k : ℕ) → length f * 8 ≤ a → Past f (upTo a k)
+pub upTo-past : (f : List ℕ) (a k : ℕ) → length f * 8 ≤ a → Past f (upTo a k)
 upTo-past f a k h = rising-past f a (a + k) (upTo a k) h (upTo-rising a (a + k) a k (omega arith) (omega arith))
 
 -- nothing is left that the field has
@@ -105,21 +105,19 @@ module _ (a z : ℕ) (h : a ≤ z) where
 
 -- ---- what the code computes of a run, said by the definitions
 
-module _ (f : List ℕ) (a z : ℕ) where
-  pub run-none : z < a → MarkedRows f f (run a z) false
+module _ (f : List ℕ) (a k : ℕ) where
+  pub rows-none : k ≡ 0 → MarkedRows f f (upTo a k) false
   unfolding upTo anySet markAll
-  run-none l =
-      let e : z + 1 - a ≡ 0 = omega arith in
-      record { seen = rw e; marked = rw e }
+  rows-none e = record { seen = rw e; marked = rw e }
 
-  pub run-out : length f ≤ a / 8 → MarkedRows f f (run a z) false
-  run-out l =
-      let r = upTo-past f a (z + 1 - a) (omega arith) in
-      record { seen = sym (anySet-past f (run a z) r); marked = sym (markAll-past f (run a z) r) }
+  pub rows-out : length f ≤ a / 8 → MarkedRows f f (upTo a k) false
+  rows-out l =
+      let r = upTo-past f a k (omega arith) in
+      record { seen = sym (anySet-past f (upTo a k) r); marked = sym (markAll-past f (upTo a k) r) }
 
-module _ {f g : List ℕ} {r : Bool} (a z : ℕ) where
-  pub run-at-once : MarkedInTurn f g (run a z) r → MarkedRows f g (run a z) r
-  run-at-once m = at-once a (a + (z + 1 - a)) (upTo-rising a (a + (z + 1 - a)) a (z + 1 - a) (omega arith) (omega arith)) m
+module _ {f g : List ℕ} {r : Bool} (a k : ℕ) where
+  pub rows-at-once : MarkedInTurn f g (upTo a k) r → MarkedRows f g (upTo a k) r
+  rows-at-once m = at-once a (a + k) (upTo-rising a (a + k) a k (omega arith) (omega arith)) m
 
 -- a byte's bits by another name
 pub bits-as : {f g : List ℕ} {r : Bool} {x y : ℕ} (a : ℕ) → x ≡ y → MarkedInTurn f g (byteRows x a 8) r → MarkedInTurn f g (byteRows y a 8) r

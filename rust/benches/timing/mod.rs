@@ -86,5 +86,5 @@ pub fn print_machine(runs: usize) {
     let rustc = Command::new("rustc").arg("--version").output().ok().and_then(|output| String::from_utf8(output.stdout).ok());
     let rustc = rustc.map_or_else(unknown, |text| text.trim().to_string());
     let load = fs::read_to_string("/proc/loadavg").ok().and_then(|text| text.split(' ').next().map(str::to_string));
-    println!("{model}, {cores} cores, {rustc}, load {} at the start, measured {runs} times\n", load.unwrap_or_else(unknown));
+    println!("{model}, {cores} cores, {rustc}, load {} at the start, measurements: {runs}\n", load.unwrap_or_else(unknown));
 }

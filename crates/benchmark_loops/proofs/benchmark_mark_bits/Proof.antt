@@ -6,7 +6,8 @@ use borrow.Author.Needs.{needs}
 use lib.ListN.{length}
 use Rattle.row_field.specs.Meaning.{upTo}
 use Rattle.row_field.proofs.Loops.{Marks, marks-first, marks-one, marks-past}
-use Rattle.benchmark_loops.proofs.Runs.{row-next, rows-done, run-in-turn}
+use Rattle.row_field.proofs.RunRows.{rows-at-once}
+use Rattle.benchmark_loops.proofs.Runs.{row-next, rows-done}
 use Rattle.benchmark_loops.proofs.benchmark_mark_bits.Statement.{statement}
 use Rattle.benchmark_loops.proofs.benchmark_mark_bits.Tie as tie
 
@@ -31,7 +32,7 @@ returns : tie.Need-returns Inv-loop μ-loop
 returns c =
     let l = c .before .loop in
     let g = c .before .before .before .before .args in
-    run-in-turn (g .first) (g .end) (marks-past (l .inv .1) (rows-done (l .field) (l .row) (g .end) (omega arith)))
+    rows-at-once (g .first) (g .end - g .first) (marks-past (l .inv .1) (rows-done (l .field) (l .row) (g .end) (omega arith)))
 
 pub benchmark-mark-bits-spec : {M : Type 1} → statement M
 benchmark-mark-bits-spec =

@@ -5,14 +5,14 @@ use native.Mathlib.Omega.{arith}
 use borrow.Author.Needs.{needs}
 use Rattle.row_field.specs.Meaning.{upTo}
 use Rattle.row_field.specs.Promises.{MarkedRows}
-use Rattle.benchmark_loops.proofs.Runs.{run-empty}
+use Rattle.row_field.proofs.RunRows.{rows-none}
 use Rattle.benchmark_loops.proofs.benchmark_mark_run.Statement.{statement}
 use Rattle.benchmark_loops.proofs.benchmark_mark_run.Tie as tie
 
 returns : tie.Need-returns
 returns c =
     let g = c .before .before .args in
-    run-empty (g .field .now) (g .first) (g .end) (omega arith)
+    rows-none (g .field .now) (g .first) (g .end - g .first) (omega arith)
 
 returns-2 : tie.Need-returns-2
 returns-2 c =

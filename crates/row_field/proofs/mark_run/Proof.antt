@@ -1,5 +1,5 @@
 -- `mark_run` meets its contract. A run within one byte is that byte's bits (`run-one`); any other is a first byte, whole bytes and a last byte (`run-parts`).
-use Prim.Native.Nat.{_*_, _/_}
+use Prim.Native.Nat.{_+_, _-_, _*_, _/_}
 use mathlib.Core.Path.{refl, sym}
 use mathlib.Core.Bool.{_||_}
 use mathlib.Core.List.{append-nil}
@@ -7,26 +7,26 @@ use native.Mathlib.Omega.{arith}
 use borrow.Author.Needs.{needs}
 use Rattle.row_field.specs.Promises.{MarkedInTurn}
 use Rattle.row_field.proofs.Loops.{Marks, marks-first, marks-part, marks-past, marks-done}
-use Rattle.row_field.proofs.RunRows.{run, head, tail, run-none, run-out, run-one, run-parts, run-at-once, bits-as, tail-past}
+use Rattle.row_field.proofs.RunRows.{run, head, tail, rows-none, rows-out, run-one, run-parts, rows-at-once, bits-as, tail-past}
 use Rattle.row_field.proofs.mark_run.Statement.{statement}
 use Rattle.row_field.proofs.mark_run.Tie as tie
 
 returns : tie.Need-returns
 returns c =
     let g = c .before .before .args in
-    run-none (g .field .now) (g .first .0) (g .last .0) (c .if1 .taken)
+    rows-none (g .field .now) (g .first .0) (g .last .0 + 1 - g .first .0) (omega (arith, c .if1 .taken))
 
 returns-2 : tie.Need-returns-2
 returns-2 c =
     let g = c .before .before .before .args in
-    run-out (g .field .now) (g .first .0) (g .last .0) (omega arith)
+    rows-out (g .field .now) (g .first .0) (g .last .0 + 1 - g .first .0) (omega arith)
 
 returns-3 : tie.Need-returns-3
 returns-3 c =
     let called = c .before .before in
     let g = called .before .before .before .before .before .before .before .args in
     let e = run-one (g .first .0) (g .last .0) (omega arith) (omega arith) in
-    run-at-once (g .first .0) (g .last .0) (rw e (bits-as (g .first .0 / 8 * 8) (called .before .bits-between .ensures) (called .mark-byte .ensures)))
+    rows-at-once (g .first .0) (g .last .0 + 1 - g .first .0) (rw e (bits-as (g .first .0 / 8 * 8) (called .before .bits-between .ensures) (called .mark-byte .ensures)))
 
 -- the first byte and the whole bytes are marked, and the last byte is to come
 abbrev first-byte : tie.After-mark-bytes → tie.After-mark-byte2
@@ -54,7 +54,7 @@ returns-4 : tie.Need-returns-4
 returns-4 c =
     let t = c .before .before .before in
     let g = start t .args in
-    run-at-once (g .first .0) (g .last .0) (marks-past (last-byte-left t) (tail-past (t .mark-bytes .last .0) (g .last .0) (omega arith)))
+    rows-at-once (g .first .0) (g .last .0 + 1 - g .first .0) (marks-past (last-byte-left t) (tail-past (t .mark-bytes .last .0) (g .last .0) (omega arith)))
 
 returns-5 : tie.Need-returns-5
 returns-5 c =
@@ -63,7 +63,7 @@ returns-5 c =
     let g = start t .args in
     let h : MarkedInTurn (t .mark-bytes .last .0) (called .mark-byte3 .last .0) (tail (g .last .0)) (called .mark-byte3 .result) =
     bits-as (g .last .0 / 8 * 8) (called .before .bits-between3 .ensures) (called .mark-byte3 .ensures) in
-    run-at-once (g .first .0) (g .last .0) (marks-done (marks-part (last-byte-left t) (sym (append-nil (tail (g .last .0)))) h) refl)
+    rows-at-once (g .first .0) (g .last .0 + 1 - g .first .0) (marks-done (marks-part (last-byte-left t) (sym (append-nil (tail (g .last .0)))) h) refl)
 
 pub mark-run-spec : {M : Type 1} → statement M
 mark-run-spec =
