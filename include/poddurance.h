@@ -21,7 +21,7 @@
  *    8 TWICE     a row already placed; carries the entry that places it again
  *    9 MISSING   a row never placed; carries the lowest one
  *   10 ROOM      a lent field has fewer than (n + 7) / 8 bytes
- *   11 LITERAL   literals don't fit question and type
+ *   11 LITERAL   literals don't fit question and type; a type, an edition or a question is unknown
  *   12 LIMIT     a limit is passed (an input buffer or a row count above 2147483647, and others)
  *   13 CHECKSUM  the checksum of a bin differs
  *   14 NOBIN     the bin number is not below the number of bins
@@ -34,7 +34,7 @@
  *    Locate          LIMIT, SHORT, MAGIC, VERSION, HEAD (no field)
  *    Audit           LIMIT, LITERAL (an unknown type), then the dictionary in byte order: SHORT, VERSION, LIMIT, DICT; ROOM | then null's and each entry's
  *                    bitmap: BITMAP, RANGE, TWICE; last MISSING
- *    Ask             LIMIT, LITERAL (an unknown type or question), the literals in turn: LIMIT, LITERAL; then as Audit
+ *    Ask             LIMIT, LITERAL (an unknown type, edition or question), the literals in turn: LIMIT, LITERAL; then as Audit
  *    Ask of a file   as Locate, then as Ask on the part that was found: body and literals are tested when Ask's turn comes
  *    Read deletions  LIMIT, ROOM | SHORT, VERSION, SHORT, NOBIN, MAGIC, CHECKSUM, BITMAP, RANGE
  *    Subtract        LIMIT, ROOM (changes nothing when it refuses)
@@ -85,12 +85,19 @@ enum {
     PODDURANCE_TYPE_STRING = 11
 };
 
+/* The edition of the question, for Ask: what becomes of null rows in NOT EQUAL and NOT IN. Each question names one, there is no default; the other questions
+ * choose the same rows in both. It stands before the question: both are numbers, and swapped they may be another well-formed question. */
+enum {
+    PODDURANCE_EDITION_1 = 1, /* document 01's rule, for stored dashboards: NOT EQUAL and NOT IN choose null rows too */
+    PODDURANCE_EDITION_2 = 2  /* NOT EQUAL and NOT IN choose no null row, as in SQL; nor does NOT IN of no literals, where SQL would */
+};
+
 /* The question, for Ask. */
 enum {
     PODDURANCE_QUESTION_EQUAL = 0,       /* one literal */
-    PODDURANCE_QUESTION_NOT_EQUAL = 1,   /* one literal; chooses null rows too */
+    PODDURANCE_QUESTION_NOT_EQUAL = 1,   /* one literal; chooses null rows too in edition 1, none in edition 2 */
     PODDURANCE_QUESTION_IN = 2,          /* any number of literals */
-    PODDURANCE_QUESTION_NOT_IN = 3,      /* any number; chooses null rows too */
+    PODDURANCE_QUESTION_NOT_IN = 3,      /* any number; chooses null rows too in edition 1, none in edition 2 */
     PODDURANCE_QUESTION_IS_NULL = 4,     /* none */
     PODDURANCE_QUESTION_IS_NOT_NULL = 5  /* none */
 };
@@ -129,9 +136,9 @@ uint8_t poddurance_locate(const uint8_t *embedded, size_t embedded_len, const ui
 uint8_t poddurance_audit(const uint8_t *body, size_t body_len, uint32_t type,
                          uint8_t *field, size_t field_len, uint64_t *rows, poddurance_fault *fault);
 
-/* Ask: audits the body; then exactly the rows that the question chooses are set in the field. Literals lie one after another in the type's stored form (big-endian
- * numbers; strings with a 4-byte length). Accepted with a *matched of 0 says skip; a refusal writes 0 too. */
-uint8_t poddurance_ask(const uint8_t *body, size_t body_len, uint32_t type, uint32_t question,
+/* Ask: audits the body; then exactly the rows that the question chooses by its edition's rule are set in the field. Literals lie one after another in the type's
+ * stored form (big-endian numbers; strings with a 4-byte length). Accepted with a *matched of 0 says skip; a refusal writes 0 too. */
+uint8_t poddurance_ask(const uint8_t *body, size_t body_len, uint32_t type, uint32_t edition, uint32_t question,
                        const uint8_t *literals, size_t literals_len,
                        uint8_t *field, size_t field_len, uint64_t *matched, poddurance_fault *fault);
 
@@ -140,7 +147,7 @@ uint8_t poddurance_ask(const uint8_t *body, size_t body_len, uint32_t type, uint
  * with every answer but 0. With 255 and with a refusal of Locate the fault is all 0. */
 uint8_t poddurance_ask_file(const uint8_t *embedded, size_t embedded_len, const uint8_t *file, size_t file_len,
                             const uint8_t *column, size_t column_len, const uint8_t *kind, size_t kind_len,
-                            uint32_t type, uint32_t question, const uint8_t *literals, size_t literals_len,
+                            uint32_t type, uint32_t edition, uint32_t question, const uint8_t *literals, size_t literals_len,
                             uint8_t *field, size_t field_len, uint64_t *matched, poddurance_fault *fault);
 
 #ifdef __cplusplus

@@ -297,6 +297,9 @@ fn field_size(rows: u32) -> usize {
 
 // Calls
 
+/// The edition of every question. EQUAL and IN, which are measured, choose the same rows in both.
+const EDITION: u32 = types::SECOND_EDITION;
+
 /// A call that both readers are given.
 enum Call<'a> {
     Locate { file: &'a [u8], column: &'a str },
@@ -334,7 +337,7 @@ impl Call<'_> {
         match *self {
             Call::Locate { file, column } => raw::locate(&[], file, column.as_bytes(), KIND.as_bytes()),
             Call::Audit { body, ty } => one(raw::audit(body, ty, field)),
-            Call::Ask { body, ty, question, literals } => one(raw::ask(body, ty, question, literals, field)),
+            Call::Ask { body, ty, question, literals } => one(raw::ask(body, ty, EDITION, question, literals, field)),
             Call::ReadDeletions { file, rows } => one(raw::read_deletions(file, 0, rows.into(), field)),
             Call::Subtract { second, rows, .. } => raw::subtract(field, second, rows.into()),
         }
@@ -345,7 +348,7 @@ impl Call<'_> {
         match *self {
             Call::Locate { file, column } => reader::locate(&[], file, column.as_bytes(), KIND.as_bytes()),
             Call::Audit { body, ty } => one(reader::audit(body, ty, field)),
-            Call::Ask { body, ty, question, literals } => one(reader::ask(body, ty, question, literals, field)),
+            Call::Ask { body, ty, question, literals } => one(reader::ask(body, ty, EDITION, question, literals, field)),
             Call::ReadDeletions { file, rows } => one(reader::read_deletions(file, 0, rows.into(), field)),
             Call::Subtract { second, rows, .. } => reader::subtract(field, second, rows.into()),
         }

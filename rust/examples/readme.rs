@@ -1,6 +1,6 @@
 //! The README's example "From Rust", to be run in the repository's top folder; the test `readme` holds the two together.
 
-use poddurance::{ask_file, read_deletions, subtract, Literals, Question, RowField, Type};
+use poddurance::{ask_file, read_deletions, subtract, Edition, Literals, Question, RowField, Type};
 
 fn main() -> Result<(), Box<dyn std::error::Error>> {
     let index = std::fs::read("demo/pumps-v2.index")?;
@@ -9,7 +9,7 @@ fn main() -> Result<(), Box<dyn std::error::Error>> {
 
     let fault = Literals::of(Type::String, ["fault"])?;
     let field = RowField::for_rows(row_count)?;
-    let mut rows = match ask_file(&[], &index, "state", "bitmap", Question::Equal, &fault, field)? {
+    let mut rows = match ask_file(&[], &index, "state", "bitmap", Edition::Second, Question::Equal, &fault, field)? {
         Some(answer) => answer.into_field(),
         None => RowField::all_of(row_count)?, // no index: all rows are to be read
     };

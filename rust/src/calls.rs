@@ -1,7 +1,7 @@
 use std::fmt;
 
 use crate::raw::{self, Fault};
-use crate::{Literals, Question, Refusal, RowField, Type};
+use crate::{Edition, Literals, Question, Refusal, RowField, Type};
 
 /// Why a call gives no answer: a refusal, or fields and indexes of different row counts.
 ///
@@ -165,12 +165,12 @@ impl Audited {
     /// The field that was lent, with no row set, to lend to the next call.
     ///
     /// ```
-    /// # use poddurance::{ask, audit, Literals, Question, RowField, Type};
+    /// # use poddurance::{ask, audit, Edition, Literals, Question, RowField, Type};
     /// // One row, null.
     /// let body = [1, 0, 0, 0, 1, 0, 0, 0, 0, 1, 255, 255, 255, 255];
     /// let field = audit(&body, Type::Int, RowField::for_body(&body))?.into_field();
     /// assert_eq!(field.count(), 0);
-    /// assert_eq!(ask(&body, Question::IsNull, &Literals::none(Type::Int), field)?.count(), 1);
+    /// assert_eq!(ask(&body, Edition::Second, Question::IsNull, &Literals::none(Type::Int), field)?.count(), 1);
     /// # Ok::<(), poddurance::Error>(())
     /// ```
     #[must_use]
@@ -181,26 +181,32 @@ impl Audited {
 
 /// Checks the whole body of an index as [`audit`] does, then answers a question: which rows does it choose?
 ///
-/// The type is that of the literals. A body with another row count than the field's is [`Error::RowsDiffer`], or
-/// [`Refusal::Room`] where it needs more bytes than the field has.
+/// The edition says what becomes of null rows in NOT EQUAL and NOT IN; in the other questions it makes no difference. The type is
+/// that of the literals. A body with another row count than the field's is [`Error::RowsDiffer`], or [`Refusal::Room`] where it
+/// needs more bytes than the field has.
 ///
 /// ```
-/// use poddurance::{ask, Literals, Question, RowField, Type};
+/// use poddurance::{ask, Edition, Literals, Question, RowField, Type};
 ///
+/// // 7, 9, null
 /// let body = [1, 0, 0, 0, 3, 0, 0, 0, 2, 1, 255, 255, 255, 253, 7, 255, 255, 255, 255, 9, 255, 255, 255, 254];
 /// let seven = Literals::of(Type::TinyInt, [7])?;
 ///
-/// let answer = ask(&body, Question::NotEqual, &seven, RowField::for_body(&body))?;
+/// let answer = ask(&body, Edition::First, Question::NotEqual, &seven, RowField::for_body(&body))?;
 /// assert_eq!(answer.count(), 2);
 /// assert!(answer.field().iter().eq([1, 2])); // 9 and null
 ///
+/// let answer = ask(&body, Edition::Second, Question::NotEqual, &seven, RowField::for_body(&body))?;
+/// assert_eq!(answer.count(), 1);
+/// assert!(answer.field().iter().eq([1])); // 9
+///
 /// let eight = Literals::of(Type::TinyInt, [8])?;
-/// assert!(ask(&body, Question::Equal, &eight, RowField::for_body(&body))?.is_skip());
+/// assert!(ask(&body, Edition::Second, Question::Equal, &eight, RowField::for_body(&body))?.is_skip());
 /// # Ok::<(), poddurance::Error>(())
 /// ```
-pub fn ask(body: &[u8], question: Question, literals: &Literals, mut field: RowField) -> Result<Answer, Error> {
+pub fn ask(body: &[u8], edition: Edition, question: Question, literals: &Literals, mut field: RowField) -> Result<Answer, Error> {
     let (ty, bytes) = (literals.ty().number(), literals.as_bytes());
-    let (answer, count, fault) = raw::ask(body, ty, question.number(), bytes, field.bytes_mut());
+    let (answer, count, fault) = raw::ask(body, ty, edition.number(), question.number(), bytes, field.bytes_mut());
     accepted(answer, fault)?;
     // An accepted body has the row count that stands in its bytes.
     same_rows(&field, RowField::claim(body))?;
@@ -214,11 +220,12 @@ pub fn ask(body: &[u8], question: Question, literals: &Literals, mut field: RowF
 /// is. The field is lent by value: neither without an index nor with a refusal does it come back, and none of its rows can be taken
 /// for an answer.
 ///
-/// The type is that of the literals. An index with another row count than the field's is [`Error::RowsDiffer`], or
-/// [`Refusal::Room`] where it needs more bytes than the field has.
+/// The edition says what becomes of null rows in NOT EQUAL and NOT IN; in the other questions it makes no difference. The type is
+/// that of the literals. An index with another row count than the field's is [`Error::RowsDiffer`], or [`Refusal::Room`] where it
+/// needs more bytes than the field has.
 ///
 /// ```
-/// use poddurance::{ask_file, Error, Literals, Question, Refusal, RowField, Type};
+/// use poddurance::{ask_file, Edition, Error, Literals, Question, Refusal, RowField, Type};
 ///
 /// // The TINYINT column s with the rows 7, 9, null.
 /// let mut file = [
@@ -229,33 +236,50 @@ pub fn ask(body: &[u8], question: Question, literals: &Literals, mut field: RowF
 /// let row_count = 3; // as the table's metadata has it
 /// let seven = Literals::of(Type::TinyInt, [7])?;
 ///
-/// let rows = match ask_file(&[], &file, "s", "bitmap", Question::NotEqual, &seven, RowField::for_rows(row_count)?)? {
+/// let field = RowField::for_rows(row_count)?;
+/// let rows = match ask_file(&[], &file, "s", "bitmap", Edition::Second, Question::NotEqual, &seven, field)? {
 ///     Some(answer) => answer.into_field(),
 ///     None => RowField::all_of(row_count)?, // without an index all rows are to be read
 /// };
-/// assert!(rows.iter().eq([1, 2])); // 9 and null
+/// assert!(rows.iter().eq([1])); // 9
 ///
-/// let asked = ask_file(&[], &file, "t", "bitmap", Question::NotEqual, &seven, RowField::for_rows(row_count)?);
+/// let field = RowField::for_rows(row_count)?;
+/// let asked = ask_file(&[], &file, "s", "bitmap", Edition::First, Question::NotEqual, &seven, field)?;
+/// assert!(asked.is_some_and(|answer| answer.field().iter().eq([1, 2]))); // 9 and null
+///
+/// let field = RowField::for_rows(row_count)?;
+/// let asked = ask_file(&[], &file, "t", "bitmap", Edition::Second, Question::NotEqual, &seven, field);
 /// assert_eq!(asked, Ok(None));
 ///
 /// file[70] = 255; // 9 is now at row 0, where 7 is, and no longer at row 1
-/// let asked = ask_file(&[], &file, "s", "bitmap", Question::NotEqual, &seven, RowField::for_rows(row_count)?);
+/// let field = RowField::for_rows(row_count)?;
+/// let asked = ask_file(&[], &file, "s", "bitmap", Edition::Second, Question::NotEqual, &seven, field);
 /// assert_eq!(asked, Err(Error::Refused(Refusal::Twice { entry: 2 })));
 /// # Ok::<(), Error>(())
 /// ```
+// The file's two buffers, what is looked for in them, and what is asked: none of them can be left out.
+#[allow(clippy::too_many_arguments)]
 pub fn ask_file(
     embedded: &[u8],
     file: &[u8],
     column: &str,
     kind: &str,
+    edition: Edition,
     question: Question,
     literals: &Literals,
     mut field: RowField,
 ) -> Result<Option<Answer>, Error> {
-    let (ty, question) = (literals.ty().number(), question.number());
-    let (column_bytes, kind_bytes) = (column.as_bytes(), kind.as_bytes());
-    let (answer, count, fault) =
-        raw::ask_file(embedded, file, column_bytes, kind_bytes, ty, question, literals.as_bytes(), field.bytes_mut());
+    let (answer, count, fault) = raw::ask_file(
+        embedded,
+        file,
+        column.as_bytes(),
+        kind.as_bytes(),
+        literals.ty().number(),
+        edition.number(),
+        question.number(),
+        literals.as_bytes(),
+        field.bytes_mut(),
+    );
     if answer == raw::ABSENT {
         return Ok(None);
     }
@@ -269,10 +293,10 @@ pub fn ask_file(
 /// The answer to a question: the rows it chooses.
 ///
 /// ```
-/// use poddurance::{ask, Literals, Question, RowField, Type};
+/// use poddurance::{ask, Edition, Literals, Question, RowField, Type};
 ///
 /// let body = [1, 0, 0, 0, 3, 0, 0, 0, 2, 1, 255, 255, 255, 253, 7, 255, 255, 255, 255, 9, 255, 255, 255, 254];
-/// let answer = ask(&body, Question::IsNull, &Literals::none(Type::TinyInt), RowField::for_body(&body))?;
+/// let answer = ask(&body, Edition::Second, Question::IsNull, &Literals::none(Type::TinyInt), RowField::for_body(&body))?;
 /// if !answer.is_skip() {
 ///     for row in answer.field() {
 ///         assert_eq!(row, 2);
@@ -290,10 +314,10 @@ impl Answer {
     /// Whether no row is chosen, so that the data file needn't be read.
     ///
     /// ```
-    /// # use poddurance::{ask, Literals, Question, RowField, Type};
+    /// # use poddurance::{ask, Edition, Literals, Question, RowField, Type};
     /// // No rows and no values.
     /// let body = [1, 0, 0, 0, 0, 0, 0, 0, 0, 0];
-    /// let answer = ask(&body, Question::IsNull, &Literals::none(Type::Int), RowField::for_body(&body))?;
+    /// let answer = ask(&body, Edition::Second, Question::IsNull, &Literals::none(Type::Int), RowField::for_body(&body))?;
     /// assert!(answer.is_skip());
     /// # Ok::<(), poddurance::Error>(())
     /// ```
@@ -305,10 +329,10 @@ impl Answer {
     /// How many rows are chosen.
     ///
     /// ```
-    /// # use poddurance::{ask, Literals, Question, RowField, Type};
+    /// # use poddurance::{ask, Edition, Literals, Question, RowField, Type};
     /// // One row, null.
     /// let body = [1, 0, 0, 0, 1, 0, 0, 0, 0, 1, 255, 255, 255, 255];
-    /// let answer = ask(&body, Question::IsNull, &Literals::none(Type::Int), RowField::for_body(&body))?;
+    /// let answer = ask(&body, Edition::Second, Question::IsNull, &Literals::none(Type::Int), RowField::for_body(&body))?;
     /// assert_eq!(answer.count(), 1);
     /// # Ok::<(), poddurance::Error>(())
     /// ```
@@ -320,10 +344,10 @@ impl Answer {
     /// The rows that are chosen, of all rows of the body.
     ///
     /// ```
-    /// # use poddurance::{ask, Literals, Question, RowField, Type};
+    /// # use poddurance::{ask, Edition, Literals, Question, RowField, Type};
     /// // One row, null.
     /// let body = [1, 0, 0, 0, 1, 0, 0, 0, 0, 1, 255, 255, 255, 255];
-    /// let answer = ask(&body, Question::IsNull, &Literals::none(Type::Int), RowField::for_body(&body))?;
+    /// let answer = ask(&body, Edition::Second, Question::IsNull, &Literals::none(Type::Int), RowField::for_body(&body))?;
     /// assert!(answer.field().contains(0));
     /// # Ok::<(), poddurance::Error>(())
     /// ```
@@ -335,12 +359,12 @@ impl Answer {
     /// The rows that are chosen, to [`subtract`] from, or to lend to the next call.
     ///
     /// ```
-    /// # use poddurance::{ask, Literals, Question, RowField, Type};
+    /// # use poddurance::{ask, Edition, Literals, Question, RowField, Type};
     /// // One row, null.
     /// let body = [1, 0, 0, 0, 1, 0, 0, 0, 0, 1, 255, 255, 255, 255];
     /// let none = Literals::none(Type::Int);
-    /// let field = ask(&body, Question::IsNull, &none, RowField::for_body(&body))?.into_field();
-    /// assert!(ask(&body, Question::IsNotNull, &none, field)?.is_skip());
+    /// let field = ask(&body, Edition::Second, Question::IsNull, &none, RowField::for_body(&body))?.into_field();
+    /// assert!(ask(&body, Edition::Second, Question::IsNotNull, &none, field)?.is_skip());
     /// # Ok::<(), poddurance::Error>(())
     /// ```
     #[must_use]

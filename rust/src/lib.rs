@@ -5,35 +5,36 @@
 //! what each call answers and which [`Refusal`] it gives. [`ask_file`] goes from an index file to the answer; [`locate`],
 //! [`audit`] and [`ask`] are its steps. [`read_deletions`] and [`subtract`] take the deleted rows away.
 //!
-//! Which rows of a data file don't hold 7, without the deleted ones?
+//! Which rows of a data file hold another value than 7, without the deleted ones?
 //!
 //! ```
-//! use poddurance::{ask_file, read_deletions, subtract, Literals, Question, RowField, Type};
+//! use poddurance::{ask_file, read_deletions, subtract, Edition, Literals, Question, RowField, Type};
 //!
-//! // The TINYINT column s with the rows 7, 9, null.
+//! // The TINYINT column s with the rows 7, 9, null, 11.
 //! let index_file = [
 //!     0, 5, 0x4E, 0x4E, 0xD0, 0x1A, 0x35, 0xAE, 0, 0, 0, 1, 0, 0, 0, 47, 0, 0, 0, 1, 0, 1, b's', 0, 0, 0, 1, 0, 6,
-//!     b'b', b'i', b't', b'm', b'a', b'p', 0, 0, 0, 47, 0, 0, 0, 24, 0, 0, 0, 0, // the head ends here
-//!     1, 0, 0, 0, 3, 0, 0, 0, 2, 1, 255, 255, 255, 253, 7, 255, 255, 255, 255, 9, 255, 255, 255, 254,
+//!     b'b', b'i', b't', b'm', b'a', b'p', 0, 0, 0, 47, 0, 0, 0, 29, 0, 0, 0, 0, // the head ends here
+//!     1, 0, 0, 0, 4, 0, 0, 0, 3, 1, 255, 255, 255, 253, 7, 255, 255, 255, 255, 9, 255, 255, 255, 254,
+//!     11, 255, 255, 255, 252,
 //! ];
 //! // One bin that lists row 1.
 //! let deletion_file = [
 //!     1, 0, 0, 0, 22, 0x5E, 0x43, 0xF2, 0xD0, 0x3A, 0x30, 0, 0, 1, 0, 0, 0, 0, 0, 0, 0, 0x10, 0, 0, 0, 1, 0,
 //!     0xFA, 0x2B, 0x51, 0x92,
 //! ];
-//! let row_count = 3; // as the table's metadata has it
+//! let row_count = 4; // as the table's metadata has it
 //!
 //! let seven = Literals::of(Type::TinyInt, [7])?;
 //! let field = RowField::for_rows(row_count)?;
-//! let mut rows = match ask_file(&[], &index_file, "s", "bitmap", Question::NotEqual, &seven, field)? {
+//! let mut rows = match ask_file(&[], &index_file, "s", "bitmap", Edition::Second, Question::NotEqual, &seven, field)? {
 //!     Some(answer) => answer.into_field(),
 //!     None => RowField::all_of(row_count)?, // without an index all rows are to be read
 //! };
-//! assert!(rows.iter().eq([1, 2]));
+//! assert!(rows.iter().eq([1, 3])); // in Edition::First row 2, which is null, too
 //!
 //! let deleted = read_deletions(&deletion_file, 0, RowField::for_rows(row_count)?)?;
 //! assert_eq!(subtract(&mut rows, deleted.field())?.left, 1);
-//! assert!(rows.iter().eq([2]));
+//! assert!(rows.iter().eq([3]));
 //! # Ok::<(), poddurance::Error>(())
 //! ```
 //!
@@ -59,7 +60,7 @@ mod row_field;
 
 pub use calls::{ask, ask_file, audit, locate, read_deletions, subtract, Answer, Audited, Deleted, Error, Subtracted};
 pub use literals::{Literals, Value};
-pub use names::{Question, Type, UnknownName};
+pub use names::{Edition, Question, Type, UnknownName};
 pub use refusal::Refusal;
 pub use row_field::{Ranges, RowField, Rows};
 

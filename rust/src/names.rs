@@ -119,24 +119,87 @@ impl Type {
     }
 }
 
-impl fmt::Display for Type {
-    fn fmt(&self, f: &mut fmt::Formatter<'_>) -> fmt::Result {
-        f.pad(self.name())
-    }
+/// The edition of a question: what becomes of null rows in NOT EQUAL and NOT IN. The other questions choose the same rows in both.
+///
+/// Parsing takes the edition's number, `1` or `2`.
+///
+/// ```
+/// use poddurance::Edition;
+///
+/// assert_eq!("2".parse(), Ok(Edition::Second));
+/// assert_eq!(Edition::First.to_string(), "1");
+/// assert_eq!("3".parse::<Edition>().unwrap_err().to_string(), "\"3\" is none of 1, 2");
+/// ```
+///
+/// There is no default: only the caller knows by which rule the answer is read, and the wrong one gives a wrong graph.
+///
+/// ```compile_fail
+/// let edition = poddurance::Edition::default();
+/// ```
+#[derive(Clone, Copy, Debug, PartialEq, Eq, Hash)]
+#[repr(u8)]
+pub enum Edition {
+    /// Document 01's rule, for stored dashboards: NOT EQUAL and NOT IN choose null rows too.
+    First = 1,
+    /// NOT EQUAL and NOT IN choose no null row, as in SQL; nor does NOT IN of no literals, where SQL would.
+    Second = 2,
 }
 
-impl FromStr for Type {
-    type Err = UnknownName;
+impl Edition {
+    /// Both, by number.
+    ///
+    /// ```
+    /// use poddurance::Edition;
+    ///
+    /// assert!(Edition::ALL.iter().map(|edition| edition.number()).eq(1..3));
+    /// ```
+    pub const ALL: [Edition; 2] = [Edition::First, Edition::Second];
 
-    fn from_str(name: &str) -> Result<Type, UnknownName> {
-        by_name(&Type::ALL, Type::name, name)
+    /// The edition with this number, as a stored dashboard has it; none for any other.
+    ///
+    /// ```
+    /// use poddurance::Edition;
+    ///
+    /// assert_eq!(Edition::from_number(1), Some(Edition::First));
+    /// assert_eq!(Edition::from_number(2), Some(Edition::Second));
+    /// for unknown in [0, 3, 257, u32::MAX] {
+    ///     assert_eq!(Edition::from_number(unknown), None);
+    /// }
+    /// ```
+    #[must_use]
+    pub fn from_number(number: u32) -> Option<Edition> {
+        Edition::ALL.into_iter().find(|edition| edition.number() == number)
+    }
+
+    /// The number by which the [`raw`](crate::raw) calls know it.
+    ///
+    /// ```
+    /// assert_eq!(poddurance::Edition::Second.number(), 2);
+    /// ```
+    #[must_use]
+    pub fn number(self) -> u32 {
+        self as u32
+    }
+
+    /// Its number, as a name.
+    ///
+    /// ```
+    /// assert_eq!(poddurance::Edition::First.name(), "1");
+    /// ```
+    #[must_use]
+    pub fn name(self) -> &'static str {
+        match self {
+            Edition::First => "1",
+            Edition::Second => "2",
+        }
     }
 }
 
 /// What is asked of a column. How many [`Literals`](crate::Literals) go with it: one with EQUAL and NOT EQUAL, any number with IN
 /// and NOT IN, none with IS NULL and IS NOT NULL.
 ///
-/// NOT EQUAL and NOT IN choose null rows too. Parsing takes document 01's names in either case, with `_` or `-` for a space.
+/// Whether NOT EQUAL and NOT IN choose null rows too is up to the [`Edition`]. Parsing takes document 01's names in either case, with
+/// `_` or `-` for a space.
 ///
 /// ```
 /// use poddurance::Question;
@@ -150,11 +213,11 @@ impl FromStr for Type {
 pub enum Question {
     /// The rows whose value is the literal.
     Equal = 0,
-    /// Every other row, null rows too.
+    /// Every other row; of the null rows all in edition 1, none in edition 2.
     NotEqual = 1,
     /// The rows whose value is listed.
     In = 2,
-    /// Every other row, null rows too.
+    /// Every other row; of the null rows all in edition 1, none in edition 2, whatever is listed.
     NotIn = 3,
     /// The null rows.
     IsNull = 4,
@@ -201,21 +264,28 @@ impl Question {
     }
 }
 
-impl fmt::Display for Question {
-    fn fmt(&self, f: &mut fmt::Formatter<'_>) -> fmt::Result {
-        f.pad(self.name())
-    }
+// Each prints its name and is parsed from it.
+macro_rules! named {
+    ($($named:ty),*) => {$(
+        impl fmt::Display for $named {
+            fn fmt(&self, f: &mut fmt::Formatter<'_>) -> fmt::Result {
+                f.pad(self.name())
+            }
+        }
+
+        impl FromStr for $named {
+            type Err = UnknownName;
+
+            fn from_str(name: &str) -> Result<$named, UnknownName> {
+                by_name(&<$named>::ALL, <$named>::name, name)
+            }
+        }
+    )*};
 }
 
-impl FromStr for Question {
-    type Err = UnknownName;
+named!(Type, Edition, Question);
 
-    fn from_str(name: &str) -> Result<Question, UnknownName> {
-        by_name(&Question::ALL, Question::name, name)
-    }
-}
-
-/// The error of parsing a [`Type`] or a [`Question`] from a name that none has.
+/// The error of parsing a [`Type`], an [`Edition`] or a [`Question`] from a name that none has.
 ///
 /// ```
 /// use poddurance::Type;

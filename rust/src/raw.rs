@@ -17,7 +17,7 @@
 //! let mut buffer = [0xFF; 100];
 //! let (answer, rows, fault) = raw::audit(&body, 0, &mut buffer);
 //! assert_eq!((answer, rows, fault), (raw::ACCEPTED, 3, Fault::NONE));
-//! let (answer, count, _) = raw::ask(&body, 0, 5, &[], &mut buffer); // IS NOT NULL (5)
+//! let (answer, count, _) = raw::ask(&body, 0, 2, 5, &[], &mut buffer); // edition 2, IS NOT NULL (5)
 //! assert_eq!((answer, count), (raw::ACCEPTED, 2));
 //! let field = &buffer[..rows.div_ceil(8) as usize];
 //! assert_eq!(field, [0b011]);
@@ -105,6 +105,7 @@ mod c {
             body: *const u8,
             body_len: usize,
             ty: u32,
+            edition: u32,
             question: u32,
             literals: *const u8,
             literals_len: usize,
@@ -123,6 +124,7 @@ mod c {
             kind: *const u8,
             kind_len: usize,
             ty: u32,
+            edition: u32,
             question: u32,
             literals: *const u8,
             literals_len: usize,
@@ -210,19 +212,27 @@ pub fn audit(body: &[u8], ty: u32, field: &mut [u8]) -> (u8, u64, Fault) {
     (answer, rows, fault)
 }
 
-/// Ask: the answer, how many rows the question chooses, and where a refusal's cause is. Accepted, those rows are set in the field; a
-/// number of 0 says skip.
+/// Ask: the answer, how many rows the question chooses by the edition's rule of null rows ([`Edition`](crate::Edition)), and where a
+/// refusal's cause is. Accepted, those rows are set in the field; a number of 0 says skip.
+///
+/// Edition and question are both numbers, and swapped they may be another well-formed question.
 ///
 /// ```
 /// use poddurance::raw::{ask, Fault};
+/// use poddurance::{Edition, Question};
 ///
 /// let body = [1, 0, 0, 0, 3, 0, 0, 0, 2, 1, 255, 255, 255, 253, 7, 255, 255, 255, 255, 9, 255, 255, 255, 254];
 /// let mut field = [0];
-/// assert_eq!(ask(&body, 0, 1, &[7], &mut field), (0, 2, Fault::NONE)); // TINYINT, NOT EQUAL 7
-/// assert_eq!(field, [0b110]);
+/// let not_equal = Question::NotEqual.number();
+/// // TINYINT (0), NOT EQUAL 7
+/// assert_eq!(ask(&body, 0, Edition::First.number(), not_equal, &[7], &mut field), (0, 2, Fault::NONE));
+/// assert_eq!(field, [0b110]); // 9 and null
+/// assert_eq!(ask(&body, 0, Edition::Second.number(), not_equal, &[7], &mut field), (0, 1, Fault::NONE));
+/// assert_eq!(field, [0b010]); // 9
+/// assert_eq!(ask(&body, 0, 3, not_equal, &[7], &mut field), (11, 0, Fault::NONE)); // there is no edition 3: LITERAL (11)
 /// ```
 #[must_use]
-pub fn ask(body: &[u8], ty: u32, question: u32, literals: &[u8], field: &mut [u8]) -> (u8, u64, Fault) {
+pub fn ask(body: &[u8], ty: u32, edition: u32, question: u32, literals: &[u8], field: &mut [u8]) -> (u8, u64, Fault) {
     let (mut matched, mut fault) = (0, Fault::NONE);
     // SAFETY: a slice's pointer is never null and is good for its length, `field`'s for writing too; the results are two locals good
     // for writing. All live through the call, which keeps none of them. `field` is borrowed mutably, so that it overlaps no other
@@ -232,6 +242,7 @@ pub fn ask(body: &[u8], ty: u32, question: u32, literals: &[u8], field: &mut [u8
             body.as_ptr(),
             body.len(),
             ty,
+            edition,
             question,
             literals.as_ptr(),
             literals.len(),
@@ -245,8 +256,8 @@ pub fn ask(body: &[u8], ty: u32, question: u32, literals: &[u8], field: &mut [u8
 }
 
 /// From the file to the answer: [`locate`], then [`ask`] on the part that it hands back. The answer, how many rows the question
-/// chooses, and where a refusal's cause is. Accepted, those rows are set in the field; a number of 0 says skip. With [`ABSENT`] and with
-/// a refusal of Locate the field's buffer is as it was.
+/// chooses by the edition's rule of null rows, and where a refusal's cause is. Accepted, those rows are set in the field; a number of
+/// 0 says skip. With [`ABSENT`] and with a refusal of Locate the field's buffer is as it was.
 ///
 /// ```
 /// use poddurance::raw::{ask_file, Fault, ABSENT};
@@ -257,10 +268,13 @@ pub fn ask(body: &[u8], ty: u32, question: u32, literals: &[u8], field: &mut [u8
 ///     1, 0, 0, 0, 3, 0, 0, 0, 2, 1, 255, 255, 255, 253, 7, 255, 255, 255, 255, 9, 255, 255, 255, 254, // body
 /// ];
 /// let mut field = [0xAA];
-/// assert_eq!(ask_file(&[], &file, b"t", b"bitmap", 0, 1, &[7], &mut field), (ABSENT, 0, Fault::NONE));
+/// // TINYINT (0), edition 2, NOT EQUAL (1) 7
+/// assert_eq!(ask_file(&[], &file, b"t", b"bitmap", 0, 2, 1, &[7], &mut field), (ABSENT, 0, Fault::NONE));
 /// assert_eq!(field, [0xAA]);
-/// assert_eq!(ask_file(&[], &file, b"s", b"bitmap", 0, 1, &[7], &mut field), (0, 2, Fault::NONE)); // TINYINT, NOT EQUAL 7
-/// assert_eq!(field, [0b110]);
+/// assert_eq!(ask_file(&[], &file, b"s", b"bitmap", 0, 2, 1, &[7], &mut field), (0, 1, Fault::NONE));
+/// assert_eq!(field, [0b010]); // 9
+/// assert_eq!(ask_file(&[], &file, b"s", b"bitmap", 0, 1, 1, &[7], &mut field), (0, 2, Fault::NONE)); // edition 1
+/// assert_eq!(field, [0b110]); // 9 and null
 /// ```
 // The archive's call has these parameters; what belongs together is put together at the top of the crate.
 #[allow(clippy::too_many_arguments)]
@@ -271,6 +285,7 @@ pub fn ask_file(
     column: &[u8],
     kind: &[u8],
     ty: u32,
+    edition: u32,
     question: u32,
     literals: &[u8],
     field: &mut [u8],
@@ -290,6 +305,7 @@ pub fn ask_file(
             kind.as_ptr(),
             kind.len(),
             ty,
+            edition,
             question,
             literals.as_ptr(),
             literals.len(),

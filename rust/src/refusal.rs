@@ -56,7 +56,7 @@ pub enum Refusal {
     },
     /// A lent field has fewer than ceil(n/8) bytes.
     Room,
-    /// Literals don't fit question and type.
+    /// Literals don't fit question and type. A [`raw`](crate::raw) call also gives it for an unknown type, edition or question.
     Literal,
     /// A limit is passed.
     Limit,

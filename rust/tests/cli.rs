@@ -231,7 +231,7 @@ fn reads_standard_input() {
     says_of_input(&["deletions", "-", "0", "3", "--rows"], &deletions, 0, "deleted: 1 of 3 rows\nrows: 0");
     let file = folder.write("index", &index);
     says_of_input(
-        &["ask", &file, "s", "TINYINT", "NOT-IN", "--deletions", "-", "--bin", "0"],
+        &["ask", &file, "s", "TINYINT", "NOT-IN", "--edition", "1", "--deletions", "-", "--bin", "0"],
         &deletions,
         0,
         "keep: 2 of 3 rows, 1 deleted row removed",
@@ -285,10 +285,14 @@ fn asks() {
     let with = |more: &[&'static str]| [&ask[..], more].concat();
     says(&with(&["EQUAL", "login"]), 0, "keep: 3 of 6 rows");
     says(&with(&["IN", "login", "purchase", "--rows"]), 0, "keep: 4 of 6 rows\nrows: 0, 2-3, 5");
-    says(&with(&["NOT IN", "login", "--rows"]), 0, "keep: 3 of 6 rows\nrows: 1, 3-4");
-    says(&with(&["not-in", "--rows"]), 0, "keep: 6 of 6 rows\nrows: 0-5");
+    // No row is null, so that the editions choose the same rows.
+    for edition in ["1", "2"] {
+        let with = |more: &[&'static str]| [&ask[..], &["--edition", edition], more].concat();
+        says(&with(&["NOT IN", "login", "--rows"]), 0, "keep: 3 of 6 rows\nrows: 1, 3-4");
+        says(&with(&["not-in", "--rows"]), 0, "keep: 6 of 6 rows\nrows: 0-5");
+        says(&with(&["not_equal", "click"]), 0, "keep: 4 of 6 rows");
+    }
     says(&with(&["in"]), 1, "skip: no row of 6");
-    says(&with(&["not_equal", "click"]), 0, "keep: 4 of 6 rows");
     says(&with(&["equal", "logout"]), 1, "skip: no row of 6");
     says(&with(&["is-null", "--rows"]), 1, "skip: no row of 6\nrows: none");
     says(&with(&["is-not-null"]), 0, "keep: 6 of 6 rows");
@@ -304,6 +308,71 @@ fn asks() {
         r#"{"answer":"skip","count":0,"rows":6,"removed":null,"ranges":[]}"#,
     );
     says(&["ask", file, "x", "STRING", "IS NULL"], 4, "absent: no bitmap index on column \"x\"");
+}
+
+/// The demo's alarms are true in rows 7, 10, 13, 16 and 23, null in rows 2, 5, 18 and 21, and false in the other 15 of 24.
+#[test]
+fn asks_in_both_editions() {
+    let demo = Path::new(env!("CARGO_MANIFEST_DIR")).join("../demo");
+    for name in ["pumps-v1.index", "pumps-v2.index"] {
+        let file = demo.join(name);
+        let asks = |more: &[&str], edition: &[&str], status: i32, line: &str| {
+            let words = [&["ask", file.to_str().unwrap(), "alarm", "boolean"], more, edition].concat();
+            says(&words, status, line);
+        };
+        let (first, second) = (&["--edition", "1"][..], &["--edition", "2"][..]);
+        for question in ["not-equal", "not-in"] {
+            let not_true = [question, "true", "--rows"];
+            asks(&not_true, first, 0, "keep: 19 of 24 rows\nrows: 0-6, 8-9, 11-12, 14-15, 17-22");
+            asks(&not_true, second, 0, "keep: 15 of 24 rows\nrows: 0-1, 3-4, 6, 8-9, 11-12, 14-15, 17, 19-20, 22");
+        }
+        // Of no literals, and of all that there are.
+        asks(&["not-in", "--rows"], first, 0, "keep: 24 of 24 rows\nrows: 0-23");
+        asks(&["not-in", "--rows"], second, 0, "keep: 20 of 24 rows\nrows: 0-1, 3-4, 6-17, 19-20, 22-23");
+        asks(&["not-in", "true", "false", "--rows"], first, 0, "keep: 4 of 24 rows\nrows: 2, 5, 18, 21");
+        asks(&["not-in", "true", "false", "--rows"], second, 1, "skip: no row of 24\nrows: none");
+        // The others answer the same in both, and where none is given.
+        for edition in [first, second, &[]] {
+            asks(&["equal", "true", "--rows"], edition, 0, "keep: 5 of 24 rows\nrows: 7, 10, 13, 16, 23");
+            asks(&["in", "true", "--rows"], edition, 0, "keep: 5 of 24 rows\nrows: 7, 10, 13, 16, 23");
+            asks(&["in"], edition, 1, "skip: no row of 24");
+            asks(&["is-null", "--rows"], edition, 0, "keep: 4 of 24 rows\nrows: 2, 5, 18, 21");
+            asks(&["is-not-null", "--rows"], edition, 0, "keep: 20 of 24 rows\nrows: 0-1, 3-4, 6-17, 19-20, 22-23");
+        }
+        // Bin 0 of the deletions has rows 3, 13 and 20.
+        let deletions = demo.join("pumps.deletions");
+        let left = ["not-equal", "true", "--deletions", deletions.to_str().unwrap(), "--bin", "0", "--json"];
+        asks(&left, first, 0, r#"{"answer":"keep","count":17,"rows":24,"removed":2}"#);
+        asks(&left, second, 0, r#"{"answer":"keep","count":13,"rows":24,"removed":2}"#);
+    }
+}
+
+/// A question that would choose null rows or not by its edition is not asked without one, and a number other than 1 and 2 is wrong usage.
+#[test]
+fn an_edition_is_never_assumed() {
+    let folder = Folder::new();
+    let file = &folder.write("index", &index_file("s", "bitmap", &SMALL));
+    let needed = "needs --edition 1 or 2: 1 chooses null rows too, for stored dashboards; 2 chooses none";
+    for question in [&["NOT EQUAL", "7"][..], &["NOT IN", "7"], &["NOT IN"]] {
+        let asked = |more: &[&'static str]| [&["ask", file, "s", "TINYINT"], question, more].concat();
+        complains(&asked(&[]), &format!("{} {needed}", question[0]));
+        complains(&asked(&["--json"]), &format!("{} {needed}", question[0]));
+        complains(&asked(&["--edition"]), "--edition needs 1 or 2");
+    }
+    for question in [&["NOT EQUAL", "7"][..], &["NOT IN"], &["EQUAL", "7"], &["IN"], &["IS NULL"], &["IS NOT NULL"]] {
+        let asked = |more: &[&'static str]| [&["ask", file, "s", "TINYINT"], question, more].concat();
+        for number in ["0", "3", "-1", "first", ""] {
+            complains(&asked(&["--edition", number]), &format!("--edition {number:?} is none of 1, 2"));
+        }
+        complains(&asked(&["--edition", "2", "--edition", "2"]), "--edition is there twice");
+    }
+    for words in
+        [&["columns", file][..], &["locate", file, "s"], &["audit", file, "s", "TINYINT"], &["deletions", file, "0", "6"]]
+    {
+        complains(&[words, &["--edition", "2"]].concat(), "--edition goes with ask alone");
+    }
+    // It is said before the file is looked for.
+    complains(&["ask", "/no such folder/f", "s", "TINYINT", "NOT IN"], needed);
 }
 
 #[test]
@@ -347,7 +416,7 @@ fn asks_with_deletions() {
     says(&ask(&["EQUAL", "purchase"], "1"), 0, "keep: 1 of 6 rows, 0 deleted rows removed");
     says(&ask(&["EQUAL", "logout"], "1"), 1, "skip: no row of 6, 0 deleted rows removed");
     says(
-        &ask(&["NOT IN", "--json", "--rows"], "1"),
+        &ask(&["NOT IN", "--edition", "2", "--json", "--rows"], "1"),
         0,
         r#"{"answer":"keep","count":3,"rows":6,"removed":3,"ranges":[[1,1],[3,4]]}"#,
     );
@@ -490,6 +559,11 @@ fn every_refusal_of_literals() {
     says(&["ask", file, "s", "TINYINT", "EQUAL"], 3, misfit);
     says(&["ask", file, "s", "TINYINT", "EQUAL", "7", "9"], 3, misfit);
     says(&["ask", file, "s", "TINYINT", "IS NULL", "7"], 3, misfit);
+    for edition in ["1", "2"] {
+        says(&["ask", file, "s", "TINYINT", "NOT EQUAL", "--edition", edition], 3, misfit);
+        says(&["ask", file, "s", "TINYINT", "NOT EQUAL", "7", "9", "--edition", edition], 3, misfit);
+        says(&["ask", file, "s", "TINYINT", "IS NULL", "7", "--edition", edition], 3, misfit);
+    }
     says(
         &["ask", file, "s", "TINYINT", "EQUAL", "--json"],
         3,
@@ -604,7 +678,9 @@ fn literals_of_every_type() {
         let file = &folder.write("index", &index_file("c", "bitmap", &body));
         for literal in literals {
             says(&[&["--rows", "ask", file, "c", ty, "EQUAL"], *literal].concat(), 0, "keep: 1 of 2 rows\nrows: 0");
-            says(&[&["--rows", "ask", file, "c", ty, "NOT EQUAL"], *literal].concat(), 0, "keep: 1 of 2 rows\nrows: 1");
+            let not_equal = |edition| [&["--rows", "--edition", edition, "ask", file, "c", ty, "NOT EQUAL"], *literal].concat();
+            says(&not_equal("1"), 0, "keep: 1 of 2 rows\nrows: 1");
+            says(&not_equal("2"), 1, "skip: no row of 2\nrows: none");
         }
     }
 }
@@ -677,7 +753,9 @@ fn help_and_version() {
     for words in [&["--help"][..], &["ask", "--help"], &["help"], &["-h"], &["audit", "-h"]] {
         let (status, out, err) = run(words);
         assert_eq!((status, err.as_str()), (0, ""));
-        assert!(out.contains("poddurance ask FILE COLUMN TYPE QUESTION [LITERAL..] [--deletions FILE --bin N]"));
+        assert!(out.contains("poddurance ask FILE COLUMN TYPE QUESTION [LITERAL..] [--edition 1|2]\n"));
+        // What each edition does with null rows.
+        assert!(out.contains("1: they choose null rows too") && out.contains("2: they choose no null row"));
         // The one reader that isn't proved says so.
         assert!(out.contains("A plain reader lists them, which\n             is not proved"));
         assert!(out.lines().all(|line| line.len() <= 120 && !line.ends_with(' ')));

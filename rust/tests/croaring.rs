@@ -11,7 +11,7 @@ use std::process::{Command, Stdio};
 
 use poddurance::raw::{self, Fault};
 use reference::random::{self, Random};
-use reference::types::{EQUAL, INT, IS_NULL, NOT_EQUAL};
+use reference::types::{EQUAL, FIRST_EDITION, INT, IS_NULL, NOT_EQUAL, SECOND_EDITION};
 use reference::writer::{bitmap, deletion_file};
 use support::{say, Lender};
 
@@ -159,6 +159,8 @@ fn bitmaps_of_croaring_and_ours() {
     for ((rows, count), others) in sets.iter().zip(&others) {
         let expected = field_of(rows, *count);
         let expected_others = field_of(others, *count);
+        let none = field_of(&[], *count);
+        let all: Vec<u8> = expected.iter().zip(&expected_others).map(|(rows, others)| rows | others).collect();
         let (number, others_number) = (rows.len() as u64, others.len() as u64);
         for _ in 0..2 {
             let size = answers.number() as usize;
@@ -177,13 +179,19 @@ fn bitmaps_of_croaring_and_ours() {
 
             for version in [1, 2] {
                 let body = body_with(version, *count, &null, &value);
-                for (question, literals, expected, number) in [
-                    (EQUAL, &[0, 0, 0, 5][..], &expected, number),
-                    (NOT_EQUAL, &[0, 0, 0, 5], &expected_others, others_number),
-                    (IS_NULL, &[], &expected_others, others_number),
+                // The other rows are null's, which the second edition drops from NOT EQUAL.
+                for (edition, question, literals, expected, number) in [
+                    (FIRST_EDITION, EQUAL, &[0, 0, 0, 5][..], &expected, number),
+                    (SECOND_EDITION, EQUAL, &[0, 0, 0, 5], &expected, number),
+                    (FIRST_EDITION, NOT_EQUAL, &[0, 0, 0, 5], &expected_others, others_number),
+                    (SECOND_EDITION, NOT_EQUAL, &[0, 0, 0, 5], &none, 0),
+                    (FIRST_EDITION, NOT_EQUAL, &[0, 0, 0, 6], &all, u64::from(*count)),
+                    (SECOND_EDITION, NOT_EQUAL, &[0, 0, 0, 6], &expected, number),
+                    (FIRST_EDITION, IS_NULL, &[], &expected_others, others_number),
+                    (SECOND_EDITION, IS_NULL, &[], &expected_others, others_number),
                 ] {
                     let field = field_lender.lend(&vec![0xA5; expected.len()]);
-                    assert_eq!(raw::ask(lender.lend(&body), INT, question, literals, field), (0, number, Fault::NONE));
+                    assert_eq!(raw::ask(lender.lend(&body), INT, edition, question, literals, field), (0, number, Fault::NONE));
                     assert!(field == *expected, "rows of CRoaring's bitmap read from an index differ");
                 }
             }

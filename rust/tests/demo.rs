@@ -46,7 +46,7 @@ fn commands_answer_as_shown() {
     assert_eq!(others, [""; 0], "output without a command");
     let statuses: Vec<i32> = shown.iter().map(|one| one.check(&root())).collect();
     // A reader of the README that finds nothing would pass too.
-    assert_eq!(statuses, [0, 0, 0, 0, 1, 4, 3, 3, 3, 3, 0]);
+    assert_eq!(statuses, [0, 0, 0, 0, 0, 0, 0, 1, 4, 3, 3, 3, 3, 0]);
     // Where none is shown it is 0.
     assert!(shown.iter().zip(statuses).all(|(one, status)| one.status.unwrap_or(0) == status));
 }
@@ -78,7 +78,7 @@ fn audited(name: &str, column: &str, ty: u32) -> (u8, u64, Fault) {
     raw::audit(&body(name, column), ty, &mut [0; 3])
 }
 
-/// Every question about one value, and about null, is answered as a scan of the samples answers it.
+/// Every question about one value, and about null, is answered in both editions as a scan of the samples answers it.
 #[test]
 fn sound_files_answer_as_a_scan() {
     fn check(name: &str, column: &str, cells: &Column, values: &[&[u8]]) {
@@ -86,20 +86,21 @@ fn sound_files_answer_as_a_scan() {
         let one = values.iter().map(std::slice::from_ref);
         let about_one = one.flat_map(|value| [types::EQUAL, types::NOT_EQUAL, types::IN, types::NOT_IN].map(|q| (q, value)));
         let about_null = [types::IS_NULL, types::IS_NOT_NULL].map(|question| (question, &values[..0]));
-        for (question, values) in about_one.chain(about_null) {
+        let questions = about_one.chain(about_null);
+        for (edition, (question, values)) in questions.flat_map(|question| types::EDITIONS.map(|edition| (edition, question))) {
             let literals = types::literals(cells.ty, values);
-            let (expected, count) = scan(cells, question, values);
+            let (expected, count) = scan(cells, edition, question, values);
             let expected = ((raw::ACCEPTED, count, Fault::NONE), expected);
             let mut field = [0xA5; 3];
-            let answer = raw::ask(&body, cells.ty, question, &literals, &mut field);
-            assert_eq!((answer, field.to_vec()), expected, "{name} {column} {question} {values:?}");
+            let answer = raw::ask(&body, cells.ty, edition, question, &literals, &mut field);
+            assert_eq!((answer, field.to_vec()), expected, "{name} {column} {edition} {question} {values:?}");
             // From the file, and with the same bytes embedded in a manifest.
             let file = demo(name);
             for (embedded, file) in [(&[][..], &file[..]), (&file, &[])] {
                 let mut field = [0xA5; 3];
                 let (column, kind) = (column.as_bytes(), b"bitmap");
-                let answer = raw::ask_file(embedded, file, column, kind, cells.ty, question, &literals, &mut field);
-                assert_eq!((answer, field.to_vec()), expected, "{name} {question} {values:?}");
+                let answer = raw::ask_file(embedded, file, column, kind, cells.ty, edition, question, &literals, &mut field);
+                assert_eq!((answer, field.to_vec()), expected, "{name} {edition} {question} {values:?}");
             }
         }
     }
@@ -121,7 +122,8 @@ fn damaged_files_are_refused() {
 
         let fault = types::literals(types::STRING, &["fault"]);
         let asked = |column: &[u8], field: &mut [u8]| {
-            raw::ask_file(&[], &demo(name), column, b"bitmap", types::STRING, types::EQUAL, &fault, field)
+            let (ty, edition, question) = (types::STRING, types::SECOND_EDITION, types::EQUAL);
+            raw::ask_file(&[], &demo(name), column, b"bitmap", ty, edition, question, &fault, field)
         };
         // Whichever value is asked for, and with no row in the field; where there is no index the field is as it was.
         let mut field = [0xA5; 4];

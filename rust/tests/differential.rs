@@ -1,5 +1,5 @@
-//! The library and the reference reader answer alike: on sound files with the scan's answer, on damaged ones with the same
-//! refusal, what it carries, field and bytes behind the field.
+//! The library and the reference reader answer alike: on sound files with the scan's answer in each edition, on damaged ones with the
+//! same refusal, what it carries, field and bytes behind the field.
 //!
 //! The environment variables PODDURANCE_SEED (where the seeds start) and PODDURANCE_CASES (how many calls at least) ask
 //! for other or more cases; PODDURANCE_HEAP lends buffers from the heap instead of between guards, so that valgrind sees
@@ -15,12 +15,15 @@ mod support;
 use std::fs::File;
 use std::os::unix::fs::FileExt;
 
-use comparison::{said, Asked, Comparison, Where, ASK, ASK_FILE, AUDIT, LOCATE, READ_DELETIONS, SUBTRACT};
+use comparison::{said, Asked, Comparison, Found, Where, ASK, ASK_FILE, AUDIT, LOCATE, READ_DELETIONS, SUBTRACT};
 use poddurance::raw;
 use reference::random::{self, Random};
 use reference::reader::{self, Fault, NO_FAULT};
 use reference::scan::scan;
-use reference::types::{self, BIGINT, BOOLEAN, EQUAL, IN, INT, IS_NULL, NOT_EQUAL, NOT_IN, STRING, TINYINT};
+use reference::types::{
+    self, BIGINT, BOOLEAN, EDITIONS, EQUAL, FIRST_EDITION, IN, INT, IS_NOT_NULL, IS_NULL, NOT_EQUAL, NOT_IN, SECOND_EDITION,
+    STRING, TINYINT,
+};
 use reference::writer::{
     bitmap, body, body_of, body_traced, deletion_file, fix_checksums, index_file, index_file_traced, BitmapForm, Column,
     ContainerForm, Content, FileLayout, Groups, Index, IndexedColumn, Layout, Place,
@@ -38,12 +41,19 @@ const POSSIBLE: [&[u8]; CALLS.len()] = [
 ];
 
 const DEFAULT_SEED: u64 = 20_240_101;
-const DEFAULT_CASES: u64 = 200_000;
+const DEFAULT_CASES: u64 = 300_000;
 /// How many fixed calls there are at least. With the random ones, and the calls of the test `faults`, they are the README's over
-/// 600,000.
-const FIXED_CALLS: u64 = 20_000;
+/// 700,000.
+const FIXED_CALLS: u64 = 55_000;
 
 const MAX: u64 = 2_147_483_647;
+
+const LITERAL: u8 = 11;
+const LIMIT: u8 = 12;
+
+/// Numbers that are no edition's: next to theirs, and theirs in the low bits with others set.
+const UNKNOWN_EDITIONS: [u32; 12] =
+    [0, 3, 4, 255, 256, 256 + 1, 256 + 2, 65_536 + 1, 1 << 31, (1 << 31) + 1, (1 << 31) + 2, u32::MAX];
 
 // Random rounds
 
@@ -58,8 +68,8 @@ fn round(both: &mut Comparison, random: &mut Random) {
         35..=38 => large::many_values(both, random),
         39 => large::several_containers(both, random),
         40..=64 => damaged_body(both, random),
-        65..=67 => misfit_questions(both, random),
-        68..=79 => index_files(both, random),
+        65..=69 => misfit_questions(both, random),
+        70..=79 => index_files(both, random),
         80..=94 => deletion_files(both, random),
         _ => subtractions(both, random),
     }
@@ -100,21 +110,36 @@ fn check_column(both: &mut Comparison, random: &mut Random, column: &Column, gro
         && after[needed..] == before[needed..];
     both.demand(sound, "Audit of a sound body", &[("body", body)]);
 
+    let (answer, _, nulls, _) = both.ask(part, column.ty, random::edition(random), IS_NULL, &[], &random::field(random, rows));
+    both.demand(answer == 0, "IS NULL of a sound body", &[("body", body)]);
     let mut last = after;
     for _ in 0..random.between(3, 8) {
         let (question, values) = random::question(random, groups);
         let literals = types::literals(column.ty, &values);
-        let (expected, expected_count) = scan(column, question, &values);
         let before = random::field(random, rows);
-        let (answer, count, after, _) = both.ask(part, column.ty, question, &literals, &before);
-        let sound =
-            answer == 0 && count == expected_count && after[..needed] == expected[..] && after[needed..] == before[needed..];
-        both.demand(sound, &format!("Ask {question} of a sound body"), &[("body", body), ("literals", &literals)]);
-        let asked = Asked { ty: column.ty, question, literals: &literals };
-        let from_file = both.ask_file(at, asked, &before);
-        both.demand(from_file == (answer, count, after.clone(), NO_FAULT), "Ask of a sound file", &[("file", &file)]);
-        last = after;
+        let found = EDITIONS.map(|edition| {
+            let (expected, expected_count) = scan(column, edition, question, &values);
+            let found = both.ask(part, column.ty, edition, question, &literals, &before);
+            let expected = [&expected[..], &before[needed..]].concat();
+            let what = format!("Ask {question} in edition {edition} of a sound body");
+            let sound = found == (0, expected_count, expected, NO_FAULT);
+            both.demand(sound, &what, &[("body", body), ("literals", &literals)]);
+            let asked = Asked { ty: column.ty, edition, question, literals: &literals };
+            let from_file = both.ask_file(at, asked, &before);
+            both.demand(from_file == found, "Ask of a sound file", &[("file", &file)]);
+            found
+        });
+        check_editions(both, question, &found, &nulls, rows);
+        last = random.pick(&found).2.clone();
     }
+    // Nothing but the edition is wrong.
+    let (question, values) = random::question(random, groups);
+    let (edition, literals) = (random::unknown_edition(random), types::literals(column.ty, &values));
+    let before = random::field(random, rows);
+    let found = both.ask(part, column.ty, edition, question, &literals, &before);
+    let from_file = both.ask_file(at, Asked { ty: column.ty, edition, question, literals: &literals }, &before);
+    let refused = (LITERAL, 0, before, NO_FAULT);
+    both.demand(found == refused && from_file == refused, "Ask in an unknown edition", &[("body", body)]);
 
     // The question's rows less the deleted ones.
     let (file, bins) = random::deletion_file(random, rows as u32);
@@ -138,6 +163,18 @@ fn check_column(both: &mut Comparison, random: &mut Random, column: &Column, gro
             && left + removed == ones(&last[..needed]);
         both.demand(sound, "Subtract", &[("first", &last), ("second", &deleted)]);
     }
+}
+
+/// What a question is answered with in the first edition and in the second: the second's rows are the first's without those of
+/// IS NULL, as Subtract takes them away. IS NULL itself is the same in both.
+fn check_editions(both: &mut Comparison, question: u32, [first, second]: &[Found; 2], nulls: &[u8], rows: usize) {
+    let inputs = [("first edition", &first.2[..]), ("second edition", &second.2), ("IS NULL", nulls)];
+    if question == IS_NULL {
+        return both.demand(first == second, "IS NULL in two editions", &inputs);
+    }
+    let (answer, left, removed, after) = both.subtract(&first.2, nulls, rows as u64);
+    let same = answer == 0 && after == second.2 && left == second.1 && first.1 - removed == second.1;
+    both.demand(same, &format!("question {question} in two editions"), &inputs);
 }
 
 fn field_of(rows: &[u32], bytes: usize) -> Vec<u8> {
@@ -175,12 +212,12 @@ fn damaged_body(both: &mut Comparison, random: &mut Random) {
         both.audit(&body, ty, &before);
         let before = random::field_or_short(random, near);
         let (question, values) = random::question(random, &groups);
-        let literals = types::literals(column.ty, &values);
+        let (edition, literals) = (random::edition_or_unknown(random), types::literals(column.ty, &values));
         if random.percent(30) {
             let file = index_file(&[("s", "bitmap", &body)]);
-            both.ask_file(Where::small(&file), Asked { ty, question, literals: &literals }, &before);
+            both.ask_file(Where::small(&file), Asked { ty, edition, question, literals: &literals }, &before);
         } else {
-            both.ask(&body, ty, question, &literals, &before);
+            both.ask(&body, ty, edition, question, &literals, &before);
         }
     }
 }
@@ -190,12 +227,12 @@ fn misfit_questions(both: &mut Comparison, random: &mut Random) {
     let groups = column.groups();
     let traced = body_traced(&groups, &random::layout(random, &groups));
     for _ in 0..10 {
-        let (ty, question, literals) = random::misfit_question(random, &groups);
+        let (ty, edition, question, literals) = random::misfit_question(random, &groups);
         let body = if random.percent(70) { traced.bytes.clone() } else { random::damage(random, &traced) };
         let before = random::field_or_short(random, column.cells.len());
-        both.ask(&body, ty, question, &literals, &before);
+        both.ask(&body, ty, edition, question, &literals, &before);
         let file = index_file(&[("s", "bitmap", &body)]);
-        both.ask_file(Where::small(&file), Asked { ty, question, literals: &literals }, &before);
+        both.ask_file(Where::small(&file), Asked { ty, edition, question, literals: &literals }, &before);
         both.audit(&body, ty, &before);
     }
 }
@@ -223,7 +260,8 @@ fn index_files(both: &mut Comparison, random: &mut Random) {
         };
         both.locate(at.embedded, at.file, at.column, at.kind);
         if random.percent(30) {
-            let asked = Asked { ty: TINYINT, question: EQUAL, literals: &[7] };
+            let edition = random::edition_or_unknown(random);
+            let asked = Asked { ty: TINYINT, edition, question: EQUAL, literals: &[7] };
             let rows = random.below(20);
             both.ask_file(at, asked, &random::field(random, rows));
         }
@@ -305,17 +343,23 @@ fn every_cut_and_flip(both: &mut Comparison) {
         }
         all
     };
+    let editions = [FIRST_EDITION, SECOND_EDITION, SECOND_EDITION + 1];
     let column = Column::new(TINYINT, vec![Some(vec![7]), Some(vec![9]), None, Some(vec![7]), Some(vec![7])]);
     let runs = BitmapForm::WithRuns(vec![ContainerForm::Runs { cuts: vec![4] }]);
     for layout in [Layout::version(1), Layout::version(2).with_blocks_of(1), Layout::version(2).with_form(runs)] {
         let whole = body_of(&column, &layout);
         for body in changed(&whole) {
             both.audit(&body, TINYINT, &[0xA5; 2]);
-            both.ask(&body, TINYINT, NOT_EQUAL, &[7], &[0xA5; 2]);
+            for edition in editions {
+                both.ask(&body, TINYINT, edition, NOT_EQUAL, &[7], &[0xA5; 2]);
+            }
         }
         for file in changed(&index_file(&[("s", "bitmap", &whole)])) {
             both.locate(&[], &file, b"s", b"bitmap");
-            both.ask_file(Where::small(&file), Asked { ty: TINYINT, question: NOT_EQUAL, literals: &[7] }, &[0xA5; 2]);
+            for edition in editions {
+                let asked = Asked { ty: TINYINT, edition, question: NOT_EQUAL, literals: &[7] };
+                both.ask_file(Where::small(&file), asked, &[0xA5; 2]);
+            }
         }
     }
     let bitmaps = [bitmap(&[0, 2, 5], &BitmapForm::WithoutRuns), bitmap(&[1, 2, 3, 4, 5, 6], &BitmapForm::Smallest)];
@@ -413,10 +457,14 @@ fn orders(both: &mut Comparison) {
         assert_eq!(both.audit(&body, STRING, &[]).0, answer, "a value of length {length}");
     }
     for (length, answer) in [(2, 1), (3, 11), (65535, 11), (65536, 12), (i32::MAX, 12), (-1, 11), (i32::MIN, 11), (1, 11)] {
-        assert_eq!(both.ask(&[], STRING, EQUAL, &string(length), &[]).0, answer, "a literal of length {length}");
+        for edition in EDITIONS {
+            let found = both.ask(&[], STRING, edition, EQUAL, &string(length), &[]);
+            assert_eq!(found.0, answer, "a literal of length {length}");
+        }
     }
 
     locate_orders(both);
+    edition_orders(both);
     ask_file_orders(both);
     deletion_orders(both);
 }
@@ -458,16 +506,115 @@ fn locate_orders(both: &mut Comparison) {
     answers(&[column(b"s", &[at(b"bitmap", 200, 0), index])], 4);
 }
 
-/// Locate goes before the literals, and these before the body. Without a body the field is as it was.
+/// An unknown edition is LITERAL for each question, whatever else is wrong with question, literals, body and field, but for buffers past
+/// the limit. In a known one the answer has document 01's number.
+fn edition_orders(both: &mut Comparison) {
+    let small = body_of(&Column::new(TINYINT, vec![Some(vec![7]), Some(vec![9]), None]), &Layout::version(2));
+    // 9 at row 0, where 7 is.
+    let mut twice = body_of(&Column::new(TINYINT, vec![Some(vec![7]), Some(vec![9]), None]), &Layout::version(1));
+    *twice.last_mut().expect("the last offset") = 0xFF;
+    let many = vec![7; 1_025];
+    let long = int(65_536);
+    // Type, question, literals, body and length of the field, and the answer in a known edition.
+    type Case<'a> = (u32, u32, &'a [u8], &'a [u8], usize, u8);
+    let cases: [Case; 19] = [
+        (TINYINT, EQUAL, &[7], &small, 2, 0),
+        (TINYINT, NOT_EQUAL, &[7], &small, 2, 0),
+        (TINYINT, IN, &[7, 9], &small, 2, 0),
+        (TINYINT, NOT_IN, &[], &small, 2, 0),
+        (TINYINT, IS_NULL, &[], &small, 2, 0),
+        (TINYINT, IS_NOT_NULL, &[], &small, 2, 0),
+        (TINYINT, IS_NOT_NULL + 1, &[], &small, 2, LITERAL),
+        (STRING + 1, EQUAL, &[7], &small, 2, LITERAL),
+        // Literals that don't fit, in number and in form.
+        (TINYINT, EQUAL, &[], &small, 2, LITERAL),
+        (TINYINT, IS_NULL, &[7], &small, 2, LITERAL),
+        (BOOLEAN, IN, &[0, 2], &small, 2, LITERAL),
+        (INT, NOT_IN, &[7], &small, 2, LITERAL),
+        // Literals past a limit.
+        (TINYINT, NOT_IN, &many, &small, 2, LIMIT),
+        (TINYINT, IS_NULL, &many, &small, 2, LIMIT),
+        (STRING, NOT_EQUAL, &long, &small, 2, LIMIT),
+        // No body, a wrong version, too short a field, and a row that stands twice.
+        (TINYINT, NOT_EQUAL, &[7], &[], 2, 1),
+        (TINYINT, IS_NULL, &[], &[3], 2, 3),
+        (TINYINT, NOT_IN, &[], &small, 0, 10),
+        (TINYINT, IS_NOT_NULL, &[], &twice, 2, 8),
+    ];
+    for (ty, question, literals, body, length, answer) in cases {
+        let field = vec![0xA5; length];
+        let file = index_file(&[("s", "bitmap", body)]);
+        let mut answers = |edition: u32| {
+            let found = both.ask(body, ty, edition, question, literals, &field);
+            let from_file = both.ask_file(Where::small(&file), Asked { ty, edition, question, literals }, &field);
+            assert_eq!(found, from_file, "type {ty}, question {question} in edition {edition}");
+            found
+        };
+        for edition in EDITIONS {
+            assert_eq!(answers(edition).0, answer, "type {ty}, question {question} in edition {edition}");
+        }
+        for edition in UNKNOWN_EDITIONS {
+            let refused = (LITERAL, 0, field.clone(), NO_FAULT);
+            assert_eq!(answers(edition), refused, "type {ty}, question {question} in edition {edition}");
+        }
+    }
+}
+
+/// Each column of up to four rows of 7, 9 and null, each question with each set of 7, 8 and 9 that fits it, in bodies of both versions: the scan's answer
+/// in each edition, and the second's from the first's.
+fn each_small_column(both: &mut Comparison) {
+    const MOST_ROWS: u32 = 4;
+    let cells = [Some(vec![7]), Some(vec![9]), None];
+    let values = [[7], [8], [9]];
+    let sets: Vec<Vec<[u8; 1]>> =
+        (0..1 << values.len()).map(|set| (0..values.len()).filter(|i| set >> i & 1 == 1).map(|i| values[i]).collect()).collect();
+    let fits = |question: u32, number: usize| match question {
+        EQUAL | NOT_EQUAL => number == 1,
+        IN | NOT_IN => true,
+        _ => number == 0,
+    };
+    let questions: Vec<(u32, &Vec<[u8; 1]>)> = (EQUAL..=IS_NOT_NULL)
+        .flat_map(|question| sets.iter().map(move |set| (question, set)))
+        .filter(|(question, set)| fits(*question, set.len()))
+        .collect();
+    for rows in 0..=MOST_ROWS {
+        for number in 0..cells.len().pow(rows) {
+            let cell = |row: u32| cells[number / cells.len().pow(row) % cells.len()].clone();
+            let column = Column::new(TINYINT, (0..rows).map(cell).collect());
+            for layout in [Layout::version(1), Layout::version(2).with_blocks_of(1)] {
+                let body = body_of(&column, &layout);
+                let nulls = both.ask(&body, TINYINT, FIRST_EDITION, IS_NULL, &[], &[0xA5; 2]).2;
+                for (question, set) in &questions {
+                    let (question, literals) = (*question, types::literals(TINYINT, set));
+                    let found = EDITIONS.map(|edition| {
+                        let found = both.ask(&body, TINYINT, edition, question, &literals, &[0xA5; 2]);
+                        let (mut expected, count) = scan(&column, edition, question, set);
+                        // Without rows the field has no bytes.
+                        expected.resize(2, 0xA5);
+                        let sound = found == (0, count, expected, NO_FAULT);
+                        both.demand(sound, &format!("Ask {question} in edition {edition}"), &[("body", &body)]);
+                        found
+                    });
+                    check_editions(both, question, &found, &nulls, rows as usize);
+                }
+            }
+        }
+    }
+}
+
+/// Locate goes before the question, and this before the body. Without a body the field is as it was.
 fn ask_file_orders(both: &mut Comparison) {
     let body = body_of(&Column::new(TINYINT, vec![Some(vec![7]), Some(vec![9]), None]), &Layout::version(1));
     let sound = index_file(&[("s", "bitmap", &body)]);
     let none = index_file(&[]);
     let wrong_body = index_file(&[("s", "bitmap", &[3])]);
     let no_body = index_file(&[("s", "bitmap", &[])]);
-    let fits = Asked { ty: TINYINT, question: EQUAL, literals: &[7] };
+    let fits = Asked { ty: TINYINT, edition: SECOND_EDITION, question: EQUAL, literals: &[7] };
     let misfits = [
         Asked { ty: 12, ..fits },
+        Asked { edition: 0, ..fits },
+        Asked { edition: 3, ..fits },
+        Asked { edition: 3, literals: &[7; 1_025], ..fits },
         Asked { question: 6, ..fits },
         Asked { literals: &[], ..fits },
         Asked { literals: &[7; 2], ..fits },
@@ -586,10 +733,10 @@ fn limits(both: &mut Comparison, random: &mut Random) {
         for layout in [Layout::version(version), Layout::version(version).with_blocks_of(1)] {
             let body = body(&groups, &layout);
             let field = random::field(random, most as usize);
-            for question in [EQUAL, NOT_EQUAL] {
+            for (edition, question) in EDITIONS.into_iter().flat_map(|edition| [(edition, EQUAL), (edition, NOT_EQUAL)]) {
                 let literal = &groups.values[most as usize - 1].0;
-                let (expected, count) = scan(&column, question, &[literal]);
-                let found = both.ask(&body, INT, question, literal, &field);
+                let (expected, count) = scan(&column, edition, question, &[literal]);
+                let found = both.ask(&body, INT, edition, question, literal, &field);
                 let sound = found.0 == 0 && found.1 == count && found.2[..expected.len()] == expected[..];
                 both.demand(sound, "Ask of the most values", &[("body", &body)]);
             }
@@ -615,7 +762,9 @@ fn limits(both: &mut Comparison, random: &mut Random) {
             let body = body_of(&column, &Layout::version(version));
             assert_eq!(both.audit(&body, STRING, &[0xFF]).0, answer);
             let literals = types::literals(STRING, &[&text]);
-            assert_eq!(both.ask(&body, STRING, EQUAL, &literals, &[0xFF]).0, answer);
+            for edition in EDITIONS {
+                assert_eq!(both.ask(&body, STRING, edition, EQUAL, &literals, &[0xFF]).0, answer);
+            }
         }
     }
 
@@ -623,13 +772,17 @@ fn limits(both: &mut Comparison, random: &mut Random) {
     for (count, question, answer) in
         [(1024, IN, 0), (1024, EQUAL, 11), (1025, IN, 12), (1025, EQUAL, 12), (1025, IS_NULL, 12), (1024, IS_NULL, 11)]
     {
-        assert_eq!(both.ask(&body, BOOLEAN, question, &vec![1; count], &[0xFF]).0, answer);
+        for edition in EDITIONS {
+            assert_eq!(both.ask(&body, BOOLEAN, edition, question, &vec![1; count], &[0xFF]).0, answer);
+        }
     }
-    let mut literals = vec![1; 1024];
-    literals.push(9);
-    assert_eq!(both.ask(&body, BOOLEAN, IN, &literals, &[0xFF]).0, 12);
-    literals[1023] = 9;
-    assert_eq!(both.ask(&body, BOOLEAN, IN, &literals, &[0xFF]).0, 11);
+    for edition in EDITIONS {
+        let mut literals = vec![1; 1024];
+        literals.push(9);
+        assert_eq!(both.ask(&body, BOOLEAN, edition, IN, &literals, &[0xFF]).0, 12);
+        literals[1023] = 9;
+        assert_eq!(both.ask(&body, BOOLEAN, edition, IN, &literals, &[0xFF]).0, 11);
+    }
 
     // A name of the most bytes is found; a longer asked name matches nothing.
     let long = "n".repeat(65535);
@@ -739,9 +892,11 @@ fn most_rows(both: &mut Comparison) {
     let found = said(raw::audit(&body, INT, field));
     let expected = reader::audit(&body, INT, &mut reference_field);
     compare(&mut both.tally, AUDIT, found, expected, (0, MAX), *field == *reference_field);
-    let found = said(raw::ask(&body, INT, NOT_IN, &int(6), field));
-    let expected = reader::ask(&body, INT, NOT_IN, &int(6), &mut reference_field);
-    compare(&mut both.tally, ASK, found, expected, (0, MAX - 1), *field == *reference_field);
+    for edition in EDITIONS {
+        let found = said(raw::ask(&body, INT, edition, NOT_IN, &int(6), field));
+        let expected = reader::ask(&body, INT, edition, NOT_IN, &int(6), &mut reference_field);
+        compare(&mut both.tally, ASK, found, expected, (0, MAX - 1), *field == *reference_field);
+    }
     let found = said(raw::read_deletions(&file, 0, MAX, field));
     let expected = reader::read_deletions(&file, 0, MAX, &mut reference_field);
     compare(&mut both.tally, READ_DELETIONS, found, expected, (0, MAX - 1), *field == *reference_field);
@@ -781,26 +936,31 @@ fn buffers_past_the_limit(both: &mut Comparison) {
         assert_eq!(said(raw::audit(long, ty, &mut field)), refused);
         assert_eq!(reader::audit(long, ty, &mut field), refused);
         both.tally.add(AUDIT, 12);
-        for (body, literals) in [(long, &[7][..]), (&small, long), (&[], long)] {
-            assert_eq!(said(raw::ask(body, ty, 99, literals, &mut field)), refused);
-            assert_eq!(reader::ask(body, ty, 99, literals, &mut field), refused);
-            both.tally.add(ASK, 12);
+        for edition in EDITIONS.into_iter().chain(UNKNOWN_EDITIONS) {
+            for (body, literals) in [(long, &[7][..]), (&small, long), (&[], long)] {
+                assert_eq!(said(raw::ask(body, ty, edition, 99, literals, &mut field)), refused);
+                assert_eq!(reader::ask(body, ty, edition, 99, literals, &mut field), refused);
+                both.tally.add(ASK, 12);
+            }
         }
     }
     let none = index_file(&[]);
     let mut ask_file = |[embedded, file, column, kind]: [&[u8]; 4], literals: &[u8], answer: u8| {
         let expected = (answer, 0, NO_FAULT);
-        let found = raw::ask_file(embedded, file, column, kind, TINYINT, EQUAL, literals, &mut field);
-        assert_eq!(said(found), expected);
-        assert_eq!(reader::ask_file(embedded, file, column, kind, TINYINT, EQUAL, literals, &mut field), expected);
-        both.tally.add(ASK_FILE, answer);
+        for edition in EDITIONS.into_iter().chain(UNKNOWN_EDITIONS) {
+            let found = raw::ask_file(embedded, file, column, kind, TINYINT, edition, EQUAL, literals, &mut field);
+            assert_eq!(said(found), expected);
+            let found = reader::ask_file(embedded, file, column, kind, TINYINT, edition, EQUAL, literals, &mut field);
+            assert_eq!(found, expected);
+            both.tally.add(ASK_FILE, answer);
+        }
     };
     for buffers in &locates[..5] {
         ask_file(*buffers, &[7], 12);
     }
     ask_file([&[], &file, b"s", b"bitmap"], long, 12);
     ask_file([&file, long, b"s", b"bitmap"], long, 12);
-    // Without a body the literals aren't looked at.
+    // Without a body the question isn't looked at.
     ask_file([&[], &none, b"s", b"bitmap"], long, 255);
     ask_file([&[], &[], b"s", b"bitmap"], long, 1);
     assert_eq!(said(raw::read_deletions(long, 0, 8, &mut field)), refused);
@@ -847,6 +1007,7 @@ fn library_and_reference_reader_agree() {
         let random = &mut Random::new(first_seed);
         every_cut_and_flip(&mut both);
         orders(&mut both);
+        each_small_column(&mut both);
         bitmap_rules(&mut both);
         limits(&mut both, random);
         containers(&mut both, random);

@@ -9,7 +9,7 @@ use std::ops::Range;
 
 use comparison::{Asked, Comparison, Found, Where};
 use reference::reader::{Fault, NO_FAULT};
-use reference::types::{EQUAL, INT, TINYINT};
+use reference::types::{EQUAL, FIRST_EDITION, INT, NOT_EQUAL, SECOND_EDITION, TINYINT};
 use reference::writer::{
     bitmap, bitmap_traced, body, body_traced, deletion_file, index_file, BitmapForm, ContainerForm, Groups, Layout, Length, Place,
 };
@@ -28,11 +28,11 @@ const CONTAINER: u32 = 65_536;
 const COUNTS: [usize; 5] = [1, 3, 4, 5, 20];
 
 /// How many calls the tests that make most of them compare at least. With those of the test `differential` they are the README's over
-/// 600,000.
-const CUT_CALLS: u64 = 290_000;
-const LEFT_OVER_CALLS: u64 = 55_000;
-const DAMAGE_CALLS: u64 = 25_000;
-const OUTSIDE_CALLS: u64 = 20_000;
+/// 700,000.
+const CUT_CALLS: u64 = 300_000;
+const LEFT_OVER_CALLS: u64 = 60_000;
+const DAMAGE_CALLS: u64 = 30_000;
+const OUTSIDE_CALLS: u64 = 30_000;
 
 // Sound bitmaps
 
@@ -394,14 +394,21 @@ fn broken(both: &mut Comparison, host: &Host, body: &[u8], container: usize, wha
     assert!(found == expected, "entry {}: {}: {:?} instead of container {container}", host.entry, what(), (found.0, found.3));
 }
 
+/// Edition and question of what is asked of a body that is refused: where the editions agree, and where they differ.
+const QUESTIONS: [(u32, u32); 2] = [(FIRST_EDITION, EQUAL), (SECOND_EDITION, NOT_EQUAL)];
+
 /// Ask, and Ask of a file, say what Audit says.
 #[track_caller]
 fn asked_too(both: &mut Comparison, host: &Host, body: &[u8]) {
     let audited = both.audit(body, TINYINT, &host.field);
-    let asked = both.ask(body, TINYINT, EQUAL, &[1], &host.field);
+    assert!(audited.0 != ACCEPTED);
     let file = index_file(&[("s", "bitmap", body)]);
-    let asked_of_file = both.ask_file(Where::small(&file), Asked { ty: TINYINT, question: EQUAL, literals: &[1] }, &host.field);
-    assert!(audited.0 != ACCEPTED && asked == audited && asked_of_file == audited);
+    for (edition, question) in QUESTIONS {
+        let asked = both.ask(body, TINYINT, edition, question, &[1], &host.field);
+        let same = Asked { ty: TINYINT, edition, question, literals: &[1] };
+        let asked_of_file = both.ask_file(Where::small(&file), same, &host.field);
+        assert!(asked == audited && asked_of_file == audited, "question {question} in edition {edition}");
+    }
 }
 
 /// Read deletions refuses the only bin of a file, naming this container and no entry.
@@ -814,8 +821,10 @@ fn entries(groups: &Groups) -> Vec<usize> {
 fn names(both: &mut Comparison, body: &[u8], answer: u8, fault: Fault) {
     let found = both.audit(body, TINYINT, &[0xA5; 10]);
     assert_eq!((found.0, found.3), (answer, fault));
-    let asked = both.ask(body, TINYINT, EQUAL, &[1], &[0xA5; 10]);
-    assert_eq!(asked, found);
+    for (edition, question) in QUESTIONS {
+        let asked = both.ask(body, TINYINT, edition, question, &[1], &[0xA5; 10]);
+        assert_eq!(asked, found, "question {question} in edition {edition}");
+    }
 }
 
 #[test]

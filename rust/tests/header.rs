@@ -7,7 +7,7 @@ use std::fs;
 use std::path::{Path, PathBuf};
 use std::process::Command;
 
-use poddurance::{raw, Question, Refusal, Type};
+use poddurance::{raw, Edition, Question, Refusal, Type};
 use reference::writer::{bitmap, deletion_file, BitmapForm};
 use support::say;
 
@@ -30,6 +30,7 @@ fn names_have_the_numbers_of_the_rust_crate() {
         BTreeMap::from([("ACCEPTED".to_string(), raw::ACCEPTED.into()), ("ABSENT".to_string(), raw::ABSENT.into())]);
     expected.extend(Refusal::ALL.map(|refusal| (constant("REFUSED", refusal.name()), refusal.number().into())));
     expected.extend(Type::ALL.map(|ty| (constant("TYPE", ty.name()), ty.number())));
+    expected.extend(Edition::ALL.map(|edition| (constant("EDITION", edition.name()), edition.number())));
     expected.extend(Question::ALL.map(|question| (constant("QUESTION", question.name()), question.number())));
     assert_eq!(names(), expected);
 }
@@ -72,14 +73,31 @@ static void say(uint8_t answer, uint64_t count, guarded at) {
     if (at.before != other.before || at.behind != other.behind) printf(", and a number beside the fault is another");
 }
 
-static void ask(const char *column, uint32_t type, uint32_t question, const uint8_t *literals, size_t length) {
+static void ask(const char *column, uint32_t type, uint32_t edition, uint32_t question, const uint8_t *literals, size_t length) {
     uint8_t field[2] = {0xAA, 0xAA};
     uint64_t matched = 99;
     guarded at = other;
     uint8_t answer = poddurance_ask_file(file, 0, file, sizeof file, (const uint8_t *)column, 1, (const uint8_t *)"bitmap", 6,
-                                         type, question, literals, length, field, sizeof field, &matched, &at.fault);
+                                         type, edition, question, literals, length, field, sizeof field, &matched, &at.fault);
     say(answer, matched, at);
     printf(", %02X %02X\n", field[0], field[1]);
+}
+
+/* TINYINT in an edition, of the body and of the file. */
+static void ask_in(uint32_t edition, uint32_t question, const uint8_t *literals, size_t length) {
+    uint8_t field[2] = {0xAA, 0xAA};
+    uint64_t matched = 99;
+    guarded at = other;
+    uint8_t answer = poddurance_ask(file + 47, 24, PODDURANCE_TYPE_TINYINT, edition, question, literals, length, field, sizeof field,
+                                    &matched, &at.fault);
+    say(answer, matched, at);
+    printf(", %02X %02X; ", field[0], field[1]);
+    ask("s", PODDURANCE_TYPE_TINYINT, edition, question, literals, length);
+}
+
+static void ask_both(uint32_t question, const uint8_t *literals, size_t length) {
+    ask_in(PODDURANCE_EDITION_1, question, literals, length);
+    ask_in(PODDURANCE_EDITION_2, question, literals, length);
 }
 
 /* The file with one byte changed: Audit and Ask of its body and Ask of the file say the same. */
@@ -93,13 +111,14 @@ static void change(size_t place, uint8_t byte) {
     answer = poddurance_audit(bytes + 47, 24, PODDURANCE_TYPE_TINYINT, field, sizeof field, &rows, &at.fault);
     say(answer, rows, at);
     at = other;
-    answer = poddurance_ask(bytes + 47, 24, PODDURANCE_TYPE_TINYINT, PODDURANCE_QUESTION_IS_NULL, bytes, 0, field, sizeof field, &matched, &at.fault);
+    answer = poddurance_ask(bytes + 47, 24, PODDURANCE_TYPE_TINYINT, PODDURANCE_EDITION_2, PODDURANCE_QUESTION_IS_NULL, bytes, 0, field, sizeof field,
+                            &matched, &at.fault);
     printf("; ");
     say(answer, matched, at);
     at = other;
     matched = 99;
     answer = poddurance_ask_file(bytes, 0, bytes, sizeof bytes, (const uint8_t *)"s", 1, (const uint8_t *)"bitmap", 6, PODDURANCE_TYPE_TINYINT,
-                                 PODDURANCE_QUESTION_IS_NULL, bytes, 0, field, sizeof field, &matched, &at.fault);
+                                 PODDURANCE_EDITION_2, PODDURANCE_QUESTION_IS_NULL, bytes, 0, field, sizeof field, &matched, &at.fault);
     printf("; ");
     say(answer, matched, at);
     printf("\n");
@@ -117,12 +136,15 @@ static void delete_rows(const uint8_t *deletions, size_t length, uint64_t rows) 
 
 int main(void) {
     const uint8_t seven[] = {7}, eight[] = {8};
-    ask("s", PODDURANCE_TYPE_TINYINT, PODDURANCE_QUESTION_EQUAL, seven, sizeof seven);
-    ask("s", PODDURANCE_TYPE_TINYINT, PODDURANCE_QUESTION_NOT_EQUAL, seven, sizeof seven);
-    ask("s", PODDURANCE_TYPE_TINYINT, PODDURANCE_QUESTION_EQUAL, eight, sizeof eight);
-    ask("s", PODDURANCE_TYPE_TINYINT, PODDURANCE_QUESTION_IS_NULL, seven, 0);
-    ask("s", PODDURANCE_TYPE_INT, PODDURANCE_QUESTION_EQUAL, seven, sizeof seven);
-    ask("t", PODDURANCE_TYPE_TINYINT, PODDURANCE_QUESTION_EQUAL, seven, sizeof seven);
+    ask_both(PODDURANCE_QUESTION_EQUAL, seven, sizeof seven);
+    ask_both(PODDURANCE_QUESTION_NOT_EQUAL, seven, sizeof seven);
+    ask_both(PODDURANCE_QUESTION_EQUAL, eight, sizeof eight);
+    ask_both(PODDURANCE_QUESTION_NOT_IN, seven, 0);
+    ask_both(PODDURANCE_QUESTION_IS_NULL, seven, 0);
+    ask_both(PODDURANCE_QUESTION_IS_NOT_NULL, seven, 0);
+    ask("s", PODDURANCE_TYPE_INT, PODDURANCE_EDITION_2, PODDURANCE_QUESTION_EQUAL, seven, sizeof seven);
+    ask_in(PODDURANCE_EDITION_2 + 1, PODDURANCE_QUESTION_IS_NULL, seven, 0);
+    ask("t", PODDURANCE_TYPE_TINYINT, PODDURANCE_EDITION_2, PODDURANCE_QUESTION_EQUAL, seven, sizeof seven);
     change(67, 0);
     change(70, 0xFC);
     change(70, 0xFF);
@@ -135,11 +157,20 @@ int main(void) {
 "#;
 
 const PRINTED: &str = "\
-accepted, 1, entry 0, container 0, row 0, 01 AA
-accepted, 2, entry 0, container 0, row 0, 06 AA
-accepted, 0, entry 0, container 0, row 0, 00 AA
-accepted, 1, entry 0, container 0, row 0, 04 AA
+accepted, 1, entry 0, container 0, row 0, 01 AA; accepted, 1, entry 0, container 0, row 0, 01 AA
+accepted, 1, entry 0, container 0, row 0, 01 AA; accepted, 1, entry 0, container 0, row 0, 01 AA
+accepted, 2, entry 0, container 0, row 0, 06 AA; accepted, 2, entry 0, container 0, row 0, 06 AA
+accepted, 1, entry 0, container 0, row 0, 02 AA; accepted, 1, entry 0, container 0, row 0, 02 AA
+accepted, 0, entry 0, container 0, row 0, 00 AA; accepted, 0, entry 0, container 0, row 0, 00 AA
+accepted, 0, entry 0, container 0, row 0, 00 AA; accepted, 0, entry 0, container 0, row 0, 00 AA
+accepted, 3, entry 0, container 0, row 0, 07 AA; accepted, 3, entry 0, container 0, row 0, 07 AA
+accepted, 2, entry 0, container 0, row 0, 03 AA; accepted, 2, entry 0, container 0, row 0, 03 AA
+accepted, 1, entry 0, container 0, row 0, 04 AA; accepted, 1, entry 0, container 0, row 0, 04 AA
+accepted, 1, entry 0, container 0, row 0, 04 AA; accepted, 1, entry 0, container 0, row 0, 04 AA
+accepted, 2, entry 0, container 0, row 0, 03 AA; accepted, 2, entry 0, container 0, row 0, 03 AA
+accepted, 2, entry 0, container 0, row 0, 03 AA; accepted, 2, entry 0, container 0, row 0, 03 AA
 LITERAL, 0, entry 0, container 0, row 0, AA AA
+LITERAL, 0, entry 0, container 0, row 0, AA AA; LITERAL, 0, entry 0, container 0, row 0, AA AA
 absent, 0, entry 0, container 0, row 0, AA AA
 BITMAP, 0, entry 2, container 0, row 0; BITMAP, 0, entry 2, container 0, row 0; BITMAP, 0, entry 2, container 0, row 0
 RANGE, 0, entry 2, container 0, row 0; RANGE, 0, entry 2, container 0, row 0; RANGE, 0, entry 2, container 0, row 0

@@ -1,7 +1,7 @@
 //! The functions at the top of the crate: what a field holds after each call, and what they don't let happen.
 
 use poddurance::{ask, ask_file, audit, locate, raw, read_deletions, subtract};
-use poddurance::{Answer, Error, Literals, Question, Refusal, RowField, Subtracted, Type, Value};
+use poddurance::{Answer, Edition, Error, Literals, Question, Refusal, RowField, Subtracted, Type, Value};
 
 /// TINYINT 7, 9, null.
 const SMALL: [u8; 24] = [1, 0, 0, 0, 3, 0, 0, 0, 2, 1, 255, 255, 255, 253, 7, 255, 255, 255, 255, 9, 255, 255, 255, 254];
@@ -69,7 +69,7 @@ fn used(rows: u64) -> RowField {
 #[test]
 fn the_answers_that_document_01_writes_out() {
     for body in [&SMALL[..], &SMALL_2] {
-        let field = |question, literals: &Literals| ask(body, question, literals, used(3)).unwrap();
+        let field = |question, literals: &Literals| ask(body, Edition::First, question, literals, used(3)).unwrap();
         let answer = field(Question::Equal, &seven());
         assert_eq!((answer.field().as_bytes(), answer.count(), answer.is_skip()), (&[0b001][..], 1, false));
         let answer = field(Question::NotEqual, &seven());
@@ -81,9 +81,98 @@ fn the_answers_that_document_01_writes_out() {
     }
 }
 
+/// Ticket 4's rule of nulls: edition 2 is edition 1 without the null rows, in every question but IS NULL, which stays. It differs in
+/// NOT EQUAL and NOT IN, of no literals too.
+#[test]
+fn the_second_edition_drops_null_rows() {
+    let eight = Literals::of(Type::TinyInt, [8]).unwrap();
+    let seven_and_nine = Literals::of(Type::TinyInt, [7, 9]).unwrap();
+    for body in [&SMALL[..], &SMALL_2] {
+        let file = small_file(body);
+        for (question, literals, first, second) in [
+            (Question::Equal, &seven(), &[0][..], &[0][..]),
+            (Question::Equal, &eight, &[], &[]),
+            (Question::NotEqual, &seven(), &[1, 2], &[1]),
+            (Question::NotEqual, &eight, &[0, 1, 2], &[0, 1]),
+            (Question::In, &seven(), &[0], &[0]),
+            (Question::In, &seven_and_nine, &[0, 1], &[0, 1]),
+            (Question::In, &none(), &[], &[]),
+            (Question::NotIn, &seven(), &[1, 2], &[1]),
+            (Question::NotIn, &seven_and_nine, &[2], &[]),
+            (Question::NotIn, &none(), &[0, 1, 2], &[0, 1]),
+            (Question::IsNull, &none(), &[2], &[2]),
+            (Question::IsNotNull, &none(), &[0, 1], &[0, 1]),
+        ] {
+            for (edition, rows) in [(Edition::First, first), (Edition::Second, second)] {
+                let answer = ask(body, edition, question, literals, used(3)).unwrap();
+                assert!(answer.field().iter().eq(rows.iter().copied()), "{question} {edition}: {:?}", answer.field());
+                assert_eq!((answer.count(), answer.is_skip()), (rows.len() as u64, rows.is_empty()), "{question} {edition}");
+                // Of the file, and of its bytes embedded.
+                for (embedded, file) in [(&[][..], &file[..]), (&file, &[0])] {
+                    let of_file = ask_file(embedded, file, "s", "bitmap", edition, question, literals, used(3));
+                    assert_eq!(of_file.as_ref(), Ok(&Some(answer.clone())), "{question} {edition}");
+                }
+            }
+        }
+    }
+}
+
+/// A column of null rows alone: by the second edition no question about values chooses a row of it.
+#[test]
+fn null_rows_alone() {
+    for rows in [1, 9, 65_537] {
+        let body = nulls(rows);
+        let count = |edition, question, literals: &Literals| {
+            ask(&body, edition, question, literals, used(rows.into())).map(|answer| answer.count())
+        };
+        for (question, literals) in [(Question::NotEqual, seven()), (Question::NotIn, seven()), (Question::NotIn, none())] {
+            assert_eq!(count(Edition::First, question, &literals), Ok(rows.into()), "{question}");
+            assert_eq!(count(Edition::Second, question, &literals), Ok(0), "{question}");
+        }
+        for edition in Edition::ALL {
+            assert_eq!(count(edition, Question::IsNull, &none()), Ok(rows.into()));
+            assert_eq!(count(edition, Question::IsNotNull, &none()), Ok(0));
+            assert_eq!(count(edition, Question::In, &seven()), Ok(0));
+        }
+    }
+}
+
+/// Any other number is no edition, for every question, and is found behind the length limits and before the literals are read.
+#[test]
+fn an_unknown_edition_is_refused_before_the_literals_are_read() {
+    let literal = (Refusal::Literal.number(), 0, raw::Fault::NONE);
+    let file = small_file(&SMALL);
+    // As many as are over the limit of literals: LIMIT, once they are read.
+    let too_many = vec![7; 1_025];
+    for edition in [0, 3, 4, 255, 257, 258, 65_537, u32::MAX - 1, u32::MAX] {
+        for question in Question::ALL.map(Question::number) {
+            for literals in [&[][..], &[7], &too_many] {
+                // A sound body, and one that is refused by itself.
+                for body in [&SMALL[..], &[]] {
+                    let mut field = [0xAA; 2];
+                    assert_eq!(raw::ask(body, 0, edition, question, literals, &mut field), literal, "{edition} {question}");
+                    assert_eq!(field, [0xAA; 2]);
+                }
+                let mut field = [0xAA; 2];
+                let asked = raw::ask_file(&[], &file, b"s", b"bitmap", 0, edition, question, literals, &mut field);
+                assert_eq!((asked, field), (literal, [0xAA; 2]), "{edition} {question}");
+                // What Locate says comes first.
+                let asked = raw::ask_file(&[], &file, b"t", b"bitmap", 0, edition, question, literals, &mut field);
+                assert_eq!(asked, (raw::ABSENT, 0, raw::Fault::NONE), "{edition} {question}");
+                let asked = raw::ask_file(&[], &file[..70], b"s", b"bitmap", 0, edition, question, literals, &mut field);
+                assert_eq!(asked, (Refusal::Head.number(), 0, raw::Fault::NONE), "{edition} {question}");
+            }
+        }
+    }
+    let limit = (Refusal::Limit.number(), 0, raw::Fault::NONE);
+    for edition in Edition::ALL.map(Edition::number) {
+        assert_eq!(raw::ask(&SMALL, 0, edition, Question::NotIn.number(), &too_many, &mut [0; 2]), limit);
+    }
+}
+
 #[test]
 fn a_field_with_rows_of_an_earlier_answer_holds_the_new_answer_alone() {
-    let answer = ask(&SMALL, Question::IsNull, &none(), used(3)).unwrap();
+    let answer = ask(&SMALL, Edition::Second, Question::IsNull, &none(), used(3)).unwrap();
     assert!(answer.field().iter().eq([2]));
     let deleted = read_deletions(&DELETIONS, 0, used(6)).unwrap();
     assert_eq!(deleted.count(), 3);
@@ -96,10 +185,10 @@ fn an_index_for_fewer_or_more_rows_is_no_answer() {
     // 3 rows in the index; the field has as many bytes or more, and the library would accept each.
     for rows in [1, 2, 4, 8, 9, 1_000] {
         let expected = Error::RowsDiffer { expected: rows, found: 3 };
-        assert_eq!(ask(&SMALL, Question::IsNull, &none(), used(rows)), Err(expected));
+        assert_eq!(ask(&SMALL, Edition::Second, Question::IsNull, &none(), used(rows)), Err(expected));
         assert_eq!(audit(&SMALL, Type::TinyInt, used(rows)), Err(expected));
     }
-    assert_eq!(ask(&SMALL, Question::IsNull, &none(), used(0)), Err(Error::Refused(Refusal::Room)));
+    assert_eq!(ask(&SMALL, Edition::Second, Question::IsNull, &none(), used(0)), Err(Error::Refused(Refusal::Room)));
     assert_eq!(audit(&SMALL, Type::TinyInt, used(0)), Err(Error::Refused(Refusal::Room)));
     let long = nulls(9);
     assert_eq!(audit(&long, Type::TinyInt, used(8)), Err(Error::Refused(Refusal::Room)));
@@ -133,7 +222,7 @@ fn fields_sized_by_the_claim_of_a_body() {
         assert_eq!(audited.rows(), rows.into());
         let field = audited.into_field();
         assert_eq!((field.rows(), field.count()), (rows.into(), 0));
-        let answer = ask(&body, Question::IsNull, &Literals::none(Type::Int), field).unwrap();
+        let answer = ask(&body, Edition::Second, Question::IsNull, &Literals::none(Type::Int), field).unwrap();
         assert_eq!(answer.count(), rows.into());
         assert_eq!(answer.field(), &used(rows.into()));
     }
@@ -170,9 +259,9 @@ fn an_index_of_length_0_is_found() {
     assert_eq!(asked(&file, "s", Question::IsNull, &none(), 0), Err(Error::Refused(Refusal::Short)));
 }
 
-/// Asks the bitmap index on a column of a file that holds rows of an earlier answer in its field.
+/// Asks the bitmap index on a column of a file, in the second edition, with rows of an earlier answer in the field.
 fn asked(file: &[u8], column: &str, question: Question, literals: &Literals, rows: u64) -> Result<Option<Answer>, Error> {
-    ask_file(&[], file, column, "bitmap", question, literals, used(rows))
+    ask_file(&[], file, column, "bitmap", Edition::Second, question, literals, used(rows))
 }
 
 #[test]
@@ -181,6 +270,7 @@ fn the_file_that_document_01_writes_out_is_asked() {
     for body in [&SMALL[..], &SMALL_2] {
         let file = small_file(body);
         let eight = Literals::of(Type::TinyInt, [8]).unwrap();
+        let edition = Edition::First;
         for (question, literals, field, count) in [
             (Question::Equal, &seven(), 0b001, 1),
             (Question::NotEqual, &seven(), 0b110, 2),
@@ -190,11 +280,11 @@ fn the_file_that_document_01_writes_out_is_asked() {
             (Question::IsNull, &none(), 0b100, 1),
             (Question::IsNotNull, &none(), 0b011, 2),
         ] {
-            let answer = asked(&file, "s", question, literals, 3).unwrap().unwrap();
+            let answer = ask_file(&[], &file, "s", "bitmap", edition, question, literals, used(3)).unwrap().unwrap();
             assert_eq!((answer.field().as_bytes(), answer.count(), answer.is_skip()), (&[field][..], count, count == 0));
-            assert_eq!(Ok(answer.clone()), ask(body, question, literals, used(3)));
+            assert_eq!(Ok(answer.clone()), ask(body, edition, question, literals, used(3)));
             // Embedded, it is looked at alone.
-            let embedded = ask_file(&file, &[0], "s", "bitmap", question, literals, used(3));
+            let embedded = ask_file(&file, &[0], "s", "bitmap", edition, question, literals, used(3));
             assert_eq!(embedded, Ok(Some(answer)));
         }
     }
@@ -204,10 +294,10 @@ fn the_file_that_document_01_writes_out_is_asked() {
 fn an_index_that_is_not_there_is_no_answer() {
     let file = small_file(&SMALL);
     for (column, kind) in [("t", "bitmap"), ("s", "bsi"), ("", "bitmap"), ("s", "")] {
-        assert_eq!(ask_file(&[], &file, column, kind, Question::Equal, &seven(), used(3)), Ok(None));
-        assert_eq!(ask_file(&file, &[], column, kind, Question::Equal, &seven(), used(3)), Ok(None));
+        assert_eq!(ask_file(&[], &file, column, kind, Edition::Second, Question::Equal, &seven(), used(3)), Ok(None));
+        assert_eq!(ask_file(&file, &[], column, kind, Edition::Second, Question::Equal, &seven(), used(3)), Ok(None));
         // It is said before literals that don't fit, and whatever rows the field is for.
-        assert_eq!(ask_file(&[], &file, column, kind, Question::Equal, &none(), used(1_000)), Ok(None));
+        assert_eq!(ask_file(&[], &file, column, kind, Edition::Second, Question::Equal, &none(), used(1_000)), Ok(None));
     }
 }
 
@@ -249,7 +339,7 @@ fn a_file_of_fewer_or_more_rows_is_no_answer() {
     for rows in [1, 2, 4, 8, 9, 1_000] {
         let expected = Err(Error::RowsDiffer { expected: rows, found: 3 });
         assert_eq!(asked(&file, "s", Question::Equal, &seven(), rows), expected);
-        assert_eq!(ask_file(&file, &[], "s", "bitmap", Question::Equal, &seven(), used(rows)), expected);
+        assert_eq!(ask_file(&file, &[], "s", "bitmap", Edition::Second, Question::Equal, &seven(), used(rows)), expected);
     }
     assert_eq!(asked(&file, "s", Question::Equal, &seven(), 0), Err(Error::Refused(Refusal::Room)));
 }
@@ -286,6 +376,13 @@ fn names_are_read_back() {
         assert_eq!(question.to_string().parse(), Ok(question));
         assert_eq!(question.name().to_lowercase().replace(' ', "_").parse(), Ok(question));
     }
+    for edition in Edition::ALL {
+        assert_eq!(edition.to_string().parse(), Ok(edition));
+        assert_eq!(edition.name(), edition.number().to_string());
+    }
+    for name in ["", "0", "3", "-1", "+1", "_1", "01", "1 ", "first", "SECOND"] {
+        assert_eq!(name.parse::<Edition>().unwrap_err().to_string(), format!("{name:?} is none of 1, 2"));
+    }
     assert!("IS  NULL".parse::<Question>().is_err());
     assert!("".parse::<Type>().is_err());
 }
@@ -303,7 +400,7 @@ fn literals_have_the_width_of_their_type() {
         assert_eq!(literals.as_bytes().len(), 2 * ty.width().unwrap_or(5), "{ty}");
         // The library reads them as two, of this type.
         let body = [1, 0, 0, 0, 0, 0, 0, 0, 0, 0];
-        let asked = |question| ask(&body, question, &literals, used(0)).map(|answer| answer.is_skip());
+        let asked = |question| ask(&body, Edition::Second, question, &literals, used(0)).map(|answer| answer.is_skip());
         assert_eq!(asked(Question::In), Ok(true));
         assert_eq!(asked(Question::Equal), Err(Error::Refused(Refusal::Literal)));
     }

@@ -2,9 +2,13 @@
 //! first touched, which none of these calls does, so that it takes no room.
 
 use poddurance::raw::{self, Fault};
-use poddurance::{ask, ask_file, Error, Literals, Question, Refusal, RowField, Type, LIMIT};
+use poddurance::{ask, ask_file, Edition, Error, Literals, Question, Refusal, RowField, Type, LIMIT};
 
+const LITERAL: u8 = 11;
 const LIMIT_PASSED: u8 = 12;
+
+/// Numbers that are no edition's.
+const UNKNOWN_EDITIONS: [u32; 5] = [0, 3, 257, 1 << 31, u32::MAX];
 
 /// The head of an index file without columns.
 const HEAD: [u8; 24] = [0, 5, 0x4E, 0x4E, 0xD0, 0x1A, 0x35, 0xAE, 0, 0, 0, 1, 0, 0, 0, 24, 0, 0, 0, 0, 0, 0, 0, 0];
@@ -50,13 +54,16 @@ fn locate_does_not_test_the_buffer_it_does_not_look_at() {
 fn audit_and_ask_refuse_body_and_literals() {
     let long = too_long();
     let mut field = [0xAA; 1];
-    // 99 is no type and no question; LIMIT goes before that too.
+    let refused = (LIMIT_PASSED, 0, Fault::NONE);
+    // 99 is no type and no question; LIMIT goes before that, and before an unknown edition, too.
     for ty in [0, 11, 99] {
-        assert_eq!(raw::audit(&long, ty, &mut field), (LIMIT_PASSED, 0, Fault::NONE));
-        for question in [0, 4, 99] {
-            assert_eq!(raw::ask(&long, ty, question, &[7], &mut field), (LIMIT_PASSED, 0, Fault::NONE));
-            assert_eq!(raw::ask(&BODY, ty, question, &long, &mut field), (LIMIT_PASSED, 0, Fault::NONE));
-            assert_eq!(raw::ask(&[], ty, question, &long, &mut field), (LIMIT_PASSED, 0, Fault::NONE));
+        assert_eq!(raw::audit(&long, ty, &mut field), refused);
+        for edition in [1, 2].into_iter().chain(UNKNOWN_EDITIONS) {
+            for question in [0, 4, 99] {
+                assert_eq!(raw::ask(&long, ty, edition, question, &[7], &mut field), refused);
+                assert_eq!(raw::ask(&BODY, ty, edition, question, &long, &mut field), refused);
+                assert_eq!(raw::ask(&[], ty, edition, question, &long, &mut field), refused);
+            }
         }
     }
     assert_eq!(field, [0xAA]);
@@ -90,7 +97,7 @@ fn subtract_refuses_rows() {
 fn row_fields_may_be_longer() {
     let mut long = too_long();
     assert_eq!(raw::audit(&BODY, 0, &mut long), (0, 3, Fault::NONE));
-    assert_eq!(raw::ask(&BODY, 0, 0, &[7], &mut long), (0, 1, Fault::NONE));
+    assert_eq!(raw::ask(&BODY, 0, 1, 0, &[7], &mut long), (0, 1, Fault::NONE));
     assert_eq!(long[..9], [1, 0, 0, 0, 0, 0, 0, 0, 0]);
     assert_eq!(raw::subtract(&mut long, &[1], 3), (0, 0, 1));
     assert_eq!(raw::subtract(&mut [0b111], &long, 3), (0, 3, 0));
@@ -108,8 +115,8 @@ fn ask_file_refuses_what_locate_and_ask_refuse() {
     let long = too_long();
     let mut field = [0xAA; 1];
     let mut asked = |embedded: &[u8], file: &[u8], column: &[u8], kind: &[u8], literals: &[u8]| {
-        // 99 is no type and no question; LIMIT goes before that too.
-        raw::ask_file(embedded, file, column, kind, 99, 99, literals, &mut field)
+        // 99 is no type, no edition and no question; LIMIT goes before that too.
+        raw::ask_file(embedded, file, column, kind, 99, 99, 99, literals, &mut field)
     };
     let refused = (LIMIT_PASSED, 0, Fault::NONE);
     assert_eq!(asked(&long, &[], b"s", b"bitmap", &[7]), refused);
@@ -125,36 +132,65 @@ fn ask_file_refuses_what_locate_and_ask_refuse() {
     // Neither is found for a name within the limit that no head can hold.
     assert_eq!(asked(&[], &index_file(), &vec![b's'; 65_536], b"bitmap", &[7]), (raw::ABSENT, 0, Fault::NONE));
     assert_eq!(field, [0xAA]);
-    assert_eq!(
-        ask_file(&[], &long, "s", "bitmap", Question::IsNull, &Literals::none(Type::TinyInt), RowField::for_rows(3).unwrap()),
-        Err(Error::Refused(Refusal::Limit))
-    );
+    let (none, field) = (Literals::none(Type::TinyInt), RowField::for_rows(3).unwrap());
+    let found = ask_file(&[], &long, "s", "bitmap", Edition::Second, Question::IsNull, &none, field);
+    assert_eq!(found, Err(Error::Refused(Refusal::Limit)));
 }
 
 #[test]
 fn limits_of_literals_are_the_library_s() {
     let mut field = [0];
     for (number, answer) in [(1_024, 0), (1_025, LIMIT_PASSED)] {
-        assert_eq!(raw::ask(&BODY, 0, 2, &vec![7; number], &mut field).0, answer);
         let literals = Literals::of(Type::TinyInt, vec![7; number]).unwrap();
         assert_eq!(literals.len(), number);
-        let asked = ask(&BODY, Question::In, &literals, RowField::for_body(&BODY));
-        assert_eq!(asked.map_or_else(number_of, |_| 0), answer);
-        let field = RowField::for_body(&BODY);
-        let asked = ask_file(&index_file(), &[], "s", "bitmap", Question::In, &literals, field);
-        assert_eq!(asked.map_or_else(number_of, |_| 0), answer);
+        for edition in Edition::ALL {
+            assert_eq!(raw::ask(&BODY, 0, edition.number(), 2, &vec![7; number], &mut field).0, answer);
+            let asked = ask(&BODY, edition, Question::In, &literals, RowField::for_body(&BODY));
+            assert_eq!(asked.map_or_else(number_of, |_| 0), answer);
+            let field = RowField::for_body(&BODY);
+            let asked = ask_file(&index_file(), &[], "s", "bitmap", edition, Question::In, &literals, field);
+            assert_eq!(asked.map_or_else(number_of, |_| 0), answer);
+        }
     }
     // Strings of no rows.
     let body = [1, 0, 0, 0, 0, 0, 0, 0, 0, 0];
     for (length, answer) in [(65_535u32, 0), (65_536, LIMIT_PASSED)] {
         let text = "x".repeat(length as usize);
         let stored = [&length.to_be_bytes(), text.as_bytes()].concat();
-        assert_eq!(raw::ask(&body, 11, 0, &stored, &mut []).0, answer);
         let literals = Literals::of(Type::String, [&text]).unwrap();
         assert_eq!(literals.as_bytes(), stored);
-        let asked = ask(&body, Question::Equal, &literals, RowField::for_body(&body));
-        assert_eq!(asked.map_or_else(number_of, |_| 0), answer);
+        for edition in Edition::ALL {
+            assert_eq!(raw::ask(&body, 11, edition.number(), 0, &stored, &mut []).0, answer);
+            let asked = ask(&body, edition, Question::Equal, &literals, RowField::for_body(&body));
+            assert_eq!(asked.map_or_else(number_of, |_| 0), answer);
+        }
     }
+}
+
+/// The edition stands between the limit of the literals' buffer and the limits that are met in reading them.
+#[test]
+fn an_unknown_edition_goes_before_limits_of_literals() {
+    let refused = (LITERAL, 0, Fault::NONE);
+    let mut field = [0xAA];
+    let many = [7; 1_025];
+    // A string over 65,535 whose bytes aren't there.
+    let long_string = 65_536u32.to_be_bytes();
+    for edition in UNKNOWN_EDITIONS {
+        for question in 0..6 {
+            assert_eq!(raw::ask(&BODY, 0, edition, question, &many, &mut field), refused);
+            assert_eq!(raw::ask(&BODY, 11, edition, question, &long_string, &mut field), refused);
+            let found = raw::ask_file(&[], &index_file(), b"s", b"bitmap", 0, edition, question, &many, &mut field);
+            assert_eq!(found, refused);
+        }
+    }
+    // In a known one they are LIMIT, whatever the question.
+    for edition in [1, 2] {
+        for question in 0..6 {
+            assert_eq!(raw::ask(&BODY, 0, edition, question, &many, &mut field).0, LIMIT_PASSED);
+            assert_eq!(raw::ask(&BODY, 11, edition, question, &long_string, &mut field).0, LIMIT_PASSED);
+        }
+    }
+    assert_eq!(field, [0xAA]);
 }
 
 fn number_of(error: Error) -> u8 {

@@ -46,6 +46,15 @@ fn commands_answer_as_shown() {
     assert!(
         shown.iter().any(|one| one.output.starts_with("keep: ")) && shown.iter().any(|one| one.output.starts_with("refused: "))
     );
+    // And one question on the column with null rows in both editions, with different answers.
+    let in_edition = |number: &str| {
+        let asked = shown.iter().find(|one| one.words.windows(2).any(|pair| pair == ["--edition", number]));
+        let asked = asked.unwrap_or_else(|| panic!("no question in edition {number}"));
+        let question: Vec<&String> = asked.words.iter().filter(|word| *word != number).collect();
+        (question, &asked.output)
+    };
+    let (first, second) = (in_edition("1"), in_edition("2"));
+    assert!(first.0 == second.0 && first.1 != second.1 && first.0.iter().any(|word| *word == "alarm"));
 }
 
 /// The table of refusals is the crate's: number, name, when it is given, and what it carries.
@@ -64,13 +73,14 @@ fn refusals_are_those_of_the_crate() {
 #[test]
 fn usage_is_that_of_the_help() {
     let usage = |text: Vec<String>| -> Vec<String> {
+        // A command's second line begins with options.
         let trimmed = text.iter().map(|line| line.trim().to_string());
-        trimmed.filter(|line| line.starts_with("poddurance ")).collect()
+        trimmed.filter(|line| line.starts_with("poddurance ") || line.starts_with("[--")).collect()
     };
     let help = lines(Command::new(env!("CARGO_BIN_EXE_poddurance")).arg("--help").output().unwrap());
     let section = section("## The command line");
     assert_eq!(usage(section.clone()), usage(help.clone()));
-    assert_eq!(usage(help).len(), 5);
+    assert_eq!(usage(help).iter().filter(|line| line.starts_with("poddurance ")).count(), 5);
     // What isn't proved is called so.
     let text = section.join(" ");
     assert!(text.contains("`columns`") && text.contains("not proved"));

@@ -32,9 +32,11 @@ fn every_call_on_a_small_stack() {
         for (body, file) in bodies.iter().zip(&files) {
             assert_eq!(raw::audit(body, types::INT, &mut field), (raw::ACCEPTED, VALUES.into(), Fault::NONE));
             let answer = (raw::ACCEPTED, LITERALS.into(), Fault::NONE);
-            assert_eq!(raw::ask(body, types::INT, types::IN, &literals, &mut field), answer);
+            assert_eq!(raw::ask(body, types::INT, types::SECOND_EDITION, types::IN, &literals, &mut field), answer);
             assert_eq!(raw::locate(&[], file, b"number", b"bitmap").0, raw::ACCEPTED);
-            assert_eq!(raw::ask_file(&[], file, b"number", b"bitmap", types::INT, types::IN, &literals, &mut field), answer);
+            let (edition, question) = (types::SECOND_EDITION, types::IN);
+            let asked = raw::ask_file(&[], file, b"number", b"bitmap", types::INT, edition, question, &literals, &mut field);
+            assert_eq!(asked, answer);
         }
         let mut deleted = [0; VALUES as usize / 8];
         assert_eq!(raw::read_deletions(&deletions, 0, VALUES.into(), &mut deleted), (raw::ACCEPTED, VALUES.into(), Fault::NONE));

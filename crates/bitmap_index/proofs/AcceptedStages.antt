@@ -28,7 +28,8 @@ use Rattle.stored_value.specs.Meaning.{types, mostLiterals}
 use Rattle.stored_value.specs.Reading.{literals}
 use Rattle.dictionary.specs.Layout.{Entry}
 use Rattle.dictionary.specs.Reading.{Dictionary, dictionary}
-use Rattle.bitmap_index.specs.Meaning.{questions, takes}
+use Rattle.bitmap_index.specs.declared.Question.{Question}
+use Rattle.bitmap_index.specs.Meaning.{questions, knownEdition, takes}
 use Rattle.bitmap_index.specs.Layout.{EntryRows, single, bitmap}
 use Rattle.bitmap_index.specs.Reading.{extentOf, entryNumber, firstNumber, placeAt, placeEntry, placeEntries, roomFor, prepared, audited, audit, rowsFor, rowsAt, wellFormed, Answer, auditedAnswer, ask}
 use Rattle.bitmap_index.proofs.PlacedRows.{bitmap-back, placed-at}
@@ -148,8 +149,9 @@ audit-passed t body field n e =
 
 -- ---- a question that was answered, taken apart
 
-pub asked-back : (t q : ℕ) (literal body : List ℕ) (ls : List (List ℕ)) → wellFormed t q literal body ≡ ok ls
-    → (length body ≤ limit) × (length literal ≤ limit) × (t < types) × (q < questions) × (literals t mostLiterals [] literal ≡ ok ls) × (takes q (length ls) ≡ true)
+pub asked-back : (t : ℕ) (q : Question) (literal body : List ℕ) (ls : List (List ℕ)) → wellFormed t q literal body ≡ ok ls
+    → (length body ≤ limit) × (length literal ≤ limit) × (t < types) × (knownEdition (q .edition) ≡ true) × (q .name < questions)
+    × (literals t mostLiterals [] literal ≡ ok ls) × (takes (q .name) (length ls) ≡ true)
 unfolding wellFormed
 asked-back t q literal body ls e =
     let (short, names) = check-ok _ _ _ ls e in
@@ -159,13 +161,14 @@ asked-back t q literal body ls e =
     let i : ls′ ≡ ls = cc in
     let s = and-both _ _ short in
     let k = and-both _ _ known in
-    (leb-true (length body) limit (s .0), leb-true (length literal) limit (s .1), ltb-true t types (k .0), ltb-true q questions (k .1), read ∙ ap ok i, rw i at takes)
+    let m = and-both _ _ (k .1) in
+    (leb-true (length body) limit (s .0), leb-true (length literal) limit (s .1), ltb-true t types (k .0), m .0, ltb-true (q .name) questions (m .1), read ∙ ap ok i, rw i at takes)
 
 audit-joined : (t : ℕ) (body field : List ℕ) (d : Dictionary) (n : ℕ) → prepared t body field ≡ ok d → audited d (cleared (d .rows) field) ≡ ok n → audit t body field ≡ ok n
 unfolding audit andThen
 audit-joined t body field d n x y = rw x y
 
-pub ask-parts : (t q : ℕ) (literal body field : List ℕ) (a : Answer) → ask t q literal body field ≡ ok a
+pub ask-parts : (t : ℕ) (q : Question) (literal body field : List ℕ) (a : Answer) → ask t q literal body field ≡ ok a
     → (ls : List (List ℕ)) × (n : ℕ) × (wellFormed t q literal body ≡ ok ls) × (audit t body field ≡ ok n)
 unfolding ask auditedAnswer
 ask-parts t q literal body field a e =

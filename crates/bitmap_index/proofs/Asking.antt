@@ -5,7 +5,7 @@ use mathlib.Core.Logic.{_⊎_, ⊎-elim}
 use mathlib.Core.Bool.{Bool, true, false, cond}
 use mathlib.Core.List.{List, []}
 use native.Mathlib.Omega.{arith}
-use lib.Dec.{eqb}
+use lib.Dec.{eqb, leb}
 use lib.ListN.{length, replicate, length-replicate}
 use borrow.Author.Tests.{eq-eqb, ne-eqb, eqb-true, le-leb, lt-leb, le-ltb, lt-ltb}
 use Rattle.refusal.specs.Meaning.{limit, noFault}
@@ -25,7 +25,8 @@ use Rattle.dictionary.specs.declared.Checked.{Checked}
 use Rattle.dictionary.specs.declared.Checked.the-variants.{Found}
 use Rattle.dictionary.specs.declared.Summary.{Summary}
 use Rattle.dictionary.specs.Reading.{Dictionary}
-use Rattle.bitmap_index.specs.Meaning.{questions, takes, keeps}
+use Rattle.bitmap_index.specs.declared.Question.{Question}
+use Rattle.bitmap_index.specs.Meaning.{isIn, notIn, isNull, questions, firstEdition, secondEdition, knownEdition, takes, keeps}
 use Rattle.bitmap_index.specs.Reading.{prepared, audited, zeroedFrom, chosenOf, markEntries, Answer, answered, auditedAnswer, wellFormed, ask, answerBuffer, askBuffer, auditedBy, answeredBy, askOut, askNumbers, askFault}
 use Rattle.bitmap_index.specs.declared.Audited.{Audited}
 use Rattle.bitmap_index.specs.declared.Audited.the-variants.{Rows}
@@ -39,18 +40,31 @@ use Rattle.bitmap_index.proofs.Auditing.{zeroed-again}
 
 -- ---- the question
 
-module _ (q n : ℕ) where
-  pub takes-one : q < 2 → eqb n 1 ≡ takes q n
+module _ (name n : ℕ) where
+  pub takes-one : name < isIn → eqb n 1 ≡ takes name n
   unfolding takes
-  takes-one h = rw (lt-ltb q 2 h)
+  takes-one h = rw (lt-ltb name isIn h)
 
-  pub takes-any : 2 ≤ q → q < 4 → true ≡ takes q n
+  pub takes-any : isIn ≤ name → name < isNull → true ≡ takes name n
   unfolding takes
-  takes-any h k = rw (le-ltb q 2 h, lt-ltb q 4 k)
+  takes-any h k = rw (le-ltb name isIn h, lt-ltb name isNull k)
 
-  pub takes-none : 2 ≤ q → 4 ≤ q → eqb n 0 ≡ takes q n
+  pub takes-none : isIn ≤ name → isNull ≤ name → eqb n 0 ≡ takes name n
   unfolding takes
-  takes-none h k = rw (le-ltb q 2 h, le-ltb q 4 k)
+  takes-none h k = rw (le-ltb name isIn h, le-ltb name isNull k)
+
+pub before-first : (e : ℕ) → e < firstEdition → false ≡ knownEdition e
+unfolding knownEdition
+before-first e h = rw (ne-eqb e firstEdition (λ i. omega arith), ne-eqb e secondEdition (λ i. omega arith))
+
+pub from-first : (e : ℕ) → firstEdition ≤ e → leb e secondEdition ≡ knownEdition e
+unfolding knownEdition
+from-first zero h = absurd (omega arith)
+from-first (suc zero) h = refl
+from-first (suc (suc zero)) h = refl
+from-first (suc (suc (suc e))) h =
+    let x : ℕ = suc (suc (suc e)) in
+    rw (lt-leb x secondEdition (omega arith), ne-eqb x firstEdition (λ i. omega arith), ne-eqb x secondEdition (λ i. omega arith))
 
 not-counted : {r : Refusal} (o : Out Refusal (List (List ℕ))) → countedBy o ≡ Counted.Refused r → o ≡ refuse r
 unfolding countedBy
@@ -62,7 +76,7 @@ unfolding countedBy
 are-counted (refuse r) e = absurd (let w : _≡_ {A = ℕ} 0 1 = cc in omega arith)
 are-counted (ok ls) e = (ls, refl, cc)
 
-module _ (t q : ℕ) (s body : List ℕ) where
+module _ (t : ℕ) (q : Question) (s body : List ℕ) where
   pub long-body : limit < length body → wellFormed t q s body ≡ refuse Limit
   unfolding wellFormed check
   long-body h = rw (lt-leb (length body) limit h)
@@ -78,62 +92,67 @@ module _ (t q : ℕ) (s body : List ℕ) where
       unknown-type h = rw (le-leb (length body) limit l, le-leb (length s) limit m, le-ltb t types h)
 
       module _ (k : t < types) where
-        pub unknown-question : questions ≤ q → wellFormed t q s body ≡ refuse Literal
+        pub unknown-edition : {b : Bool} → b ≡ knownEdition (q .edition) → b ≡ false → wellFormed t q s body ≡ refuse Literal
         unfolding wellFormed check
-        unknown-question h = rw (le-leb (length body) limit l, le-leb (length s) limit m, lt-ltb t types k, le-ltb q questions h)
+        unknown-edition w h = rw (le-leb (length body) limit l, le-leb (length s) limit m, lt-ltb t types k, ← w, h)
 
-        module _ (g : q < questions) {c : Counted} (o : CountPromise (literals t mostLiterals [] s) c) where
-          in-literals : wellFormed t q s body ≡ andThen (literals t mostLiterals [] s) (λ ls. check (takes q (length ls)) Literal (ok ls))
+        module _ {a : Bool} (d : a ≡ knownEdition (q .edition)) (i : a ≡ true) where
+          pub unknown-name : questions ≤ q .name → wellFormed t q s body ≡ refuse Literal
           unfolding wellFormed check
-          in-literals = rw (le-leb (length body) limit l, le-leb (length s) limit m, lt-ltb t types k, lt-ltb q questions g)
+          unknown-name h = rw (le-leb (length body) limit l, le-leb (length s) limit m, lt-ltb t types k, ← d, i, le-ltb (q .name) questions h)
 
-          pub misfit : {r : Refusal} → c ≡ Counted.Refused r → wellFormed t q s body ≡ refuse r
-          unfolding andThen
-          misfit e = in-literals ∙ rw (not-counted (literals t mostLiterals [] s) (sym (o .answer) ∙ e))
+          module _ (g : q .name < questions) {c : Counted} (o : CountPromise (literals t mostLiterals [] s) c) where
+            in-literals : wellFormed t q s body ≡ andThen (literals t mostLiterals [] s) (λ ls. check (takes (q .name) (length ls)) Literal (ok ls))
+            unfolding wellFormed check
+            in-literals = rw (le-leb (length body) limit l, le-leb (length s) limit m, lt-ltb t types k, ← d, i, lt-ltb (q .name) questions g)
 
-          module _ {n : ℕ} (e : c ≡ Count n) {b : Bool} (w : b ≡ takes q n) where
-            pub wrong-number : b ≡ false → wellFormed t q s body ≡ refuse Literal
-            unfolding andThen check
-            wrong-number h =
-                let z = are-counted (literals t mostLiterals [] s) (sym (o .answer) ∙ e) in
-                in-literals ∙ rw (z .1, ← z .2, ← w, h)
+            pub misfit : {r : Refusal} → c ≡ Counted.Refused r → wellFormed t q s body ≡ refuse r
+            unfolding andThen
+            misfit e = in-literals ∙ rw (not-counted (literals t mostLiterals [] s) (sym (o .answer) ∙ e))
 
-            right-number : (ls : List (List ℕ)) → literals t mostLiterals [] s ≡ ok ls → n ≡ length ls → b ≡ true → wellFormed t q s body ≡ ok ls
-            unfolding andThen check
-            right-number ls y z h = in-literals ∙ rw (y, ← z, ← w, h)
+            module _ {n : ℕ} (e : c ≡ Count n) {b : Bool} (w : b ≡ takes (q .name) n) where
+              pub wrong-number : b ≡ false → wellFormed t q s body ≡ refuse Literal
+              unfolding andThen check
+              wrong-number h =
+                  let z = are-counted (literals t mostLiterals [] s) (sym (o .answer) ∙ e) in
+                  in-literals ∙ rw (z .1, ← z .2, ← w, h)
 
-            pub fits-question : b ≡ true → TestsQuestion t q s body Done
-            fits-question h =
-                let z = are-counted (literals t mostLiterals [] s) (sym (o .answer) ∙ e) in
-                (z .0, right-number (z .0) (z .1) (z .2) h)
+              right-number : (ls : List (List ℕ)) → literals t mostLiterals [] s ≡ ok ls → n ≡ length ls → b ≡ true → wellFormed t q s body ≡ ok ls
+              unfolding andThen check
+              right-number ls y z h = in-literals ∙ rw (y, ← z, ← w, h)
+
+              pub fits-question : b ≡ true → TestsQuestion t q s body Done
+              fits-question h =
+                  let z = are-counted (literals t mostLiterals [] s) (sym (o .answer) ∙ e) in
+                  (z .0, right-number (z .0) (z .1) (z .2) h)
 
 -- ---- the literals as the code looks them up
 
-module _ (t q : ℕ) (s body table : List ℕ) (ls : List (List ℕ)) (w : wellFormed t q s body ≡ ok ls) where
+module _ (t : ℕ) (q : Question) (s body table : List ℕ) (ls : List (List ℕ)) (w : wellFormed t q s body ≡ ok ls) where
   -- EQUAL and NOT EQUAL have one literal, which is the whole buffer; IS NULL and IS NOT NULL have none
-  pub no-table : (q < 2) ⊎ (3 < q) → Lookup q s table ls
+  pub no-table : (q .name < isIn) ⊎ (notIn < q .name) → Lookup q s table ls
   unfolding takes
   no-table h =
-      let (short, short-literals, known, name, is, fits) = asked-back t q s body ls w in
+      let (short, short-literals, known, edition, name, is, fits) = asked-back t q s body ls w in
       record {
-        one = λ l v. listed-alone t v s ls is (eqb-true (length ls) 1 (rw (lt-ltb q 2 l) at fits));
+        one = λ l v. listed-alone t v s ls is (eqb-true (length ls) 1 (rw (lt-ltb (q .name) isIn l) at fits));
         many = λ k l. absurd (⊎-elim (λ i. omega arith) (λ i. omega arith) h);
       }
 
-  pub in-table : 2 ≤ q → Enters t s table → Lookup q s table ls
+  pub in-table : isIn ≤ q .name → Enters t s table → Lookup q s table ls
   in-table h e =
-      let (short, short-literals, known, name, is, fits) = asked-back t q s body ls w in
+      let (short, short-literals, known, edition, name, is, fits) = asked-back t q s body ls w in
       record { one = λ l. absurd (omega arith); many = λ k l. e ls is }
 
 -- the question's literals are accepted, and a table of zeros holds nothing
-pub may-enter : (t q : ℕ) (s body : List ℕ) → Asked t q s body → Enterable t s (replicate (slot mostLiterals) 0)
+pub may-enter : (t : ℕ) (q : Question) (s body : List ℕ) → Asked t q s body → Enterable t s (replicate (slot mostLiterals) 0)
 may-enter t q s body w =
-    let (short, short-literals, known, name, is, fits) = asked-back t q s body (w .0) (w .1) in
+    let (short, short-literals, known, edition, name, is, fits) = asked-back t q s body (w .0) (w .1) in
     record { ls = w .0; accepted = is; empty = holds-none s (slot mostLiterals) (omega arith); room = rw length-replicate (omega arith); short = omega arith }
 
 -- ---- the chosen entries
 
-module _ (q : ℕ) (ls : List (List ℕ)) (d : Dictionary) (f : List ℕ) {after : List ℕ} (m : after ≡ markEntries (d .region) (chosenOf q ls (d .entries)) f)
+module _ (q : Question) (ls : List (List ℕ)) (d : Dictionary) (f : List ℕ) {after : List ℕ} (m : after ≡ markEntries (d .region) (chosenOf q ls (d .entries)) f)
     {k : ℕ} (o : k ≡ count after (d .rows)) where
   pub zero-skip : k ≡ 0 → Answers (ok (answered q ls d f)) (cleared (d .rows) f) after Skip
   unfolding answered answeredBy answerBuffer keeps
@@ -158,7 +177,7 @@ audit-accepted (ok n) e = cc
 pub then-accepted : (d : Dictionary) (f : List ℕ) {a : Audited} {mid : List ℕ} → AuditsField d f mid a → {n : ℕ} → a ≡ Rows n → audited d mid ≡ ok n
 then-accepted d f w e = rw (w .buffer) (audit-accepted (audited d (cleared (d .rows) f)) (sym (w .answer) ∙ e))
 
-module _ (q : ℕ) (ls : List (List ℕ)) (d : Dictionary) (f : List ℕ) {a : Audited} {mid : List ℕ} (w : AuditsField d f mid a) where
+module _ (q : Question) (ls : List (List ℕ)) (d : Dictionary) (f : List ℕ) {a : Audited} {mid : List ℕ} (w : AuditsField d f mid a) where
   pub not-audited : {r : Refusal} → a ≡ Audited.Refused r
       → Answers (auditedAnswer q ls d (cleared (d .rows) f)) (cleared (d .rows) f) mid (Answered.Refused r)
   unfolding auditedAnswer andThen answeredBy answerBuffer
@@ -195,7 +214,7 @@ ask-fault (ok b) = none (keeps (b .matched))
     none true = refl
     none false = refl
 
-module _ (t q : ℕ) (s body f : List ℕ) where
+module _ (t : ℕ) (q : Question) (s body f : List ℕ) where
   ask-says : {r : Answered} {after : List ℕ} → r ≡ answeredBy (ask t q s body f) → after ≡ askBuffer t q s body f → AskPromise t q s body f after r
   ask-says e b = record { answer = e; buffer = b; numbers = rw e (ask-numbers (ask t q s body f)); fault = rw e (ask-fault (ask t q s body f)) }
 

@@ -12,7 +12,7 @@ use Rattle.refusal.specs.Meaning.{limit}
 use Rattle.refusal.specs.declared.Refusal.{Refusal}
 use Rattle.refusal.specs.declared.Refusal.the-variants.{Missing, Room, Limit}
 use Rattle.row_field.specs.Meaning.{zeroed, cleared, size, count, firstClear}
-use Rattle.row_field.proofs.Counts.{rows-tally, tally-none, count-le, length-zeroed, bit-zeroed}
+use Rattle.row_field.proofs.Counts.{none-counted, count-le, length-zeroed, bit-zeroed}
 use Rattle.refusal.specs.Reading.{Out, refuse, ok, check, andThen, numbersOf, faultIn}
 use Rattle.dictionary.specs.declared.Checked.{Checked}
 use Rattle.dictionary.specs.declared.Checked.the-variants.{Found}
@@ -81,7 +81,7 @@ pub zero-ready : (t : ℕ) (body : List ℕ) (h : Summary) (f : List ℕ) {zero 
 zero-ready t body h f c y =
     rw c (
       record { is-read = y .is-read; room = rw (length-zeroed (size (h .rows)) f) (y .room) },
-      rows-tally (cleared (h .rows) f) 0 (h .rows) ∙ tally-none _ 0 (h .rows) (λ r a b. bit-zeroed (size (h .rows)) f r (omega arith)),
+      none-counted (cleared (h .rows) f) (h .rows) (λ r l. bit-zeroed (size (h .rows)) f r (omega arith)),
     )
 
 pub then-zero : (d : Dictionary) (f full : List ℕ) {zero after : List ℕ} {r : Audited} → zero ≡ cleared (d .rows) f → AuditsZero d zero full r

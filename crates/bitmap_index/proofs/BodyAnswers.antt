@@ -18,7 +18,8 @@ use Rattle.stored_value.proofs.Laws.{literals-laid}
 use Rattle.dictionary.specs.Layout.{Patterns}
 use Rattle.dictionary.specs.Layout.{Entry, entries1, null1, body1, blocks, directory, null2, body2}
 use Rattle.dictionary.specs.Reading.{Dictionary, dictionary}
-use Rattle.bitmap_index.specs.Meaning.{questions, Question}
+use Rattle.bitmap_index.specs.declared.Question.{Question}
+use Rattle.bitmap_index.specs.Meaning.{questions, WellFormed}
 use Rattle.bitmap_index.specs.Layout.{EntryRows, single, bitmap, ExactRows}
 use Rattle.bitmap_index.specs.Reading.{audited, roomFor, prepared, audit, zeroedFrom, auditBuffer, wellFormed, ask, answerBuffer, askBuffer, auditedAnswer}
 use Rattle.bitmap_index.specs.Claims.{scanAnswer, AnswersAsScan}
@@ -36,11 +37,11 @@ literals-at-most t (l ∷ ls) h = simp length-append (omega (arith, value-at-mos
 
 -- ---- a body whose dictionary is read as the column's
 
-asked-well : (t q : ℕ) (ls : List (List ℕ)) (body : List ℕ) → length body ≤ limit → Question t q ls → wellFormed t q (joined ls) body ≡ ok ls
+asked-well : (t : ℕ) (q : Question) (ls : List (List ℕ)) (body : List ℕ) → length body ≤ limit → WellFormed t q ls → wellFormed t q (joined ls) body ≡ ok ls
 unfolding wellFormed check andThen
 asked-well t q ls body h w =
-    let l : length (joined ls) ≤ limit = omega (arith, literals-at-most t ls (w .3), w .2) in
-    rw (le-leb (length body) limit h, le-leb (length (joined ls)) limit l, lt-ltb t types (w .0), lt-ltb q questions (w .1), literals-laid t ls (w .3) (w .2), w .4)
+    let l : length (joined ls) ≤ limit = omega (arith, literals-at-most t ls (w .form), w .few) in
+    rw (le-leb (length body) limit h, le-leb (length (joined ls)) limit l, lt-ltb t types (w .known-type), w .known-edition, lt-ltb (q .name) questions (w .known-name), literals-laid t ls (w .form) (w .few), w .number)
 
 module _ (t : ℕ) (cells : List Cell) (es : List Entry) (region body field : List ℕ) (s : length body ≤ limit)
     (d : dictionary t body ≡ ok (record { rows = length cells; entries = es; region = region })) (w : HasColumn cells es region) (b : Bytes field) (h : size (length cells) ≤ length field) where
@@ -58,7 +59,7 @@ module _ (t : ℕ) (cells : List Cell) (es : List Entry) (region body field : Li
   unfolding auditBuffer zeroedFrom
   audit-buffer = rw prepared-well
 
-  module _ (q : ℕ) (ls : List (List ℕ)) (g : Question t q ls) where
+  module _ (q : Question) (ls : List (List ℕ)) (g : WellFormed t q ls) where
     ask-well : ask t q (joined ls) body field ≡ ok (scanAnswer q ls cells field)
     unfolding ask auditedAnswer andThen
     ask-well = rw (asked-well t q ls body s g, prepared-well, column-audited cells es region field w b h) (ap ok (column-answered q ls cells es region field w b h))

@@ -5,9 +5,10 @@ use Rattle.refusal.specs.Claims.{CarriesNothing}
 use Rattle.refusal.proofs.CarriesNothing.{bare}
 use Rattle.stored_value.proofs.CarriesNothing.{literals-bare}
 use Rattle.dictionary.proofs.CarriesNothing.{dictionary-carries-nothing}
+use Rattle.bitmap_index.specs.declared.Question.{Question}
 use Rattle.bitmap_index.specs.Reading.{roomFor, prepared, wellFormed}
 
-pub well-formed-bare : (t q : ℕ) (literal body : List ℕ) → CarriesNothing (wellFormed t q literal body)
+pub well-formed-bare : (t : ℕ) (q : Question) (literal body : List ℕ) → CarriesNothing (wellFormed t q literal body)
 unfolding wellFormed
 well-formed-bare t q literal body = search (bare, literals-bare)
 

@@ -4,6 +4,7 @@ pub mod LaidRows
 pub mod ScanAnswers
 pub mod BodyAnswers
 pub mod SameColumn
+pub mod Editions
 pub mod PlacedRows
 pub mod AcceptedStages
 pub mod Accepted

@@ -23,6 +23,7 @@ use Rattle.dictionary.specs.declared.Cursor.{Cursor}
 use Rattle.dictionary.specs.declared.EntryAt.{EntryAt}
 use Rattle.dictionary.specs.Promises.{pattern, nullsOf, entryAt, IsRead, NextAt}
 use Rattle.dictionary.proofs.Offsets.{read-signed}
+use Rattle.bitmap_index.specs.declared.Question.{Question}
 use Rattle.bitmap_index.specs.Meaning.{chosen}
 use Rattle.bitmap_index.specs.Reading.{chosenOf, rowsFor, rowsAt, markEntries}
 use Rattle.bitmap_index.specs.Promises.{ForEntries, SoundAt, SoundEntry, SoundEntryAt, SoundNull, AllSound, ForLookup, MarksChosen}
@@ -63,7 +64,7 @@ module _ (z : ℤ) (n : ℕ) (region f : List ℕ) (k : SFits w32 z) where
 
 -- ---- chosen entries
 
-module _ (q : ℕ) (ls : List (List ℕ)) where
+module _ (q : Question) (ls : List (List ℕ)) where
   pub chosen-append : (xs ys : List Entry) → chosenOf q ls (xs ++ ys) ≡ chosenOf q ls xs ++ chosenOf q ls ys
   unfolding chosenOf
   chosen-append [] ys = refl
@@ -79,7 +80,7 @@ unfolding markEntries
 marks-append region [] ys f = refl
 marks-append region (x ∷ xs) ys f = marks-append region xs ys (markAll f (rowsAt region x))
 
-module _ (body : List ℕ) (h : Summary) (q : ℕ) (ls : List (List ℕ)) (f : List ℕ) where
+module _ (body : List ℕ) (h : Summary) (q : Question) (ls : List (List ℕ)) (f : List ℕ) where
   pub both-marked : (xs ys : List Entry) {mid after : List ℕ} → MarksChosen body h q ls xs f mid → MarksChosen body h q ls ys mid after
       → MarksChosen body h q ls (xs ++ ys) f after
   both-marked xs ys m n =
@@ -131,15 +132,15 @@ null-inside t body h w =
 
 -- ---- the values' entries in turn: what is left of the chosen ones, marked in the field as it is, gives the whole
 
-pub record Marks (t : ℕ) (s : List ℕ) (h : Summary) (q : ℕ) (literal table before f : List ℕ) (c : Cursor) (i : ℕ) : Type 0 where
+pub record Marks (t : ℕ) (s : List ℕ) (h : Summary) (q : Question) (literal table before f : List ℕ) (c : Cursor) (i : ℕ) : Type 0 where
   pub walk : Walk t s h (λ es rest. All (SoundEntry s h) rest × ForLookup q literal table (λ ls.
       markEntries (drop (h .region .0) s) (chosenOf q ls rest) f ≡ markEntries (drop (h .region .0) s) (chosenOf q ls es) before)) c i
 
-pub marks-first : (t : ℕ) (s : List ℕ) (h : Summary) (q : ℕ) (literal table f : List ℕ) → AllSound t s h → Marks t s h q literal table f f (h .first) 0
+pub marks-first : (t : ℕ) (s : List ℕ) (h : Summary) (q : Question) (literal table f : List ℕ) → AllSound t s h → Marks t s h q literal table f f (h .first) 0
 marks-first t s h q literal table f w =
     record { walk = at-start t s h _ (λ es d. (all-parts (SoundEntry s h) (nullsOf h) es (w .sound es d) .1, λ ls k. refl)) }
 
-module _ {t : ℕ} {s : List ℕ} {h : Summary} {q : ℕ} {literal table before f : List ℕ} {c : Cursor} {i : ℕ}
+module _ {t : ℕ} {s : List ℕ} {h : Summary} {q : Question} {literal table before f : List ℕ} {c : Cursor} {i : ℕ}
     (g : Marks t s h q literal table before f c i) where
   pub marks-done : h .values ≤ i → ForEntries t s h (λ es. ForLookup q literal table (λ ls. MarksChosen s h q ls es before f))
   unfolding chosenOf markEntries

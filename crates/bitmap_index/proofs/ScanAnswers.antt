@@ -20,6 +20,7 @@ use Rattle.refusal.specs.Reading.{Out, ok, check, andThen}
 use Rattle.stored_value.proofs.Laws.{sameCell→eq, sameCell-sym}
 use Rattle.dictionary.specs.Layout.{Entry, someHas}
 use Rattle.dictionary.specs.Claims.{Once}
+use Rattle.bitmap_index.specs.declared.Question.{Question}
 use Rattle.bitmap_index.specs.Meaning.{chosen, scan, scanFrom}
 use Rattle.bitmap_index.specs.Layout.{rowsWith, EntryRows, ExactRows, Covers}
 use Rattle.bitmap_index.specs.Reading.{nextNumber, firstNumber, placeEntry, placeEntries, audited, chosenOf, rowsAt, markEntries, counted, answered}
@@ -114,7 +115,7 @@ module _ (cells : List Cell) (es : List Entry) (region field : List ℕ) (w : Ha
 
 -- ---- questions
 
-module _ (q : ℕ) (ls : List (List ℕ)) where
+module _ (q : Question) (ls : List (List ℕ)) where
   -- a cell stands among the chosen entries if the question chooses it and it stands among all
   chosen-has : (c : Cell) (es : List Entry) → someHas c (chosenOf q ls es) ≡ chosen q ls c && someHas c es
   unfolding chosenOf

@@ -18,10 +18,10 @@ use Rattle.stored_value.specs.Meaning.{Cell}
 use Rattle.refusal.specs.Reading.{Out, refuse, ok, check, andThen}
 use Rattle.stored_value.proofs.Laws.{literals-back}
 use Rattle.dictionary.specs.Reading.{Dictionary}
-use Rattle.bitmap_index.specs.Meaning.{Column, Question}
+use Rattle.bitmap_index.specs.Meaning.{Column, WellFormed}
 use Rattle.bitmap_index.specs.Layout.{ColumnBody, version1, version2}
 use Rattle.bitmap_index.specs.Reading.{roomFor, prepared, audited, audit, Answer, answered, auditedAnswer, ask}
-use Rattle.bitmap_index.specs.Claims.{ColumnIsAnswered, AcceptedIsAColumn, OneColumn, EachRowHasOnePlace, AcceptedIsAnswered, AnsweredAsTheScan, ShortOfRoom, RefusedForRoom, RefusedIsNoColumn, AcceptedAreTheColumns, UnknownVersionIsRefused, UnknownVersionYieldsNothing, FaultIs, AuditNamesTheFault, AskNamesTheFault, OutsideIsContainer0, NothingBeforeBitmaps}
+use Rattle.bitmap_index.specs.Claims.{ColumnIsAnswered, AcceptedIsAColumn, OneColumn, EachRowHasOnePlace, AcceptedIsAnswered, AnsweredAsTheScan, SecondIsFirstWithoutNulls, OthersStay, OthersAreAnsweredAlike, OtherEditionIsLiteral, ShortOfRoom, RefusedForRoom, RefusedIsNoColumn, AcceptedAreTheColumns, UnknownVersionIsRefused, UnknownVersionYieldsNothing, FaultIs, AuditNamesTheFault, AskNamesTheFault, OutsideIsContainer0, NothingBeforeBitmaps}
 use Rattle.bitmap_index.proofs.ScanAnswers.{HasColumn}
 use Rattle.bitmap_index.proofs.BodyAnswers.{answers-as-scan, all-patterns, region1, region2}
 use Rattle.dictionary.specs.Layout.{body1, body2}
@@ -29,6 +29,7 @@ use Rattle.dictionary.proofs.LaidOut.{one-laid, two-laid}
 use Rattle.dictionary.specs.Claims.{LaidOut, in-one, in-two}
 use Rattle.dictionary.proofs.Theorems.{read-is-laid-out, one-has-each-once, two-has-each-once, region-is-bytes}
 use Rattle.bitmap_index.proofs.SameColumn.{same-column}
+use Rattle.bitmap_index.proofs.Editions.{is-without, same-scan, same-ask, same-buffer, no-edition}
 use Rattle.refusal.proofs.Laws.{not-ok, ok-same, then-ok, check-ok}
 use Rattle.bitmap_index.proofs.AcceptedStages.{prepared-back, audit-passed, asked-back, ask-parts}
 use Rattle.bitmap_index.proofs.Accepted.{holder, columnOf, length-table, passed-body, laid-patterns, passed-once}
@@ -84,18 +85,32 @@ accepted-is-answered t body field n b bf e =
 pub answered-as-the-scan : AnsweredAsTheScan
 answered-as-the-scan t q literal body field a bl b bf e =
     let (ls, n, first, whole) = ask-parts t q literal body field a e in
-    let (short, short-literals, known, name, read, fit) = asked-back t q literal body ls first in
+    let (short, short-literals, known, edition, name, read, fit) = asked-back t q literal body ls first in
     let (spelled, fits, few) = literals-back t literal ls bl read in
     let (cells, column, rows, answers) = accepted-is-answered t body field n b bf whole in
-    let g : Question t q ls = (known, name, few, fits, fit) in
+    let g : WellFormed t q ls = record { known-type = known; known-edition = edition; known-name = name; few = few; form = fits; number = fit } in
     record {
       ls = ls;
       spelled = spelled;
-      question = g;
+      well-formed = g;
       cells = cells;
       column = column;
       answer = ok-same a _ (sym e ∙ ap (λ (x : List ℕ). ask t q x body field) spelled ∙ answers .asked q ls g);
     }
+
+-- ---- the editions
+
+pub second-is-first-without-nulls : SecondIsFirstWithoutNulls
+second-is-first-without-nulls name ls cells other = is-without name ls other cells
+
+pub others-stay : OthersStay
+others-stay name ls cells e n = same-scan name e n ls cells
+
+pub others-are-answered-alike : OthersAreAnsweredAlike
+others-are-answered-alike t name literal body field e n = (same-ask name e n t literal body field, same-buffer name e n t literal body field)
+
+pub other-edition-is-literal : OtherEditionIsLiteral
+other-edition-is-literal t q literal body field e short short-literals = no-edition t q literal body field e short short-literals
 
 -- ---- what is refused
 

@@ -16,6 +16,7 @@ use Rattle.dictionary.proofs.Theorems.{unknown-version-is-refused, unknown-type
 use native.Mathlib.Decide.{decLt}
 use native.Mathlib.Omega.{arith}
 use Rattle.row_field.specs.Meaning.{cleared}
+use Rattle.bitmap_index.specs.declared.Question.{Question}
 use Rattle.bitmap_index.specs.Reading.{roomFor, prepared, audited, audit, auditBuffer, zeroedFrom, wellFormed, auditedAnswer, ask, askBuffer, answerBuffer}
 use Rattle.bitmap_index.proofs.AcceptedStages.{asked-back}
 
@@ -61,12 +62,12 @@ module _ (t v : ℕ) (s field : List ℕ) (n : v ≡ 1 → ⊥) (n′ : v ≡ 2 
   unfolding auditBuffer
   version-audited-buffer = ap (λ (x : Out Refusal Dictionary). zeroedFrom x field) version-prepared ∙ untouched _ _ Limit Literal Version field
 
-  module _ (q : ℕ) (literal : List ℕ) where
+  module _ (q : Question) (literal : List ℕ) where
     -- literals that were read were asked of a body within the limit, and of a known type
     version-after : (ls : List (List ℕ)) → wellFormed t q literal (v ∷ s) ≡ ok ls → prepared t (v ∷ s) field ≡ refuse Version
     unfolding check
     version-after ls e =
-        let (short, short-literals, known, name, read, fit) = asked-back t q literal (v ∷ s) ls e in
+        let (short, short-literals, known, edition, name, read, fit) = asked-back t q literal (v ∷ s) ls e in
         version-prepared ∙ rw (le-leb (length (v ∷ s)) limit short, lt-ltb t types known)
 
     pub version-asked : ask t q literal (v ∷ s) field ≡ andThen (wellFormed t q literal (v ∷ s)) (λ ls. refuse Version)

@@ -3,7 +3,7 @@
 use Prim.Native.Nat.{ℕ, _+_, _<_, _≤_}
 use mathlib.Core.Path.{_≡_}
 use mathlib.Core.Logic.{_↔_}
-use mathlib.Core.Bool.{cond}
+use mathlib.Core.Bool.{true, false, cond}
 use mathlib.Core.List.{List, [], _∷_, _++_}
 use lib.Dec.{eqb, ltb, leb}
 use lib.ListN.{length, drop}
@@ -14,7 +14,8 @@ use Rattle.refusal.specs.declared.Refusal.{Refusal}
 use Rattle.refusal.specs.declared.Refusal.the-variants.{Short, Magic, Version, Head, Dict, Bitmap, Range, Twice, Missing, Room, Literal, Limit, Checksum, NoBin}
 use Rattle.refusal.specs.Reading.{refuse, ok, check, andThen}
 use Rattle.refusal.specs.Claims.{CarriesNothing}
-use Rattle.row_field.specs.Meaning.{size, cleared, Below}
+use Rattle.row_field.specs.Meaning.{size, bit, cleared, Below}
+use Rattle.subtract.specs.Meaning.{subtracted, removed}
 use Rattle.roaring.specs.declared.Extent.{Extent}
 use Rattle.roaring.specs.declared.Extent.the-variants.{AsLong, Exactly}
 use Rattle.roaring.specs.Faults.{Broken}
@@ -22,22 +23,24 @@ use Rattle.stored_value.specs.Meaning.{types, Cell, null, value}
 use Rattle.dictionary.specs.Layout.{Entry}
 use Rattle.dictionary.specs.Reading.{Dictionary, dictionary}
 use Rattle.dictionary.specs.Claims.{Once}
-use Rattle.bitmap_index.specs.Meaning.{Question, scan}
+use Rattle.bitmap_index.specs.declared.Question.{Question}
+use Rattle.bitmap_index.specs.Meaning.{notEqual, notIn, isNull, firstEdition, secondEdition, knownEdition, question, WellFormed, Scanned, scan, keeps}
 use Rattle.bitmap_index.specs.Layout.{EntryRows, ColumnBody}
 use Rattle.bitmap_index.specs.Reading.{prepared, audit, auditBuffer, wellFormed, Answer, ask, askBuffer}
 
 -- ---- Demand 3, from a body to its answers. A reading that refuses everything does not have it
 
 -- the answer of a column's scan in a lent buffer: the scan's field, what lies behind it as it was, and the scan's count
-abbrev pub scanAnswer : ℕ → List (List ℕ) → List Cell → List ℕ → Answer
+abbrev pub scanAnswer : Question → List (List ℕ) → List Cell → List ℕ → Answer
 scanAnswer q ls cells buffer = record { buffer = scan q ls cells .field ++ drop (size (length cells)) buffer; matched = scan q ls cells .matched }
 
--- Audit finds all rows and leaves the field zero, and Ask answers every well-formed question as the scan does
+-- Audit finds all rows and leaves the field zero, and Ask answers every well-formed question, of either edition, as the scan does (02, Ticket 4: "Demands 2 and 3
+-- hold for each edition, whose rule the scan then follows")
 pub record AnswersAsScan (t : ℕ) (cells : List Cell) (body field : List ℕ) : Type 0 where
   pub audited : audit t body field ≡ ok (length cells)
   pub audited-buffer : auditBuffer t body field ≡ cleared (length cells) field
-  pub asked : (q : ℕ) (ls : List (List ℕ)) → Question t q ls → ask t q (joined ls) body field ≡ ok (scanAnswer q ls cells field)
-  pub asked-buffer : (q : ℕ) (ls : List (List ℕ)) → Question t q ls → askBuffer t q (joined ls) body field ≡ scanAnswer q ls cells field .buffer
+  pub asked : (q : Question) (ls : List (List ℕ)) → WellFormed t q ls → ask t q (joined ls) body field ≡ ok (scanAnswer q ls cells field)
+  pub asked-buffer : (q : Question) (ls : List (List ℕ)) → WellFormed t q ls → askBuffer t q (joined ls) body field ≡ scanAnswer q ls cells field .buffer
 
 -- whatever body a writer laid out for a column, in any field with room
 abbrev pub ColumnIsAnswered : Type 0
@@ -93,19 +96,53 @@ AcceptedIsAnswered =
     (t : ℕ) (body field : List ℕ) (n : ℕ) → Bytes body → Bytes field → audit t body field ≡ ok n
     → (cells : List Cell) × TheColumn t body cells × (length cells ≡ n) × AnswersAsScan t cells body field
 
--- an answer of Ask, to literals that are any bytes, is the scan's answer to a well-formed question
-pub record AsTheScan (t q : ℕ) (literal body field : List ℕ) (a : Answer) : Type 0 where
+-- an answer of Ask, to any edition, name and literals, is the scan's answer to a well-formed question
+pub record AsTheScan (t : ℕ) (q : Question) (literal body field : List ℕ) (a : Answer) : Type 0 where
   pub ls : List (List ℕ)
   pub spelled : literal ≡ joined ls
-  pub question : Question t q ls
+  pub well-formed : WellFormed t q ls
   pub cells : List Cell
   pub column : TheColumn t body cells
   pub answer : a ≡ scanAnswer q ls cells field
 
 abbrev pub AnsweredAsTheScan : Type 0
 AnsweredAsTheScan =
-    (t q : ℕ) (literal body field : List ℕ) (a : Answer) → Bytes literal → Bytes body → Bytes field → ask t q literal body field ≡ ok a
+    (t : ℕ) (q : Question) (literal body field : List ℕ) (a : Answer) → Bytes literal → Bytes body → Bytes field → ask t q literal body field ≡ ok a
     → AsTheScan t q literal body field a
+
+-- ---- 02, Ticket 4: "for every question but IS NULL, which stays, edition 2 is edition 1 without the rows of IS NULL". Said of the scan; demands 2 and 3 carry
+-- it to Ask
+
+-- of n rows the scan `second` is `first` without the rows of `nulls`: its field is what Subtract leaves of the first's, its count is less by the rows so taken
+-- away, and it says skip exactly if the first chose no other row
+pub record IsWithout (n : ℕ) (second first nulls : Scanned) : Type 0 where
+  pub field : second .field ≡ subtracted n (first .field) (nulls .field)
+  pub count : second .matched + removed n (first .field) (nulls .field) ≡ first .matched
+  pub skip : (keeps (second .matched) ≡ false) ↔ ((r : ℕ) → r < n → bit (first .field) r ≡ true → bit (nulls .field) r ≡ true)
+
+abbrev pub SecondIsFirstWithoutNulls : Type 0
+SecondIsFirstWithoutNulls =
+    (name : ℕ) (ls : List (List ℕ)) (cells : List Cell) → (name ≡ isNull → ⊥)
+    → IsWithout (length cells) (scan (question secondEdition name) ls cells) (scan (question firstEdition name) ls cells) (scan (question firstEdition isNull) [] cells)
+
+-- "2 drops null rows from NOT EQUAL and NOT IN", and from no other: IS NULL "stays", and so do EQUAL, IN and IS NOT NULL
+abbrev pub OthersStay : Type 0
+OthersStay =
+    (name : ℕ) (ls : List (List ℕ)) (cells : List Cell) → (name ≡ notEqual → ⊥) → (name ≡ notIn → ⊥)
+    → scan (question secondEdition name) ls cells ≡ scan (question firstEdition name) ls cells
+
+-- so that Ask's answer to them is the same in both, for any bytes and refusals included: whoever asks them may name either edition
+abbrev pub OthersAreAnsweredAlike : Type 0
+OthersAreAnsweredAlike =
+    (t name : ℕ) (literal body field : List ℕ) → (name ≡ notEqual → ⊥) → (name ≡ notIn → ⊥)
+    → (ask t (question secondEdition name) literal body field ≡ ask t (question firstEdition name) literal body field)
+    × (askBuffer t (question secondEdition name) literal body field ≡ askBuffer t (question firstEdition name) literal body field)
+
+-- "A question with another edition number isn't well formed: LITERAL, before the literals are read", and so before the body is; the buffer stays
+abbrev pub OtherEditionIsLiteral : Type 0
+OtherEditionIsLiteral =
+    (t : ℕ) (q : Question) (literal body field : List ℕ) → knownEdition (q .edition) ≡ false → length body ≤ limit → length literal ≤ limit
+    → (ask t q literal body field ≡ refuse Literal) × (askBuffer t q literal body field ≡ field)
 
 -- ---- What Audit refuses is no column's body: a column's is refused for ROOM alone, where the field is too short for its rows. So with room for any row count
 -- Audit accepts exactly the bodies of columns
@@ -131,18 +168,18 @@ AcceptedAreTheColumns =
 
 -- ---- 01, VERSION: "body not 1 or 2". Such a body yields no rows: Audit and Ask answer LIMIT or LITERAL where they come first, else VERSION; the buffer stays
 
-pub record RefusesVersion (t q : ℕ) (literal body field : List ℕ) : Type 0 where
+pub record RefusesVersion (t : ℕ) (q : Question) (literal body field : List ℕ) : Type 0 where
   pub audited : audit t body field ≡ check (leb (length body) limit) Limit (check (ltb t types) Literal (refuse Version))
   pub audited-buffer : auditBuffer t body field ≡ field
   pub answered : ask t q literal body field ≡ andThen (wellFormed t q literal body) (λ ls. refuse Version)
   pub answered-buffer : askBuffer t q literal body field ≡ field
 
 abbrev pub UnknownVersionIsRefused : Type 0
-UnknownVersionIsRefused = (t q v : ℕ) (s literal field : List ℕ) → (v ≡ 1 → ⊥) → (v ≡ 2 → ⊥) → RefusesVersion t q literal (v ∷ s) field
+UnknownVersionIsRefused = (t : ℕ) (q : Question) (v : ℕ) (s literal field : List ℕ) → (v ≡ 1 → ⊥) → (v ≡ 2 → ⊥) → RefusesVersion t q literal (v ∷ s) field
 
 abbrev pub UnknownVersionYieldsNothing : Type 0
 UnknownVersionYieldsNothing =
-    (t q v : ℕ) (s literal field : List ℕ) → (v ≡ 1 → ⊥) → (v ≡ 2 → ⊥)
+    (t : ℕ) (q : Question) (v : ℕ) (s literal field : List ℕ) → (v ≡ 1 → ⊥) → (v ≡ 2 → ⊥)
     → ((n : ℕ) → audit t (v ∷ s) field ≡ ok n → ⊥) × ((a : Answer) → ask t q literal (v ∷ s) field ≡ ok a → ⊥)
 
 -- ---- 02, Ticket 2: which entry is broken. Said of the dictionary that was read, over the layout of entries and bitmaps
@@ -247,7 +284,7 @@ AuditNamesTheFault =
 
 abbrev pub AskNamesTheFault : Type 0
 AskNamesTheFault =
-    (t q : ℕ) (literal body field : List ℕ) (ls : List (List ℕ)) (d : Dictionary) (r : Refusal) → Bytes body
+    (t : ℕ) (q : Question) (literal body field : List ℕ) (ls : List (List ℕ)) (d : Dictionary) (r : Refusal) → Bytes body
     → wellFormed t q literal body ≡ ok ls → prepared t body field ≡ ok d → (ask t q literal body field ≡ refuse r) ↔ FaultIs d r
 
 -- "A fault in place .. or a length below −1 or past the body, names container 0": the place is at or behind the region's end; the length is below -1, as 32 bits
@@ -264,4 +301,4 @@ OutsideIsContainer0 =
 
 -- what comes before a bitmap is looked at carries nothing: so a refusal that carries something is one of those above
 abbrev pub NothingBeforeBitmaps : Type 0
-NothingBeforeBitmaps = (t q : ℕ) (literal body field : List ℕ) → CarriesNothing (wellFormed t q literal body) × CarriesNothing (prepared t body field)
+NothingBeforeBitmaps = (t : ℕ) (q : Question) (literal body field : List ℕ) → CarriesNothing (wellFormed t q literal body) × CarriesNothing (prepared t body field)

@@ -18,12 +18,14 @@ use Rattle.dictionary.specs.declared.Summary.{Summary}
 use Rattle.dictionary.specs.Promises.{nullsOf, dictionaryOf, Summarizes, IsRead, entryAt}
 use Rattle.dictionary.specs.Layout.{Entry}
 use Rattle.dictionary.specs.Reading.{Dictionary}
+use Rattle.bitmap_index.specs.declared.Question.{Question}
 use Rattle.bitmap_index.specs.declared.Audited.{Audited}
 use Rattle.bitmap_index.specs.declared.Answered.{Answered}
 use Rattle.bitmap_index.specs.declared.Outcome.{Outcome}
 use Rattle.bitmap_index.specs.declared.Outcome.the-variants.{Done}
 use Rattle.bitmap_index.specs.declared.Placing.{Placing}
 use Rattle.bitmap_index.specs.declared.Placing.the-variants.{Placed}
+use Rattle.bitmap_index.specs.Meaning.{isIn, isNull}
 use Rattle.bitmap_index.specs.Reading.{firstNumber, placeEntries, prepared, audited, audit, auditBuffer, chosenOf, markEntries, Answer, answered, auditedAnswer, wellFormed, ask, answerBuffer, askBuffer, auditedBy, auditOut, auditNumbers, auditFault, answeredBy, askOut, askNumbers, askFault}
 
 -- ---- Audit and Ask (01), for any bytes: the answer, what the lent buffer then holds, the answer's number and count, and where its fault is
@@ -34,7 +36,7 @@ pub record AuditPromise (t : ℕ) (body before after : List ℕ) (r : Audited) :
   pub numbers : auditOut r ≡ numbersOf 0 auditNumbers (audit t body before)
   pub fault : auditFault r ≡ faultIn (audit t body before)
 
-pub record AskPromise (t q : ℕ) (literal body before after : List ℕ) (r : Answered) : Type 0 where
+pub record AskPromise (t : ℕ) (q : Question) (literal body before after : List ℕ) (r : Answered) : Type 0 where
   pub answer : r ≡ answeredBy (ask t q literal body before)
   pub buffer : after ≡ askBuffer t q literal body before
   pub numbers : askOut r ≡ numbersOf 0 askNumbers (ask t q literal body before)
@@ -61,15 +63,15 @@ pub record Ready (t : ℕ) (body : List ℕ) (h : Summary) (field : List ℕ) : 
   pub room : size (h .rows) ≤ length field
 
 -- the question is well formed, with some literals
-abbrev pub Asked : ℕ → ℕ → List ℕ → List ℕ → Type 0
+abbrev pub Asked : ℕ → Question → List ℕ → List ℕ → Type 0
 Asked t q literal body = (ls : List (List ℕ)) × (wellFormed t q literal body ≡ ok ls)
 
 -- what holds of its literals
-abbrev pub ForQuestion : ℕ → ℕ → List ℕ → List ℕ → (List (List ℕ) → Type 0) → Type 0
+abbrev pub ForQuestion : ℕ → Question → List ℕ → List ℕ → (List (List ℕ) → Type 0) → Type 0
 ForQuestion t q literal body P = (ls : List (List ℕ)) → wellFormed t q literal body ≡ ok ls → P ls
 
 -- `test_question`: the refusal, or that the question is well formed
-abbrev pub TestsQuestion : ℕ → ℕ → List ℕ → List ℕ → Outcome → Type 0
+abbrev pub TestsQuestion : ℕ → Question → List ℕ → List ℕ → Outcome → Type 0
 TestsQuestion t q literal body (Outcome.Refused r) = wellFormed t q literal body ≡ refuse r
 TestsQuestion t q literal body Done = Asked t q literal body
 
@@ -122,22 +124,22 @@ pub record AllSound (t : ℕ) (body : List ℕ) (h : Summary) : Type 0 where
   pub sound : ForEntries t body h (λ es. All (SoundEntry body h) (nullsOf h ++ es))
 
 -- how the code looks literals up: the one of EQUAL and NOT EQUAL is the whole buffer, and those of IN and NOT IN are held by a table
-pub record Lookup (q : ℕ) (literal table : List ℕ) (ls : List (List ℕ)) : Type 0 where
-  pub one : q < 2 → (v : List ℕ) → listed v ls ≡ same v literal
-  pub many : 2 ≤ q → q < 4 → Entered literal table ls
+pub record Lookup (q : Question) (literal table : List ℕ) (ls : List (List ℕ)) : Type 0 where
+  pub one : q .name < isIn → (v : List ℕ) → listed v ls ≡ same v literal
+  pub many : isIn ≤ q .name → q .name < isNull → Entered literal table ls
 
-abbrev pub SomeLookup : ℕ → List ℕ → List ℕ → Type 0
+abbrev pub SomeLookup : Question → List ℕ → List ℕ → Type 0
 SomeLookup q literal table = (ls : List (List ℕ)) × Lookup q literal table ls
 
-abbrev pub ForLookup : ℕ → List ℕ → List ℕ → (List (List ℕ) → Type 0) → Type 0
+abbrev pub ForLookup : Question → List ℕ → List ℕ → (List (List ℕ) → Type 0) → Type 0
 ForLookup q literal table P = (ls : List (List ℕ)) → Lookup q literal table ls → P ls
 
 -- the rows of those of the entries es that are chosen are marked
-abbrev pub MarksChosen : List ℕ → Summary → ℕ → List (List ℕ) → List Entry → List ℕ → List ℕ → Type 0
+abbrev pub MarksChosen : List ℕ → Summary → Question → List (List ℕ) → List Entry → List ℕ → List ℕ → Type 0
 MarksChosen body h q ls es before after = after ≡ markEntries (drop (h .region .0) body) (chosenOf q ls es) before
 
 -- those of all entries, to a question that is well formed
-abbrev pub MarksAsked : ℕ → List ℕ → Summary → ℕ → List ℕ → List ℕ → List ℕ → Type 0
+abbrev pub MarksAsked : ℕ → List ℕ → Summary → Question → List ℕ → List ℕ → List ℕ → Type 0
 MarksAsked t body h q literal before after =
     ForEntries t body h (λ es. ForQuestion t q literal body (λ ls. MarksChosen body h q ls (nullsOf h ++ es) before after))
 
@@ -164,9 +166,9 @@ pub record AuditAccepts (t : ℕ) (body : List ℕ) (h : Summary) (zero : List �
   pub accepts : ForDictionary t body h (λ d. (n : ℕ) × (audited d zero ≡ ok n))
 
 -- an answer in a field that is zero, and one in any field, which is audited first: with a refusal the field is zero
-abbrev pub AnswersZero : ℕ → ℕ → List ℕ → List ℕ → Dictionary → List ℕ → List ℕ → Answered → Type 0
+abbrev pub AnswersZero : ℕ → Question → List ℕ → List ℕ → Dictionary → List ℕ → List ℕ → Answered → Type 0
 AnswersZero t q literal body d zero after r = ForQuestion t q literal body (λ ls. Answers (ok (answered q ls d zero)) (cleared (d .rows) zero) after r)
 
-abbrev pub AnswersField : ℕ → ℕ → List ℕ → List ℕ → Dictionary → List ℕ → List ℕ → Answered → Type 0
+abbrev pub AnswersField : ℕ → Question → List ℕ → List ℕ → Dictionary → List ℕ → List ℕ → Answered → Type 0
 AnswersField t q literal body d before after r =
     ForQuestion t q literal body (λ ls. Answers (auditedAnswer q ls d (cleared (d .rows) before)) (cleared (d .rows) before) after r)

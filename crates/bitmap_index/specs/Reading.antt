@@ -1,4 +1,5 @@
--- What Audit and Ask answer for any bytes (01, "Bitmap body" and "Questions"): their stages in 01's order, each begun only where the one before passed.
+-- What Audit and Ask answer for any bytes (01, "Bitmap body" and "Questions"; 02, Tickets 2 and 4): their stages in 01's order, each begun only where the one
+-- before passed.
 use Prim.Native.Nat.{ℕ, _+_}
 use mathlib.Core.Bool.{not, _&&_, cond}
 use mathlib.Core.List.{List, [], _∷_}
@@ -22,7 +23,8 @@ use Rattle.bitmap_index.specs.declared.Audited.{Audited}
 use Rattle.bitmap_index.specs.declared.Audited.the-variants.{Rows}
 use Rattle.bitmap_index.specs.declared.Answered.{Answered}
 use Rattle.bitmap_index.specs.declared.Answered.the-variants.{Skip, Keep}
-use Rattle.bitmap_index.specs.Meaning.{questions, chosen, takes, keeps}
+use Rattle.bitmap_index.specs.declared.Question.{Question}
+use Rattle.bitmap_index.specs.Meaning.{questions, knownEdition, chosen, takes, keeps}
 
 -- ---- the bitmaps
 
@@ -97,7 +99,7 @@ auditBuffer t body field = zeroedFrom (prepared t body field) field
 -- ---- Ask: the literals, the audit, then the rows of each chosen entry in a zero field, and how many they are
 
 -- the entries whose rows the question chooses
-unfoldable pub chosenOf : ℕ → List (List ℕ) → List Entry → List Entry
+unfoldable pub chosenOf : Question → List (List ℕ) → List Entry → List Entry
 chosenOf q ls [] = []
 chosenOf q ls (e ∷ es) = cond (chosen q ls (e .cell)) (e ∷ chosenOf q ls es) (chosenOf q ls es)
 
@@ -125,21 +127,22 @@ abbrev pub counted : ℕ → List ℕ → Answer
 counted n field = record { buffer = field; matched = count field n }
 
 -- in a field that is zero: the chosen entries' rows are marked. An audit comes before, so that BITMAP, RANGE and TWICE aren't tested again
-unfoldable pub answered : ℕ → List (List ℕ) → Dictionary → List ℕ → Answer
+unfoldable pub answered : Question → List (List ℕ) → Dictionary → List ℕ → Answer
 answered q ls d zero = counted (d .rows) (markEntries (d .region) (chosenOf q ls (d .entries)) zero)
 
 -- "audits the whole body, then answers"
-unfoldable pub auditedAnswer : ℕ → List (List ℕ) → Dictionary → List ℕ → Out Refusal Answer
+unfoldable pub auditedAnswer : Question → List (List ℕ) → Dictionary → List ℕ → Out Refusal Answer
 auditedAnswer q ls d zero = andThen (audited d zero) (λ rows. ok (answered q ls d zero))
 
--- "A well-formed question has a known type and name and literals that fit, in form and number": the limits on both buffers, the type and the question, then
--- the literals in turn, then their number
-unfoldable pub wellFormed : ℕ → ℕ → List ℕ → List ℕ → Out Refusal (List (List ℕ))
+-- "A well-formed question has a known type and name and literals that fit, in form and number": the limits on both buffers, then the type, the edition and the
+-- name, then the literals in turn, then their number. "A question with another edition number isn't well formed: LITERAL, before the literals are read"
+unfoldable pub wellFormed : ℕ → Question → List ℕ → List ℕ → Out Refusal (List (List ℕ))
 wellFormed t q literal body =
-    check (leb (length body) limit && leb (length literal) limit) Limit (check (ltb t types && ltb q questions) Literal
-    (andThen (literals t mostLiterals [] literal) (λ ls. check (takes q (length ls)) Literal (ok ls))))
+    check (leb (length body) limit && leb (length literal) limit) Limit
+    (check (ltb t types && (knownEdition (q .edition) && ltb (q .name) questions)) Literal
+    (andThen (literals t mostLiterals [] literal) (λ ls. check (takes (q .name) (length ls)) Literal (ok ls))))
 
-unfoldable pub ask : ℕ → ℕ → List ℕ → List ℕ → List ℕ → Out Refusal Answer
+unfoldable pub ask : ℕ → Question → List ℕ → List ℕ → List ℕ → Out Refusal Answer
 ask t q literal body field =
     andThen (wellFormed t q literal body) (λ ls. andThen (prepared t body field) (λ d. auditedAnswer q ls d (cleared (d .rows) field)))
 
@@ -148,7 +151,7 @@ unfoldable pub answerBuffer : Out Refusal Answer → List ℕ → List ℕ
 answerBuffer (refuse r) otherwise = otherwise
 answerBuffer (ok a) otherwise = a .buffer
 
-unfoldable pub askBuffer : ℕ → ℕ → List ℕ → List ℕ → List ℕ → List ℕ
+unfoldable pub askBuffer : ℕ → Question → List ℕ → List ℕ → List ℕ → List ℕ
 askBuffer t q literal body field =
     answerBuffer (ask t q literal body field) (zeroedFrom (andThen (wellFormed t q literal body) (λ ls. prepared t body field)) field)
 

@@ -1,4 +1,4 @@
-// The bitmap body of one column (document 01, "Bitmap body" and "Questions"): Audit and Ask.
+// The bitmap body of one column (document 01, "Bitmap body" and "Questions"; document 02, Tickets 2 and 4): Audit and Ask.
 ghost use mathlib.Core.Path.{_≡_};
 ghost use mathlib.Core.List.{List, [], _∷_, _++_};
 ghost use Prim.Native.Nat.{ℕ, _≤_};
@@ -23,8 +23,25 @@ use roaring::Extent;
 use roaring::Measured;
 use stored_value::Counted;
 
-// How many questions there are (document 01, "Questions").
+// The names of questions, by number, and how many there are (document 01, "Questions").
+pub const EQUAL: u32 = 0;
+
+pub const NOT_EQUAL: u32 = 1;
+
+pub const IN: u32 = 2;
+
+pub const NOT_IN: u32 = 3;
+
+pub const IS_NULL: u32 = 4;
+
+pub const IS_NOT_NULL: u32 = 5;
+
 const QUESTIONS: u32 = 6;
+
+// The editions of questions (document 02, Ticket 4): in the first NOT EQUAL and NOT IN choose null rows, in the second they don't.
+pub const FIRST_EDITION: u32 = 1;
+
+pub const SECOND_EDITION: u32 = 2;
 
 // The numbers of a hash table with room for as many literals as there may be.
 const TABLE: usize = hash_table::CHAINS
@@ -34,6 +51,12 @@ const TABLE: usize = hash_table::CHAINS
 const NULL_NUMBER: u64 = 0;
 
 const FIRST_NUMBER: u64 = 1;
+
+// What is asked, by the numbers of the edition and of the name. The literals are lent beside it.
+pub struct Question {
+    pub edition: u32,
+    pub name: u32,
+}
 
 // What Audit answers: a refusal, or the row count.
 pub enum Audited {
@@ -268,21 +291,31 @@ pub fn audit(body: &[u8], t: u32, field: &mut [u8]) -> Audited
     }
 }
 
-// Whether a question takes so many literals.
-fn takes(question: u32, count: u64) -> bool
-    ensures { λ r. ⌜ r ≡ meaning.takes question count ⌝ }
+// Whether there is an edition of this number.
+fn known_edition(edition: u32) -> bool
+    ensures { λ r. ⌜ r ≡ meaning.knownEdition edition ⌝ }
 {
-    if question < 2 {
+    if edition < FIRST_EDITION {
+        return false;
+    }
+    edition <= SECOND_EDITION
+}
+
+// Whether a question of this name takes so many literals.
+fn takes(name: u32, count: u64) -> bool
+    ensures { λ r. ⌜ r ≡ meaning.takes name count ⌝ }
+{
+    if name < IN {
         return count == 1;
     }
-    if question < 4 {
+    if name < IS_NULL {
         return true;
     }
     count == 0
 }
 
-// The limits, the type and the question, then the literals and their number.
-fn test_question(body: &[u8], t: u32, question: u32, literals: &[u8]) -> Outcome
+// The limits, the type, the edition and the name, then the literals and their number.
+fn test_question(body: &[u8], t: u32, question: Question, literals: &[u8]) -> Outcome
     ensures { λ r. ⌜ TestsQuestion t question (now (literals .entry)) (now (body .entry)) r ⌝ }
 {
     if refusal::LIMIT < body.len() as u64 {
@@ -294,14 +327,17 @@ fn test_question(body: &[u8], t: u32, question: u32, literals: &[u8]) -> Outcome
     if stored_value::TYPES <= t {
         return Outcome::Refused(Refusal::Literal);
     }
-    if QUESTIONS <= question {
+    if !known_edition(question.edition) {
+        return Outcome::Refused(Refusal::Literal);
+    }
+    if QUESTIONS <= question.name {
         return Outcome::Refused(Refusal::Literal);
     }
     let counted = stored_value::literals(literals, t);
     match counted {
         Counted::Refused(r) => Outcome::Refused(r),
         Counted::Count(n) => {
-            if !takes(question, n) {
+            if !takes(question.name, n) {
                 return Outcome::Refused(Refusal::Literal);
             }
             Outcome::Done
@@ -309,28 +345,31 @@ fn test_question(body: &[u8], t: u32, question: u32, literals: &[u8]) -> Outcome
     }
 }
 
-// Whether the question chooses the value v: EQUAL 0, NOT EQUAL 1, IN 2, NOT IN 3, IS NULL 4, IS NOT NULL 5. The one literal of EQUAL and NOT EQUAL is
-// all of `literals`; those of IN and NOT IN are held by the table.
-fn chosen(question: u32, v: &[u8], literals: &[u8], table: &[u32]) -> bool
+// Whether the question chooses the value v, which is the same in both editions. The one literal of EQUAL and NOT EQUAL is all of `literals`; those of IN
+// and NOT IN are held by the table.
+fn chosen(question: Question, v: &[u8], literals: &[u8], table: &[u32]) -> bool
     requires { ⌜ SomeLookup question (now literals) (now table) ⌝ }
     ensures { λ r. ⌜ ForLookup question (now (literals .entry)) (now (table .entry)) (λ ls. r ≡ meaning.chosen question ls (value (now (v .entry)))) ⌝ }
 {
-    match question {
-        0 => numbers::same(v, literals),
-        1 => !numbers::same(v, literals),
-        2 => hash_table::find(literals, table, v),
-        3 => !hash_table::find(literals, table, v),
-        _ => question == 5,
+    let name = question.name;
+    match name {
+        EQUAL => numbers::same(v, literals),
+        NOT_EQUAL => !numbers::same(v, literals),
+        IN => hash_table::find(literals, table, v),
+        NOT_IN => !hash_table::find(literals, table, v),
+        _ => name == IS_NOT_NULL,
     }
 }
 
-// Whether the question chooses null: NOT EQUAL and NOT IN do, as does IS NULL.
-fn chosen_null(question: u32) -> bool
+// Whether the question chooses null: IS NULL does, NOT EQUAL and NOT IN do in the first edition alone.
+fn chosen_null(question: Question) -> bool
     ensures { λ r. ⌜ ((ls : List (List ℕ)) → r ≡ meaning.chosen question ls null) ⌝ }
 {
-    match question {
-        1 | 3 => true,
-        4 => true,
+    let name = question.name;
+    let first = question.edition == FIRST_EDITION;
+    match name {
+        NOT_EQUAL | NOT_IN => first,
+        IS_NULL => true,
         _ => false,
     }
 }
@@ -354,7 +393,7 @@ fn mark_entry(
     body: &[u8],
     summary: Summary,
     entry: EntryAt,
-    question: u32,
+    question: Question,
     literals: &[u8],
     table: &[u32],
 )
@@ -372,7 +411,7 @@ fn mark_entry(
 }
 
 // Marks null's rows, if it has an entry and the question chooses it.
-fn mark_null(field: &mut [u8], body: &[u8], summary: Summary, question: u32)
+fn mark_null(field: &mut [u8], body: &[u8], summary: Summary, question: Question)
     requires { ⌜ SoundNull (now body) summary ⌝ }
     ensures { λ _. ⌜ ((ls : List (List ℕ))
         → MarksChosen (now (body .entry)) summary question ls (nullsOf summary) (now (field .entry)) (now (field .exit))) ⌝ }
@@ -393,7 +432,7 @@ fn mark_values(
     body: &[u8],
     summary: Summary,
     t: u32,
-    question: u32,
+    question: Question,
     literals: &[u8],
     table: &[u32],
 )
@@ -417,7 +456,7 @@ fn mark_chosen(
     body: &[u8],
     summary: Summary,
     t: u32,
-    question: u32,
+    question: Question,
     literals: &[u8],
     table: &[u32],
 )
@@ -435,10 +474,10 @@ fn mark_listed(
     body: &[u8],
     summary: Summary,
     t: u32,
-    question: u32,
+    question: Question,
     literals: &[u8],
 )
-    requires { ⌜ AllSound t (now body) summary × Asked t question (now literals) (now body) × (2 ≤ question) ⌝ }
+    requires { ⌜ AllSound t (now body) summary × Asked t question (now literals) (now body) × (meaning.isIn ≤ question .name) ⌝ }
     ensures { λ _. ⌜ MarksAsked t (now (body .entry)) summary question (now (literals .entry)) (now (field .entry)) (now (field .exit)) ⌝ }
 {
     let mut table = [0u32; TABLE];
@@ -452,14 +491,15 @@ fn mark_asked(
     body: &[u8],
     summary: Summary,
     t: u32,
-    question: u32,
+    question: Question,
     literals: &[u8],
 )
     requires { ⌜ AllSound t (now body) summary × Asked t question (now literals) (now body) ⌝ }
     ensures { λ _. ⌜ MarksAsked t (now (body .entry)) summary question (now (literals .entry)) (now (field .entry)) (now (field .exit)) ⌝ }
 {
-    match question {
-        2 | 3 => mark_listed(field, body, summary, t, question, literals),
+    let name = question.name;
+    match name {
+        IN | NOT_IN => mark_listed(field, body, summary, t, question, literals),
         _ => {
             let none = [0u32; 1];
             mark_chosen(field, body, summary, t, question, literals, &none);
@@ -473,7 +513,7 @@ fn answer_zero(
     body: &[u8],
     summary: Summary,
     t: u32,
-    question: u32,
+    question: Question,
     literals: &[u8],
 ) -> Answered
     requires { ⌜ AuditAccepts t (now body) summary (now field) × Asked t question (now literals) (now body) ⌝ }
@@ -494,7 +534,7 @@ fn ask_field(
     body: &[u8],
     summary: Summary,
     t: u32,
-    question: u32,
+    question: Question,
     literals: &[u8],
 ) -> Answered
     requires { ⌜ Ready t (now body) summary (now field) × Asked t question (now literals) (now body) ⌝ }
@@ -508,9 +548,9 @@ fn ask_field(
     }
 }
 
-// Ask (document 01): tests the literals, audits the whole body, then says skip where no row is chosen, and else keep and how many are. The rows are then
-// set in the field, and no others; a refusal leaves the buffer as Audit's does.
-pub fn ask(body: &[u8], t: u32, question: u32, literals: &[u8], field: &mut [u8]) -> Answered
+// Ask (document 01): tests the question and its literals, audits the whole body, then says skip where no row is chosen, and else keep and how many are. The
+// rows are then set in the field, and no others; a refusal leaves the buffer as Audit's does.
+pub fn ask(body: &[u8], t: u32, question: Question, literals: &[u8], field: &mut [u8]) -> Answered
     ensures { λ r. ⌜ AskPromise t question (now (literals .entry)) (now (body .entry)) (now (field .entry)) (now (field .exit)) r ⌝ }
 {
     let tested = test_question(body, t, question, literals);

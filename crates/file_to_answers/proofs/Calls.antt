@@ -12,6 +12,7 @@ use Rattle.refusal.specs.Reading.{Out, refuse, ok, andThen, numbersOf, faultIn}
 use Rattle.index_file.specs.declared.Located.{Located}
 use Rattle.index_file.specs.Reading.{Part, Sought, found, absent, find, locatedBy, soughtNumbers}
 use Rattle.index_file.proofs.Theorems.{found-within}
+use Rattle.bitmap_index.specs.declared.Question.{Question}
 use Rattle.bitmap_index.specs.declared.Answered.{Answered}
 use Rattle.bitmap_index.specs.Reading.{Answer, ask, answeredBy, askOut, askNumbers, askFault}
 use Rattle.bitmap_index.specs.Promises.{AskPromise}
@@ -95,12 +96,12 @@ at-fault (refuse r) = refl
 at-fault (ok a) = refl
 
 -- for any bytes, and so for a column's file
-abbrev pub Promise : (bytes column kind : List ℕ) (t q : ℕ) (literals before after : List ℕ) → FileAnswer → Type 0
+abbrev pub Promise : (bytes column kind : List ℕ) (t : ℕ) (q : Question) (literals before after : List ℕ) → FileAnswer → Type 0
 Promise bytes column kind t q literals before after r =
     AskFilePromise bytes column kind t q literals before after r
     × FileAsScan bytes column kind t q literals before (λ a. (r ≡ fileAnswerBy (ok (found a))) × (after ≡ a .buffer))
 
-module _ (bytes column kind : List ℕ) (t q : ℕ) (literals before : List ℕ) (b : Bytes before) where
+module _ (bytes column kind : List ℕ) (t : ℕ) (q : Question) (literals before : List ℕ) (b : Bytes before) where
   both : {after : List ℕ} {r : FileAnswer} → AskFilePromise bytes column kind t q literals before after r → Promise bytes column kind t q literals before after r
   both p = (
     p,

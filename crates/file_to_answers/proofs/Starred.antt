@@ -20,7 +20,7 @@ use Rattle.dictionary.specs.Reading.{countAtMost, entriesOne, listings, past, i
 use Rattle.index_file.specs.Layout.{ListedIndex, ListedColumn}
 use Rattle.index_file.specs.Reading.{soughtNumbers}
 use Rattle.index_file.specs.Reading as head
-use Rattle.bitmap_index.specs.Meaning.{Column, chosen, takes, scanFrom, scan, keeps}
+use Rattle.bitmap_index.specs.Meaning.{Column, knownEdition, chosen, takes, scanFrom, scan, keeps}
 use Rattle.bitmap_index.specs.Layout.{ColumnEntries, single, ColumnBody, version1, version2}
 use Rattle.bitmap_index.specs.Reading.{entryNumber, nextNumber, placeAt, placeEntry, placeEntries, roomFor, prepared, audited, audit, chosenOf, rowsFor, rowsAt, markEntries, answered, auditedAnswer, wellFormed, ask, answeredBy}
 use Rattle.file_to_answers.specs.Layout.{ColumnFile}
@@ -115,7 +115,7 @@ unfolding placeAt
 named-last = (refl, λ entry extent n region field. refl, λ c extent region h. single 2147483647 refl (omega arith) refl h)
 
 pub starred : StarredHolds
-unfolding number head.find head.file head.count head.name head.entries head.afterEntry head.columns head.afterColumn head.placed head.head soughtNumbers numbersOf used askFile askPart read readPlain readFlagged contents containers offsetIs body bodySize bodyValues sound valuesOf runsOf valuesRise runsRise bit mark markAll anySet zeroed upTo rowsFrom entryNumber nextNumber placeAt placeEntry placeEntries rowsFor rowsAt markEntries check andThen valueSize valueOf literals width isString booleanOk same sameCell signedNumber less listed countAtMost entriesOne listings past isDue entriesTwo behind blocksOf blocked nullOf dictionary chosen takes scanFrom scan roomFor prepared audited audit chosenOf answered auditedAnswer wellFormed ask answeredBy keeps
+unfolding number head.find head.file head.count head.name head.entries head.afterEntry head.columns head.afterColumn head.placed head.head soughtNumbers numbersOf used askFile askPart read readPlain readFlagged contents containers offsetIs body bodySize bodyValues sound valuesOf runsOf valuesRise runsRise bit mark markAll anySet zeroed upTo rowsFrom entryNumber nextNumber placeAt placeEntry placeEntries rowsFor rowsAt markEntries check andThen valueSize valueOf literals width isString booleanOk same sameCell signedNumber less listed countAtMost entriesOne listings past isDue entriesTwo behind blocksOf blocked nullOf dictionary knownEdition chosen takes scanFrom scan roomFor prepared audited audit chosenOf answered auditedAnswer wellFormed ask answeredBy keeps
 starred = (
   (refl, refl, its-file, refl),
   (
@@ -128,7 +128,16 @@ starred = (
           (refl, refl, refl, refl, refl),
           (
             (refl, refl, refl, refl, refl),
-            ((refl, array-bitmap), ((refl, run-bitmap), (named-0, (named-last, (always, tt))))),
+            (
+              (refl, refl, refl, refl, refl),
+              (
+                (refl, refl, refl, refl, refl),
+                (
+                  (refl, refl, refl, refl, refl),
+                  ((refl, array-bitmap), ((refl, run-bitmap), (named-0, (named-last, (always, tt))))),
+                ),
+              ),
+            ),
           ),
         ),
       ),

@@ -13,6 +13,7 @@ use Rattle.stored_value.specs.Meaning.{Cell}
 use Rattle.index_file.specs.Layout.{fileVersion}
 use Rattle.index_file.specs.Reading.{Part, Sought, found, absent, bytesOf, find}
 use Rattle.index_file.proofs.Theorems.{laid-out-is-found, other-version-is-not-found}
+use Rattle.bitmap_index.specs.declared.Question.{Question}
 use Rattle.bitmap_index.specs.Reading.{Answer, ask}
 use Rattle.bitmap_index.proofs.Theorems.{column-is-answered, unknown-version-yields-nothing}
 use Rattle.file_to_answers.specs.Layout.{ColumnFile}
@@ -39,24 +40,24 @@ other-version-has-no-part bytes column kind other =
     let part : Out Refusal (Sought Part) → List ℕ = λ o. partOf o bytes in
     ⊎-elim (λ e. ap part e) (⊎-elim (λ e. ap part e) (⊎-elim (λ e. ap part e) (λ e. ap part e))) (other-version-is-not-found bytes column kind other)
 
-refused-is-no-answer : (bytes column kind : List ℕ) (t q : ℕ) (literals field : List ℕ) (a : Answer) (r : Refusal) → find bytes column kind ≡ refuse r
+refused-is-no-answer : (bytes column kind : List ℕ) (t : ℕ) (q : Question) (literals field : List ℕ) (a : Answer) (r : Refusal) → find bytes column kind ≡ refuse r
     → askFile bytes column kind t q literals field ≡ ok (found a) → ⊥
 unfolding askFile andThen
 refused-is-no-answer bytes column kind t q literals field a r e h = not-ok (rw e at h)
 
-known-version : (bytes column kind : List ℕ) (t q : ℕ) (literals field : List ℕ) (a : Answer) → askFile bytes column kind t q literals field ≡ ok (found a)
+known-version : (bytes column kind : List ℕ) (t : ℕ) (q : Question) (literals field : List ℕ) (a : Answer) → askFile bytes column kind t q literals field ≡ ok (found a)
     → Dec (beAt 4 bytes 8 ≡ fileVersion) → beAt 4 bytes 8 ≡ fileVersion
 known-version bytes column kind t q literals field a h (yes e) = e
 known-version bytes column kind t q literals field a h (no n) =
     let no-answer : (r : Refusal) → find bytes column kind ≡ refuse r → ⊥ = λ r e. refused-is-no-answer bytes column kind t q literals field a r e h in
     absurd (⊎-elim (no-answer _) (⊎-elim (no-answer _) (⊎-elim (no-answer _) (no-answer _))) (other-version-is-not-found bytes column kind n))
 
-known-body : (t q : ℕ) (literals field : List ℕ) (a : Answer) (v : ℕ) (s : List ℕ) → ask t q literals (v ∷ s) field ≡ ok a → Dec (v ≡ 1) → Dec (v ≡ 2) → (v ≡ 1) ⊎ (v ≡ 2)
+known-body : (t : ℕ) (q : Question) (literals field : List ℕ) (a : Answer) (v : ℕ) (s : List ℕ) → ask t q literals (v ∷ s) field ≡ ok a → Dec (v ≡ 1) → Dec (v ≡ 2) → (v ≡ 1) ⊎ (v ≡ 2)
 known-body t q literals field a v s h (yes e) d = inl e
 known-body t q literals field a v s h (no n) (yes e) = inr e
 known-body t q literals field a v s h (no n) (no n′) = absurd (unknown-version-yields-nothing t q v s literals field n n′ .1 a h)
 
-known-part : (bytes : List ℕ) (t q : ℕ) (literals field : List ℕ) (a : Answer) (o : Out Refusal (Sought Part)) → andThen o (askPart bytes t q literals field) ≡ ok (found a)
+known-part : (bytes : List ℕ) (t : ℕ) (q : Question) (literals field : List ℕ) (a : Answer) (o : Out Refusal (Sought Part)) → andThen o (askPart bytes t q literals field) ≡ ok (found a)
     → (v : ℕ) (s : List ℕ) → partOf o bytes ≡ v ∷ s → (v ≡ 1) ⊎ (v ≡ 2)
 unfolding andThen askPart
 known-part bytes t q literals field a (refuse r) h v s e = absurd (not-ok h)

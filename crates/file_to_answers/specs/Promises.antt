@@ -8,7 +8,8 @@ use Rattle.refusal.specs.Reading.{numbersOf, faultIn}
 use Rattle.row_field.specs.Meaning.{size}
 use Rattle.stored_value.specs.Meaning.{Cell}
 use Rattle.index_file.specs.Reading.{find, locateNumbers}
-use Rattle.bitmap_index.specs.Meaning.{Question}
+use Rattle.bitmap_index.specs.declared.Question.{Question}
+use Rattle.bitmap_index.specs.Meaning.{WellFormed}
 use Rattle.bitmap_index.specs.Reading.{Answer}
 use Rattle.bitmap_index.specs.Claims.{scanAnswer}
 use Rattle.file_to_answers.specs.declared.FileAnswer.{FileAnswer}
@@ -22,7 +23,7 @@ pub record LocatePromise (bytes column kind : List ℕ) (buffer : ℕ × ℕ) (a
   pub handed-back : HandedBack (find bytes column kind) buffer place
 
 -- `ask_file` with a field before and after the call
-pub record AskFilePromise (bytes column kind : List ℕ) (t q : ℕ) (literals before after : List ℕ) (r : FileAnswer) : Type 0 where
+pub record AskFilePromise (bytes column kind : List ℕ) (t : ℕ) (q : Question) (literals before after : List ℕ) (r : FileAnswer) : Type 0 where
   pub answer : r ≡ fileAnswerBy (askFile bytes column kind t q literals before)
   pub numbers : askFileOut r ≡ numbersOf 0 askFileNumbers (askFile bytes column kind t q literals before)
   pub fault : askFileFault r ≡ faultIn (askFile bytes column kind t q literals before)
@@ -30,7 +31,7 @@ pub record AskFilePromise (bytes column kind : List ℕ) (t q : ℕ) (literals b
 
 -- demand 3 of one call: for each column whose file it is and each well-formed question whose literals these are, if the field has room, what is said here of
 -- an answer is true of the scan's
-abbrev pub FileAsScan : List ℕ → List ℕ → List ℕ → ℕ → ℕ → List ℕ → List ℕ → (Answer → Type 0) → Type 0
+abbrev pub FileAsScan : List ℕ → List ℕ → List ℕ → ℕ → Question → List ℕ → List ℕ → (Answer → Type 0) → Type 0
 FileAsScan bytes column kind t q literals before Answers =
-    (cells : List Cell) (ls : List (List ℕ)) → ColumnFile t cells column kind bytes → Question t q ls → literals ≡ joined ls
+    (cells : List Cell) (ls : List (List ℕ)) → ColumnFile t cells column kind bytes → WellFormed t q ls → literals ≡ joined ls
     → size (length cells) ≤ length before → Answers (scanAnswer q ls cells before)

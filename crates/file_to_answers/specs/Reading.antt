@@ -6,6 +6,7 @@ use Rattle.refusal.specs.declared.Refusal.{Refusal}
 use Rattle.refusal.specs.Meaning.{noFault}
 use Rattle.refusal.specs.Reading.{Out, refuse, ok, andThen}
 use Rattle.index_file.specs.Reading.{Part, Sought, found, absent, bytesOf, find, foundNumber, absentNumber}
+use Rattle.bitmap_index.specs.declared.Question.{Question}
 use Rattle.bitmap_index.specs.declared.Answered.{Answered}
 use Rattle.bitmap_index.specs.Reading.{Answer, ask, askBuffer, answeredBy, askOut, askFault}
 use Rattle.file_to_answers.specs.declared.FileAnswer.{FileAnswer}
@@ -37,20 +38,20 @@ HandedBack (ok (found p)) buffer place = place ≡ (buffer .0, p .start .0 + buf
 
 -- ---- Locate, then Ask on the part that it finds
 
-unfoldable pub askPart : List ℕ → ℕ → ℕ → List ℕ → List ℕ → Sought Part → Out Refusal (Sought Answer)
+unfoldable pub askPart : List ℕ → ℕ → Question → List ℕ → List ℕ → Sought Part → Out Refusal (Sought Answer)
 askPart bytes t q literals field absent = ok absent
 askPart bytes t q literals field (found p) = andThen (ask t q literals (bytesOf p bytes) field) (λ a. ok (found a))
 
-unfoldable pub askFile : List ℕ → List ℕ → List ℕ → ℕ → ℕ → List ℕ → List ℕ → Out Refusal (Sought Answer)
+unfoldable pub askFile : List ℕ → List ℕ → List ℕ → ℕ → Question → List ℕ → List ℕ → Out Refusal (Sought Answer)
 askFile bytes column kind t q literals field = andThen (find bytes column kind) (askPart bytes t q literals field)
 
 -- the buffer then: with ABSENT and with a refusal of Locate as it was
-unfoldable pub askPartBuffer : List ℕ → ℕ → ℕ → List ℕ → List ℕ → Out Refusal (Sought Part) → List ℕ
+unfoldable pub askPartBuffer : List ℕ → ℕ → Question → List ℕ → List ℕ → Out Refusal (Sought Part) → List ℕ
 askPartBuffer bytes t q literals field (refuse r) = field
 askPartBuffer bytes t q literals field (ok absent) = field
 askPartBuffer bytes t q literals field (ok (found p)) = askBuffer t q literals (bytesOf p bytes) field
 
-unfoldable pub askFileBuffer : List ℕ → List ℕ → List ℕ → ℕ → ℕ → List ℕ → List ℕ → List ℕ
+unfoldable pub askFileBuffer : List ℕ → List ℕ → List ℕ → ℕ → Question → List ℕ → List ℕ → List ℕ
 askFileBuffer bytes column kind t q literals field = askPartBuffer bytes t q literals field (find bytes column kind)
 
 -- the call's answer

@@ -1,4 +1,5 @@
--- 01, "Files written out": the cases marked * stand together in one table, with one statement, `StarredHolds`.
+-- 01, "Files written out": the cases marked * stand together in one table, with one statement, `StarredHolds`. The questions are asked in both editions (02,
+-- Ticket 4: "01's NOT EQUAL 7 gives 06 in edition 1, 02 in edition 2").
 use Prim.Native.Nat.{ℕ, _≤_, _<_}
 use mathlib.Core.Path.{_≡_}
 use mathlib.Core.Bool.{not}
@@ -17,7 +18,8 @@ use Rattle.stored_value.specs.Meaning.{Cell, null, value}
 use Rattle.index_file.specs.Reading.{found, find, locateNumbers}
 use Rattle.bitmap_index.specs.declared.Answered.{Answered}
 use Rattle.bitmap_index.specs.declared.Answered.the-variants.{Skip, Keep}
-use Rattle.bitmap_index.specs.Meaning.{scan}
+use Rattle.bitmap_index.specs.Meaning.{equal, notEqual, firstEdition, secondEdition, question, scan}
+use Rattle.bitmap_index.specs.declared.Question.{Question}
 use Rattle.bitmap_index.specs.Layout.{EntryRows, ColumnBody}
 use Rattle.bitmap_index.specs.Reading.{placeAt, audit, ask, answeredBy}
 use Rattle.file_to_answers.specs.Layout.{ColumnFile}
@@ -52,8 +54,8 @@ pub data Case : Type 0 where
   locates : List ℕ → Case
   -- the body is the column's, and Audit of it gives three rows
   audits : List ℕ → Case
-  -- the question, by its number, with this TINYINT literal, of either body, of the file and of the scan: the field's byte, the count, and what Ask answers
-  answers : ℕ → ℕ → ℕ → ℕ → Answered → Case
+  -- the question with this TINYINT literal, of either body, of the file and of the scan: the field's byte, the count, and what Ask answers
+  answers : Question → ℕ → ℕ → ℕ → Answered → Case
   -- the bytes are a bitmap of these rows, and are read so
   reads : List ℕ → List ℕ → Case
   -- the offset, as 32 bits, names this row: it is placed as this row alone, and so it is laid out, whatever the length beside it
@@ -86,9 +88,12 @@ table =
     locates one
     ∷ audits one
     ∷ audits two
-    ∷ answers 0 7 0x01 1 (Keep 1)
-    ∷ answers 1 7 0x06 2 (Keep 2)
-    ∷ answers 0 8 0x00 0 Skip
+    ∷ answers (question firstEdition equal) 7 0x01 1 (Keep 1)
+    ∷ answers (question secondEdition equal) 7 0x01 1 (Keep 1)
+    ∷ answers (question firstEdition notEqual) 7 0x06 2 (Keep 2)
+    ∷ answers (question secondEdition notEqual) 7 0x02 1 (Keep 1)
+    ∷ answers (question firstEdition equal) 8 0x00 0 Skip
+    ∷ answers (question secondEdition equal) 8 0x00 0 Skip
     ∷ reads
     (0x3A ∷ 0x30 ∷ 0 ∷ 0 ∷ 1 ∷ 0 ∷ 0 ∷ 0 ∷ 0 ∷ 0 ∷ 2 ∷ 0 ∷ 0x10 ∷ 0 ∷ 0 ∷ 0 ∷ 0 ∷ 0 ∷ 2 ∷ 0 ∷ 5 ∷ 0 ∷ [])
     (0 ∷ 2 ∷ 5 ∷ [])

@@ -8,6 +8,7 @@ ghost use Rattle.index_file.specs.Promises.{FindPromise};
 ghost use Rattle.file_to_answers.specs.Reading.{used, lookedAt, fileAnswerBy};
 ghost use Rattle.file_to_answers.specs.Promises.{LocatePromise, AskFilePromise, FileAsScan};
 use bitmap_index::Answered;
+use bitmap_index::Question;
 use index_file::Located;
 use numbers::Position;
 
@@ -83,7 +84,7 @@ pub fn ask_file<'a>(
     column: &[u8],
     kind: &[u8],
     t: u32,
-    question: u32,
+    question: Question,
     literals: &[u8],
     field: &mut [u8],
 ) -> FileAnswer

@@ -2,9 +2,10 @@
 //   find   COLUMN KIND: prints what `find` says, the number that Locate answers, and the part that it hands back
 //   cuts   COLUMN KIND: the same of each proper prefix of the file
 //   each   COLUMN KIND AT COUNT: the same of the file with each number below COUNT as its byte AT
-//   ask    COLUMN KIND TYPE QUESTION LITERALS: asks the file in a buffer of two bytes A5, and prints the answer and the buffer
+//   ask    COLUMN KIND TYPE EDITION NAME LITERALS: asks the file in a buffer of two bytes A5, and prints the answer and the buffer
 // A name is a word: `find  k` asks for the empty column, `find s` for the empty kind.
 use bitmap_index::Answered;
+use bitmap_index::Question;
 use file_to_answers::FileAnswer;
 use index_file::Located;
 use numbers::Position;
@@ -65,10 +66,13 @@ fn say_answer(answer: FileAnswer) {
 
 fn ask<'a>(embedded: &'a [u8], file: &'a [u8], column: &[u8], kind: &[u8], line: &[u8]) {
     let mut bytes = [0u8; 64];
-    let n = case_lines::push_bytes(&mut bytes, 0, case_lines::from_word(line, 5));
+    let n = case_lines::push_bytes(&mut bytes, 0, case_lines::from_word(line, 6));
     let literals = case_lines::first(&bytes, n);
     let t = case_lines::number32(line, 3);
-    let question = case_lines::number32(line, 4);
+    let question = Question {
+        edition: case_lines::number32(line, 4),
+        name: case_lines::number32(line, 5),
+    };
     let mut field = [0xA5u8; 2];
     say_answer(file_to_answers::ask_file(
         embedded,

@@ -4,6 +4,7 @@ use mathlib.Core.Path.{_≡_, sym, ap, _∙_}
 use mathlib.Core.List.{List}
 use Rattle.numbers.specs.Meaning.{Bytes}
 use Rattle.refusal.specs.Reading.{numbersOf, faultIn}
+use Rattle.bitmap_index.specs.declared.Question.{Question}
 use Rattle.bitmap_index.specs.Meaning.{scan}
 use Rattle.file_to_answers.specs.Reading.{askFile, askFileBuffer, askFileNumbers}
 use Rattle.file_to_answers.specs.Promises.{FileAsScan}
@@ -15,7 +16,7 @@ pub in-case : {A N : Type 0} (out : A → N) {answer case : A} {stands n : N} �
 in-case out e g h = h ∙ sym (ap out g) ∙ e
 
 -- Ask of a file: what holds of any bytes says of a column's file what the scan says
-pub ask-file : (bytes column kind : List ℕ) (t q : ℕ) (literals before : List ℕ) → Bytes before → {after fault : List ℕ} {number matched : ℕ}
+pub ask-file : (bytes column kind : List ℕ) (t : ℕ) (q : Question) (literals before : List ℕ) → Bytes before → {after fault : List ℕ} {number matched : ℕ}
     → (number, matched) ≡ numbersOf 0 askFileNumbers (askFile bytes column kind t q literals before)
     → fault ≡ faultIn (askFile bytes column kind t q literals before) → after ≡ askFileBuffer bytes column kind t q literals before
     → AskFile bytes column kind t q literals before after number matched fault

@@ -7,6 +7,7 @@ use Rattle.refusal.specs.Reading.{numbersOf, faultIn}
 use Rattle.subtract.specs.Reading.{subtraction, subtractBuffer, subtractNumbers}
 use Rattle.deletion_file.specs.Reading.{deletions, deletionsBuffer, deletionsNumbers}
 use Rattle.index_file.specs.Reading.{find, locateNumbers}
+use Rattle.bitmap_index.specs.declared.Question.{Question}
 use Rattle.bitmap_index.specs.Reading.{audit, auditBuffer, auditNumbers, ask, askBuffer, askNumbers}
 use Rattle.file_to_answers.specs.Reading.{askFile, askFileBuffer, askFileNumbers}
 
@@ -29,13 +30,13 @@ pub record Audit (body : List ℕ) (t : ℕ) (before after : List ℕ) (number r
   pub fault-is : fault ≡ faultIn (audit t body before)
   pub buffer : after ≡ auditBuffer t body before
 
-pub record Ask (body : List ℕ) (t q : ℕ) (literals before after : List ℕ) (number matched : ℕ) (fault : List ℕ) : Type 0 where
+pub record Ask (body : List ℕ) (t : ℕ) (q : Question) (literals before after : List ℕ) (number matched : ℕ) (fault : List ℕ) : Type 0 where
   pub numbers : (number, matched) ≡ numbersOf 0 askNumbers (ask t q literals body before)
   pub fault-is : fault ≡ faultIn (ask t q literals body before)
   pub buffer : after ≡ askBuffer t q literals body before
 
 -- `bytes` as for Locate
-pub record AskFile (bytes column kind : List ℕ) (t q : ℕ) (literals before after : List ℕ) (number matched : ℕ) (fault : List ℕ) : Type 0 where
+pub record AskFile (bytes column kind : List ℕ) (t : ℕ) (q : Question) (literals before after : List ℕ) (number matched : ℕ) (fault : List ℕ) : Type 0 where
   pub numbers : (number, matched) ≡ numbersOf 0 askFileNumbers (askFile bytes column kind t q literals before)
   pub fault-is : fault ≡ faultIn (askFile bytes column kind t q literals before)
   pub buffer : after ≡ askFileBuffer bytes column kind t q literals before

@@ -2,12 +2,14 @@
 // refusal's number in document 01, and writes counts through pointers; with ABSENT and a refusal the counts are 0. Where a fault is (entry, container, row) is
 // written through a pointer too: 0 in each number that the refusal does not carry, and all 0 with every other answer.
 ghost use mathlib.Core.Path.{_≡_};
+ghost use Rattle.bitmap_index.specs.Meaning.{question};
 ghost use Rattle.bitmap_index.specs.Reading.{askOut, askFault};
 ghost use Rattle.file_to_answers.specs.Reading.{lookedAt};
 ghost use Rattle.file_to_answers.specs.Promises.{FileAsScan};
 ghost use Rattle.poddurance.specs.Promises.{ReadDeletions, Subtract, Locate, Audit, Ask, AskFile};
 use bitmap_index::Answered;
 use bitmap_index::Audited;
+use bitmap_index::Question;
 use deletion_file::Deletions;
 use file_to_answers::FileAnswer;
 use index_file::Located;
@@ -156,16 +158,17 @@ fn answered(answer: Answered, matched: &mut u64, fault: &mut [u64; 3]) -> u8
 pub extern "C" fn poddurance_ask(
     body: &[u8],
     t: u32,
-    question: u32,
+    edition: u32,
+    name: u32,
     literals: &[u8],
     field: &mut [u8],
     matched: &mut u64,
     fault: &mut [u64; 3],
 ) -> u8
-    ensures { λ r. ⌜ Ask (now (body .entry)) t question (now (literals .entry)) (now (field .entry)) (now (field .exit)) r (now (matched .exit)) (now (fault .exit)) ⌝ }
+    ensures { λ r. ⌜ Ask (now (body .entry)) t (question edition name) (now (literals .entry)) (now (field .entry)) (now (field .exit)) r (now (matched .exit)) (now (fault .exit)) ⌝ }
 {
     answered(
-        bitmap_index::ask(body, t, question, literals, field),
+        bitmap_index::ask(body, t, Question { edition, name }, literals, field),
         matched,
         fault,
     )
@@ -179,16 +182,17 @@ pub extern "C" fn poddurance_ask_file<'a>(
     column: &[u8],
     kind: &[u8],
     t: u32,
-    question: u32,
+    edition: u32,
+    name: u32,
     literals: &[u8],
     field: &mut [u8],
     matched: &mut u64,
     fault: &mut [u64; 3],
 ) -> u8
     ensures any_bytes { λ r. ⌜ AskFile (lookedAt (now (embedded .entry)) (now (file .entry))) (now (column .entry)) (now (kind .entry))
-        t question (now (literals .entry)) (now (field .entry)) (now (field .exit)) r (now (matched .exit)) (now (fault .exit)) ⌝ }
+        t (question edition name) (now (literals .entry)) (now (field .entry)) (now (field .exit)) r (now (matched .exit)) (now (fault .exit)) ⌝ }
     ensures demand_3 { λ r. ⌜ FileAsScan (lookedAt (now (embedded .entry)) (now (file .entry))) (now (column .entry)) (now (kind .entry))
-        t question (now (literals .entry)) (now (field .entry)) (λ a. (r ≡ 0) × (now (matched .exit) ≡ a .matched) × (now (field .exit) ≡ a .buffer)) ⌝ }
+        t (question edition name) (now (literals .entry)) (now (field .entry)) (λ a. (r ≡ 0) × (now (matched .exit) ≡ a .matched) × (now (field .exit) ≡ a .buffer)) ⌝ }
 {
     let answer = file_to_answers::ask_file(
         embedded,
@@ -196,7 +200,7 @@ pub extern "C" fn poddurance_ask_file<'a>(
         column,
         kind,
         t,
-        question,
+        Question { edition, name },
         literals,
         field,
     );

@@ -203,8 +203,12 @@ count-marks f lo hi n (r ∷ rs) h k l free =
     let m = count-mark f r n (omega arith) (omega arith) (free r (h .0)) in
     omega (arith, count-marks (mark f r) (r + 1) hi n rs (h .2) k (rw length-mark l) (λ q a. bit-mark-other f r q (λ e. omega arith) ∙ free q (omega arith)))
 
+-- a field in which no row is set counts none
+pub none-counted : (f : List ℕ) (n : ℕ) → ((r : ℕ) → r < n → bit f r ≡ false) → count f n ≡ 0
+none-counted f n h = rows-tally f 0 n ∙ tally-none (bit f) 0 n (λ r a b. h r (omega arith))
+
 pub count-zeros : (m n : ℕ) → count (replicate m 0) n ≡ 0
-count-zeros m n = rows-tally (replicate m 0) 0 n ∙ tally-none (bit (replicate m 0)) 0 n (λ r a b. bit-zeros m r)
+count-zeros m n = none-counted (replicate m 0) n (λ r h. bit-zeros m r)
 
 -- 01: counts are counts of ones in the field, and they are the number of chosen rows
 pub count-marked : (m hi n : ℕ) (rs : List ℕ) → Rising 0 hi rs → hi ≤ n → hi ≤ 8 * m → count (markAll (replicate m 0) rs) n ≡ length rs

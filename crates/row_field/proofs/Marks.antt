@@ -13,7 +13,7 @@ use borrow.Author.Tests.{eq-eqb, ne-eqb}
 use lib.Dec.{eqb}
 use borrow.Rule.Slice.PartMut.{midOf, postOf, putMid, put-same, mid-len, post-is}
 use Rattle.numbers.specs.Meaning.{All, Bytes}
-use Rattle.row_field.specs.Meaning.{bit, mark, markAll, anySet, above, Rising, Below, rowsFrom, rowsOf}
+use Rattle.row_field.specs.Meaning.{bit, mark, markAll, anySet, above, Rising, Below, rowsFrom, rowsOf, count}
 use Rattle.row_field.specs.Promises.{anySeen}
 use Rattle.row_field.proofs.Laws.{length-mark, bytes-mark, bit-mark-same, bit-mark-other, bit-out, mark-out, bit-zeros, bytes-zeros, field-ext}
 use Rattle.row_field.proofs.RowLists.{rising-below, rowsFrom-rising}
@@ -240,6 +240,15 @@ unfolding rowsFrom
 member-rowsFrom f a zero r h l = absurd (omega arith)
 member-rowsFrom f a (suc k) r h l =
     member-rowsFrom-go f a k r (λ g. member-rowsFrom f (a + 1) k r g (omega arith)) h (ℕ-discrete r a)
+
+-- a field that counts no row has none set
+no-members : (r : ℕ) (rs : List ℕ) → length rs ≡ 0 → member r rs ≡ false
+unfolding member
+no-members r [] e = refl
+no-members r (q ∷ rs) e = absurd (omega arith)
+
+pub none-set : (f : List ℕ) (n : ℕ) → count f n ≡ 0 → (r : ℕ) → r < n → bit f r ≡ false
+none-set f n e r h = sym (member-rowsFrom f 0 n r (omega arith) (omega arith)) ∙ no-members r (rowsFrom f 0 n) e
 
 rows-out-go : (f : List ℕ) (a k r : ℕ) → (a ≤ r → r < a + k → ⊥) → Dec (r < a) → member r (rowsFrom f a k) ≡ false
 rows-out-go f a k r n (yes h) = member-before r a (a + k) (rowsFrom f a k) h (rowsFrom-rising f a (a + k) a k (omega arith) (omega arith))

@@ -100,7 +100,7 @@ unfolding without
 length-without f [] = refl
 length-without f (r ∷ rs) = length-without (unmark f r) rs ∙ length-unmark f r
 
-bytes-without : (f rs : List ℕ) → Bytes f → Bytes (without f rs)
+pub bytes-without : (f rs : List ℕ) → Bytes f → Bytes (without f rs)
 unfolding without
 bytes-without f [] b i = b i
 bytes-without f (r ∷ rs) b i = bytes-without (unmark f r) rs (bytes-unmark f r b) i

@@ -4,7 +4,7 @@
 
 use std::fmt::Write;
 
-use poddurance::{ask_file, locate, Error, Literals, Question, RowField, Type};
+use poddurance::{ask_file, locate, Edition, Error, Literals, Question, RowField, Type};
 use reference::roaring::Bitmap;
 
 use crate::svg::{Svg, GREY, RED};
@@ -18,7 +18,7 @@ const MINUTES: u64 = 8;
 pub fn in_fault(index: &[u8]) -> Result<RowField, Error> {
     let fault = Literals::of(Type::String, ["fault"])?;
     let field = RowField::for_rows(PUMPS * MINUTES)?;
-    let answer = ask_file(&[], index, "state", "bitmap", Question::Equal, &fault, field)?;
+    let answer = ask_file(&[], index, "state", "bitmap", Edition::Second, Question::Equal, &fault, field)?;
     Ok(answer.expect("the demo files have an index on state").into_field())
 }
 

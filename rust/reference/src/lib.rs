@@ -7,7 +7,7 @@
 //! ```
 //! use reference::reader;
 //! use reference::scan::scan;
-//! use reference::types::{literals, EQUAL, STRING};
+//! use reference::types::{literals, FIRST_EDITION, NOT_EQUAL, SECOND_EDITION, STRING};
 //! use reference::writer::{bitmap, body_of, deletion_file, index_file, BitmapForm, Column, Layout};
 //!
 //! let column = Column::strings(&[Some("on"), None, Some("off"), Some("on")]);
@@ -15,9 +15,12 @@
 //! let file = index_file(&[("state", "bitmap", &body)]);
 //!
 //! let mut field = [0];
-//! let asked = literals(STRING, &["on"]);
-//! assert_eq!(reader::ask_file(&[], &file, b"state", b"bitmap", STRING, EQUAL, &asked, &mut field), (0, 2, reader::NO_FAULT));
-//! assert_eq!((field.to_vec(), 2), scan(&column, EQUAL, &["on"]));
+//! let asked = literals(STRING, &["off"]);
+//! for (edition, count) in [(FIRST_EDITION, 3), (SECOND_EDITION, 2)] {
+//!     let found = reader::ask_file(&[], &file, b"state", b"bitmap", STRING, edition, NOT_EQUAL, &asked, &mut field);
+//!     assert_eq!(found, (0, count, reader::NO_FAULT));
+//!     assert_eq!((field.to_vec(), count), scan(&column, edition, NOT_EQUAL, &["off"]));
+//! }
 //!
 //! let deletions = deletion_file(&[bitmap(&[3], &BitmapForm::Smallest)]);
 //! let mut deleted = [0];

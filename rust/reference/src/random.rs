@@ -1,4 +1,4 @@
-//! Random columns, layouts, questions and damage, repeated by a seed.
+//! Random columns, layouts, questions of both editions and damage, repeated by a seed.
 
 use std::collections::HashSet;
 
@@ -550,7 +550,7 @@ pub fn deletion_file(random: &mut Random, rows: u32) -> (Traced, Vec<Vec<u32>>) 
 
 // Questions
 
-/// A well-formed question on a column of these groups: its number and literals.
+/// A well-formed question on a column of these groups, in either edition: its number and literals.
 pub fn question(random: &mut Random, groups: &Groups) -> (u32, Vec<Vec<u8>>) {
     let question = random.below(6) as u32;
     let number = match question {
@@ -596,11 +596,55 @@ fn literal(random: &mut Random, groups: &Groups) -> Vec<u8> {
     literal
 }
 
-/// A type, a question and literals of which at least one is likely not to fit the others.
-pub fn misfit_question(random: &mut Random, groups: &Groups) -> (u32, u32, Vec<u8>) {
+/// One of the two editions.
+pub fn edition(random: &mut Random) -> u32 {
+    *random.pick(&types::EDITIONS)
+}
+
+/// A number that is no edition's: next to theirs, theirs in the low bits with others set, or any.
+pub fn unknown_edition(random: &mut Random) -> u32 {
+    const UNKNOWN: [u32; 15] = [
+        0,
+        3,
+        4,
+        255,
+        256,
+        257,
+        258,
+        65_537,
+        65_538,
+        (1 << 31) - 1,
+        1 << 31,
+        (1 << 31) + 1,
+        (1 << 31) + 2,
+        u32::MAX - 1,
+        u32::MAX,
+    ];
+    let any = random.number() as u32;
+    if random.percent(20) && !types::EDITIONS.contains(&any) {
+        return any;
+    }
+    *random.pick(&UNKNOWN)
+}
+
+/// As [`edition`], but at times an unknown one.
+pub fn edition_or_unknown(random: &mut Random) -> u32 {
+    if random.percent(8) {
+        unknown_edition(random)
+    } else {
+        edition(random)
+    }
+}
+
+/// A type, an edition, a question and literals of which at least one is likely not to fit the others.
+pub fn misfit_question(random: &mut Random, groups: &Groups) -> (u32, u32, u32, Vec<u8>) {
     let mut ty = groups.ty;
+    // An unknown edition alone, and together with each of the other faults. It goes before LIMIT of literals, which are then more often
+    // too many.
+    let known = random.percent(75);
+    let edition = if known { edition(random) } else { unknown_edition(random) };
     let (mut question, mut values) = question(random, groups);
-    let many = random.percent(20);
+    let many = random.percent(if known { 20 } else { 50 });
     if many {
         let literal = match types::WIDTHS[ty as usize] {
             Width::Fixed(_) => value(random, ty, 40),
@@ -609,7 +653,7 @@ pub fn misfit_question(random: &mut Random, groups: &Groups) -> (u32, u32, Vec<u
         values = vec![literal; random.between(1023, 1025)];
     }
     let mut literals = types::literals(ty, &values);
-    for _ in 0..random.between(1, 2) {
+    for _ in 0..random.between(usize::from(known), 2) {
         match random.below(9) {
             0 => ty = *random.pick(&[12, 13, 255, 256, 259, 65543, 1 << 31, u32::MAX]),
             1 => question = *random.pick(&[6, 7, 255, 256, 258, 65538, 1 << 31, u32::MAX]),
@@ -636,7 +680,7 @@ pub fn misfit_question(random: &mut Random, groups: &Groups) -> (u32, u32, Vec<u
             _ => literals.push(*random.pick(&[0, 1, 2, 255])),
         }
     }
-    (ty, question, literals)
+    (ty, edition, question, literals)
 }
 
 // Damage

@@ -92,9 +92,9 @@ pub fn audit(body: &[u8], ty: u32, field: &mut [u8]) -> (u8, u64, Fault) {
     counted(try_audit(body, ty, field))
 }
 
-/// Audits the body and sets the rows that the question chooses: answer, their count, and fault.
-pub fn ask(body: &[u8], ty: u32, question: u32, literals: &[u8], field: &mut [u8]) -> (u8, u64, Fault) {
-    counted(try_ask(body, ty, question, literals, field))
+/// Audits the body and sets the rows that the question chooses by its edition's rule: answer, their count, and fault.
+pub fn ask(body: &[u8], ty: u32, edition: u32, question: u32, literals: &[u8], field: &mut [u8]) -> (u8, u64, Fault) {
+    counted(try_ask(body, ty, edition, question, literals, field))
 }
 
 /// Locates the index, then asks its body: answer, count and fault. Without a body the field is left alone.
@@ -105,6 +105,7 @@ pub fn ask_file(
     column: &[u8],
     kind: &[u8],
     ty: u32,
+    edition: u32,
     question: u32,
     literals: &[u8],
     field: &mut [u8],
@@ -112,7 +113,7 @@ pub fn ask_file(
     match locate(embedded, file, column, kind) {
         (ACCEPTED, start, length) => {
             let looked_at = if embedded.is_empty() { file } else { embedded };
-            ask(&looked_at[start as usize..][..length as usize], ty, question, literals, field)
+            ask(&looked_at[start as usize..][..length as usize], ty, edition, question, literals, field)
         }
         (answer, ..) => (answer, 0, NO_FAULT),
     }
@@ -234,11 +235,11 @@ fn try_audit(body: &[u8], ty: u32, buffer: &mut [u8]) -> Result<u64, Refusal> {
     result.map(|_| dictionary.rows)
 }
 
-fn try_ask(body: &[u8], ty: u32, question: u32, literals: &[u8], buffer: &mut [u8]) -> Result<u64, Refusal> {
+fn try_ask(body: &[u8], ty: u32, edition: u32, question: u32, literals: &[u8], buffer: &mut [u8]) -> Result<u64, Refusal> {
     within_limit(body)?;
     within_limit(literals)?;
     let width = types::width(ty).ok_or(Refusal::Literal)?;
-    if question > types::IS_NOT_NULL {
+    if !types::EDITIONS.contains(&edition) || question > types::IS_NOT_NULL {
         return Err(Refusal::Literal);
     }
     let literals = read_literals(literals, ty, width)?;
@@ -254,14 +255,19 @@ fn try_ask(body: &[u8], ty: u32, question: u32, literals: &[u8], buffer: &mut [u
     let dictionary = Dictionary::read(body, ty, width)?;
     let rows = dictionary.rows;
     let field = field_for(rows, buffer)?;
-    let about_null = matches!(question, types::IS_NULL | types::IS_NOT_NULL);
+    // With NOT a question chooses the rows of all entries but those that it is about.
+    let about_null = match question {
+        types::EQUAL | types::IN => false,
+        types::NOT_EQUAL | types::NOT_IN => edition == types::SECOND_EDITION,
+        _ => true,
+    };
     let literals: HashSet<&[u8]> = literals.into_iter().collect();
-    let chosen = dictionary.place_all(field, |entry| match entry.value {
+    let about = dictionary.place_all(field, |entry| match entry.value {
         None => about_null,
-        Some(value) => !about_null && literals.contains(value),
+        Some(value) => literals.contains(value),
     });
     field.fill(0);
-    for rows in chosen? {
+    for rows in about? {
         rows.place(field);
     }
     if matches!(question, types::NOT_EQUAL | types::NOT_IN | types::IS_NOT_NULL) {

@@ -3,9 +3,10 @@
 use crate::types;
 use crate::writer::Column;
 
-/// The row field that the question chooses and the number of its rows; 0 says skip. Literals are values as in a
-/// column's cells.
-pub fn scan<V: AsRef<[u8]>>(column: &Column, question: u32, literals: &[V]) -> (Vec<u8>, u64) {
+/// The row field that the question chooses by its edition's rule and the number of its rows; 0 says skip. Literals are values
+/// as in a column's cells.
+pub fn scan<V: AsRef<[u8]>>(column: &Column, edition: u32, question: u32, literals: &[V]) -> (Vec<u8>, u64) {
+    assert!(types::EDITIONS.contains(&edition), "a question of an unknown edition has no answer");
     let mut field = vec![0; column.cells.len().div_ceil(8)];
     let mut count = 0;
     for (row, cell) in column.cells.iter().enumerate() {
@@ -15,7 +16,11 @@ pub fn scan<V: AsRef<[u8]>>(column: &Column, question: u32, literals: &[V]) -> (
         };
         let chosen = match question {
             types::EQUAL | types::IN => listed,
-            types::NOT_EQUAL | types::NOT_IN => !listed,
+            // A null row is never listed; the first edition alone chooses it for that.
+            types::NOT_EQUAL | types::NOT_IN => match cell {
+                None => edition == types::FIRST_EDITION,
+                Some(_) => !listed,
+            },
             types::IS_NULL => cell.is_none(),
             types::IS_NOT_NULL => cell.is_some(),
             _ => panic!("an unknown question has no answer"),

@@ -1,4 +1,4 @@
-//! The numbers of column types and questions, and the stored form of values.
+//! The numbers of column types, editions and questions, and the stored form of values.
 
 use std::cmp::Ordering;
 
@@ -14,6 +14,13 @@ pub const LOCAL_ZONED_TIMESTAMP: u32 = 8;
 pub const CHAR: u32 = 9;
 pub const VARCHAR: u32 = 10;
 pub const STRING: u32 = 11;
+
+/// Document 01's rule of nulls: NOT EQUAL and NOT IN choose null rows.
+pub const FIRST_EDITION: u32 = 1;
+/// Document 02's rule of nulls: NOT EQUAL and NOT IN choose no null row.
+pub const SECOND_EDITION: u32 = 2;
+/// The editions that a question can name.
+pub const EDITIONS: [u32; 2] = [FIRST_EDITION, SECOND_EDITION];
 
 pub const EQUAL: u32 = 0;
 pub const NOT_EQUAL: u32 = 1;

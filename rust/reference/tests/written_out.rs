@@ -1,6 +1,7 @@
-//! The files that document 01 writes out.
+//! The files that document 01 writes out, and what document 02 says of them.
 
-use reference::reader::{ask, audit, locate, read_deletions, subtract, NO_FAULT};
+use reference::reader::{ask, ask_file, audit, locate, read_deletions, subtract, NO_FAULT};
+use reference::scan::scan;
 use reference::types::*;
 use reference::writer::{bitmap, body_of, deletion_file, index_file, BitmapForm, Column, ContainerForm, Layout};
 
@@ -46,23 +47,84 @@ fn small_questions() {
         let mut field = [0xAA, 0xBB];
         assert_eq!(audit(&body, TINYINT, &mut field), (0, 3, NO_FAULT));
         assert_eq!(field, [0x00, 0xBB]);
-        for (question, literals, bits, count) in [
-            (EQUAL, vec![7], 0x01, 1),
-            (NOT_EQUAL, vec![7], 0x06, 2),
-            (EQUAL, vec![8], 0x00, 0),
-            (IN, vec![9, 7, 9], 0x03, 2),
-            (IN, vec![], 0x00, 0),
-            (NOT_IN, vec![], 0x07, 3),
-            (IS_NULL, vec![], 0x04, 1),
-            (IS_NOT_NULL, vec![], 0x03, 2),
-        ] {
-            let mut field = [0xAA, 0xBB];
-            assert_eq!(ask(&body, TINYINT, question, &literals, &mut field), (0, count, NO_FAULT));
-            assert_eq!(field, [bits, 0xBB]);
+        // The question, its literals, and the field's byte and the count in either edition.
+        type Case<'a> = (u32, &'a [u8], [(u8, u64); 2]);
+        let cases: [Case; 10] = [
+            (EQUAL, &[7], [(0x01, 1), (0x01, 1)]),
+            (NOT_EQUAL, &[7], [(0x06, 2), (0x02, 1)]),
+            (EQUAL, &[8], [(0x00, 0), (0x00, 0)]),
+            (NOT_EQUAL, &[8], [(0x07, 3), (0x03, 2)]),
+            (IN, &[9, 7, 9], [(0x03, 2), (0x03, 2)]),
+            (NOT_IN, &[9, 7, 9], [(0x04, 1), (0x00, 0)]),
+            (IN, &[], [(0x00, 0), (0x00, 0)]),
+            (NOT_IN, &[], [(0x07, 3), (0x03, 2)]),
+            (IS_NULL, &[], [(0x04, 1), (0x04, 1)]),
+            (IS_NOT_NULL, &[], [(0x03, 2), (0x03, 2)]),
+        ];
+        for (question, literals, chosen) in cases {
+            let values: Vec<[u8; 1]> = literals.iter().map(|value| [*value]).collect();
+            for (edition, (bits, count)) in EDITIONS.into_iter().zip(chosen) {
+                let mut field = [0xAA, 0xBB];
+                assert_eq!(ask(&body, TINYINT, edition, question, literals, &mut field), (0, count, NO_FAULT));
+                assert_eq!(field, [bits, 0xBB], "question {question} of {literals:?} in edition {edition}");
+                assert_eq!(scan(&small_column(), edition, question, &values), (vec![bits], count));
+            }
         }
         let mut none = [];
         assert_eq!(audit(&body, TINYINT, &mut none), (10, 0, NO_FAULT));
     }
+}
+
+/// Rows of null alone: the second edition skips them wherever the first keeps them for not being listed.
+#[test]
+fn nulls_alone() {
+    let column = Column::new(TINYINT, vec![None; 3]);
+    for version in [1, 2] {
+        let body = body_of(&column, &Layout::version(version));
+        for (question, values, chosen) in [
+            (NOT_IN, &[][..], [(0x07, 3), (0x00, 0)]),
+            (NOT_IN, &[[7], [9]], [(0x07, 3), (0x00, 0)]),
+            (NOT_EQUAL, &[[7]], [(0x07, 3), (0x00, 0)]),
+            (EQUAL, &[[7]], [(0x00, 0), (0x00, 0)]),
+            (IS_NULL, &[], [(0x07, 3), (0x07, 3)]),
+            (IS_NOT_NULL, &[], [(0x00, 0), (0x00, 0)]),
+        ] {
+            for (edition, (bits, count)) in EDITIONS.into_iter().zip(chosen) {
+                let mut field = [0xAA];
+                let found = ask(&body, TINYINT, edition, question, &literals(TINYINT, values), &mut field);
+                assert_eq!(found, (0, count, NO_FAULT));
+                assert_eq!(field, [bits], "question {question} of {values:?} in edition {edition}");
+                assert_eq!(scan(&column, edition, question, values), (vec![bits], count));
+            }
+        }
+    }
+}
+
+/// Any edition but 1 and 2 is LITERAL for each question, before the literals, the body and the field are looked at.
+#[test]
+fn unknown_editions() {
+    let body = hex(VERSION_1);
+    let file = [hex(HEAD), body.clone()].concat();
+    let mut field = [0xAA];
+    for edition in [0, 3, 255, 256 + 1, 256 + 2, 1 << 31, (1 << 31) + 1, u32::MAX] {
+        // One that fits, none, one too many, one over the number of literals.
+        for literals in [vec![7], vec![], vec![7; 2], vec![7; 1_025]] {
+            for question in 0..=IS_NOT_NULL + 1 {
+                for body in [&body[..], &[], &[3]] {
+                    for field in [&mut field[..], &mut []] {
+                        let found = ask(body, TINYINT, edition, question, &literals, field);
+                        assert_eq!(found, (11, 0, NO_FAULT), "question {question} in edition {edition}");
+                    }
+                }
+                let mut of_file =
+                    |file: &[u8]| ask_file(&[], file, b"s", b"bitmap", TINYINT, edition, question, &literals, &mut field);
+                assert_eq!(of_file(&file), (11, 0, NO_FAULT));
+                // Without a body the question isn't looked at.
+                assert_eq!(of_file(&[]), (1, 0, NO_FAULT));
+            }
+        }
+    }
+    assert_eq!(field, [0xAA]);
 }
 
 #[test]
@@ -91,7 +153,7 @@ fn small_bitmaps() {
 fn single_rows() {
     let body = hex("01 00 00 00 01 00 00 00 01 00 07 FF FF FF FF");
     let mut field = [0xFF];
-    assert_eq!(ask(&body, TINYINT, EQUAL, &[7], &mut field), (0, 1, NO_FAULT));
+    assert_eq!(ask(&body, TINYINT, FIRST_EDITION, EQUAL, &[7], &mut field), (0, 1, NO_FAULT));
     assert_eq!(field, [0x01]);
     let body = hex("01 00 00 00 01 00 00 00 01 00 07 80 00 00 00");
     assert_eq!(audit(&body, TINYINT, &mut field), (7, 0, [1, 0, 0]));
@@ -104,13 +166,16 @@ fn events() {
     let column = Column::strings(&cells.map(Some));
     for version in [1, 2] {
         let body = body_of(&column, &Layout::version(version));
-        let mut field = [0xFF];
-        let asked = literals(STRING, &["login", "purchase"]);
-        assert_eq!(ask(&body, STRING, IN, &asked, &mut field), (0, 4, NO_FAULT));
-        assert_eq!(field, [0b10_1101]);
-        let asked = literals(STRING, &["login"]);
-        assert_eq!(ask(&body, STRING, NOT_IN, &asked, &mut field), (0, 3, NO_FAULT));
-        assert_eq!(field, [0b01_1010]);
+        // Without null rows the editions agree.
+        for edition in EDITIONS {
+            let mut field = [0xFF];
+            let asked = literals(STRING, &["login", "purchase"]);
+            assert_eq!(ask(&body, STRING, edition, IN, &asked, &mut field), (0, 4, NO_FAULT));
+            assert_eq!(field, [0b10_1101]);
+            let asked = literals(STRING, &["login"]);
+            assert_eq!(ask(&body, STRING, edition, NOT_IN, &asked, &mut field), (0, 3, NO_FAULT));
+            assert_eq!(field, [0b01_1010]);
+        }
     }
 }
 
@@ -120,7 +185,9 @@ fn zero_rows() {
         let body = body_of(&Column::new(INT, Vec::new()), &Layout::version(version));
         let mut field = [0x5A];
         assert_eq!(audit(&body, INT, &mut field), (0, 0, NO_FAULT));
-        assert_eq!(ask(&body, INT, NOT_IN, &[], &mut field), (0, 0, NO_FAULT));
+        for edition in EDITIONS {
+            assert_eq!(ask(&body, INT, edition, NOT_IN, &[], &mut field), (0, 0, NO_FAULT));
+        }
         assert_eq!(field, [0x5A]);
     }
 }
@@ -175,7 +242,9 @@ fn faults_of_the_small_body() {
         let mut body = hex(VERSION_1);
         body[at] = byte;
         assert_eq!(audit(&body, TINYINT, &mut [0]), (answer, 0, fault), "byte {at}");
-        assert_eq!(ask(&body, TINYINT, EQUAL, &[7], &mut [0]), (answer, 0, fault), "byte {at}");
+        for edition in EDITIONS {
+            assert_eq!(ask(&body, TINYINT, edition, NOT_EQUAL, &[7], &mut [0]), (answer, 0, fault), "byte {at}");
+        }
     }
 }
 

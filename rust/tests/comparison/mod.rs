@@ -56,10 +56,11 @@ impl<'a> Where<'a> {
     }
 }
 
-/// What is asked of a body: type, question and literals.
+/// What is asked of a body: type, edition, question and literals.
 #[derive(Clone, Copy)]
 pub struct Asked<'a> {
     pub ty: u32,
+    pub edition: u32,
     pub question: u32,
     pub literals: &'a [u8],
 }
@@ -103,11 +104,11 @@ impl Comparison {
         (found.0, found.1, expected_field, found.2)
     }
 
-    pub fn ask(&mut self, body: &[u8], ty: u32, question: u32, literals: &[u8], field: &[u8]) -> Found {
+    pub fn ask(&mut self, body: &[u8], ty: u32, edition: u32, question: u32, literals: &[u8], field: &[u8]) -> Found {
         let mut expected_field = field.to_vec();
-        let expected = reader::ask(body, ty, question, literals, &mut expected_field);
+        let expected = reader::ask(body, ty, edition, question, literals, &mut expected_field);
         let (lent_body, lent_literals, lent_field) = (self.first.lend(body), self.second.lend(literals), self.third.lend(field));
-        let found = said(raw::ask(lent_body, ty, question, lent_literals, lent_field));
+        let found = said(raw::ask(lent_body, ty, edition, question, lent_literals, lent_field));
         let same = found == expected && lent_field == expected_field && lent_body == body && lent_literals == literals;
         if !same {
             let found_field = lent_field.to_vec();
@@ -118,7 +119,8 @@ impl Comparison {
                 ("field after, library", &found_field),
                 ("field after, reference reader", &expected_field),
             ];
-            let answers = format!("type {ty}, question {question}: library {found:?}, reference reader {expected:?}");
+            let asked = format!("type {ty}, edition {edition}, question {question}");
+            let answers = format!("{asked}: library {found:?}, reference reader {expected:?}");
             self.fail("Ask", &inputs, &answers);
         }
         self.tally.add(ASK, found.0);
@@ -127,12 +129,12 @@ impl Comparison {
 
     pub fn ask_file(&mut self, at: Where, asked: Asked, field: &[u8]) -> Found {
         let Where { embedded, file, column, kind } = at;
-        let Asked { ty, question, literals } = asked;
+        let Asked { ty, edition, question, literals } = asked;
         let mut expected_field = field.to_vec();
-        let expected = reader::ask_file(embedded, file, column, kind, ty, question, literals, &mut expected_field);
+        let expected = reader::ask_file(embedded, file, column, kind, ty, edition, question, literals, &mut expected_field);
         let lent = (self.first.lend(embedded), self.second.lend(file), self.third.lend(column), self.fourth.lend(kind));
         let (lent_literals, lent_field) = (self.fifth.lend(literals), self.sixth.lend(field));
-        let found = said(raw::ask_file(lent.0, lent.1, lent.2, lent.3, ty, question, lent_literals, lent_field));
+        let found = said(raw::ask_file(lent.0, lent.1, lent.2, lent.3, ty, edition, question, lent_literals, lent_field));
         let kept = lent.0 == embedded && lent.1 == file && lent.2 == column && lent.3 == kind && lent_literals == literals;
         if !(found == expected && lent_field == expected_field && kept) {
             let found_field = lent_field.to_vec();
@@ -146,7 +148,8 @@ impl Comparison {
                 ("field after, library", &found_field),
                 ("field after, reference reader", &expected_field),
             ];
-            let answers = format!("type {ty}, question {question}: library {found:?}, reference reader {expected:?}");
+            let asked = format!("type {ty}, edition {edition}, question {question}");
+            let answers = format!("{asked}: library {found:?}, reference reader {expected:?}");
             self.fail("Ask file", &inputs, &answers);
         }
         self.tally.add(ASK_FILE, found.0);

@@ -56,7 +56,8 @@ pub fn several_containers(both: &mut Comparison, random: &mut Random) {
         let body = random::damage(random, &bitmaps);
         both.audit(&body, groups.ty, &field);
         let (question, values) = random::question(random, &groups);
-        both.ask(&body, groups.ty, question, &types::literals(groups.ty, &values), &field);
+        let edition = random::edition_or_unknown(random);
+        both.ask(&body, groups.ty, edition, question, &types::literals(groups.ty, &values), &field);
     }
     for _ in 0..3 {
         let entry = random.below(groups.values.len() + 1);
@@ -205,7 +206,9 @@ fn list_twice(both: &mut Comparison, ty: u32, values: &[Vec<u8>]) {
             let body = &traced.bytes[..length];
             let what = format!("value {one} again at {other} of {number}, type {ty}, cut at {length}");
             assert_eq!(both.audit(body, ty, &field).0, answer, "{what}");
-            assert_eq!(both.ask(body, ty, IS_NULL, &[], &field).0, answer, "{what}");
+            for edition in EDITIONS {
+                assert_eq!(both.ask(body, ty, edition, IS_NULL, &[], &field).0, answer, "{what}");
+            }
         }
     }
 }
@@ -233,9 +236,9 @@ pub fn many_literals(both: &mut Comparison) {
                     let literals: Vec<Vec<u8>> = literals;
                     let asked = types::literals(ty, &literals);
                     let distinct: Vec<&Vec<u8>> = HashSet::<&Vec<u8>>::from_iter(&literals).into_iter().collect();
-                    for question in [IN, NOT_IN] {
-                        let (expected, count) = scan(&column, question, &distinct);
-                        let found = both.ask(&body, ty, question, &asked, &vec![0xA5; rows.div_ceil(8)]);
+                    for (edition, question) in EDITIONS.into_iter().flat_map(|edition| [(edition, IN), (edition, NOT_IN)]) {
+                        let (expected, count) = scan(&column, edition, question, &distinct);
+                        let found = both.ask(&body, ty, edition, question, &asked, &vec![0xA5; rows.div_ceil(8)]);
                         let sound = found == (0, count, expected, NO_FAULT);
                         both.demand(sound, &format!("Ask of {number} literals"), &[("body", &body), ("literals", &asked)]);
                     }
@@ -265,8 +268,10 @@ pub fn one_byte_apart(both: &mut Comparison) {
             for body in &bodies {
                 let (alone, with_text) =
                     (types::literals(STRING, &[&other]), types::literals(STRING, &[&other[..], text.as_bytes()]));
-                assert_eq!(both.ask(body, STRING, EQUAL, &alone, &[0xA5]), (0, 0, vec![0], NO_FAULT));
-                assert_eq!(both.ask(body, STRING, IN, &with_text, &[0xA5]), (0, 1, vec![1], NO_FAULT));
+                for edition in EDITIONS {
+                    assert_eq!(both.ask(body, STRING, edition, EQUAL, &alone, &[0xA5]), (0, 0, vec![0], NO_FAULT));
+                    assert_eq!(both.ask(body, STRING, edition, IN, &with_text, &[0xA5]), (0, 1, vec![1], NO_FAULT));
+                }
             }
         }
     }

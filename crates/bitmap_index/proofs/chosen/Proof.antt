@@ -1,4 +1,4 @@
--- `chosen` meets its contract by the cases on the question's number.
+-- `chosen` meets its contract by the cases on the name.
 use native.Mathlib.Omega.{arith}
 use Rattle.bitmap_index.proofs.Choosing.{is-one, not-one, is-in, not-in, holds-some, neither}
 use borrow.Author.Needs.{needs}

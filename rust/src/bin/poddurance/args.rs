@@ -4,7 +4,7 @@ use std::ffi::{OsStr, OsString};
 use std::os::unix::ffi::OsStrExt;
 use std::path::PathBuf;
 
-use poddurance::{Question, Type};
+use poddurance::{Edition, Question, Type, UnknownName};
 
 use crate::calendar::Unit;
 use crate::literal::{self, Form, Literal};
@@ -29,7 +29,7 @@ pub enum Command {
     Columns { file: Source },
     Locate { bytes: IndexBytes, column: String, kind: String },
     Audit { index: IndexOf },
-    Ask { index: IndexOf, question: Question, literals: Vec<Literal>, deletions: Option<Deletions> },
+    Ask { index: IndexOf, edition: Edition, question: Question, literals: Vec<Literal>, deletions: Option<Deletions> },
     Deletions { deletions: Deletions, rows: u64 },
 }
 
@@ -112,7 +112,7 @@ fn command(mut places: Places, options: Options) -> Result<Command, String> {
     let name = places.next("a command: columns, locate, audit, ask or deletions")?;
     let name = name.to_string_lossy().into_owned();
     options.fit(&name)?;
-    let Options { millis, micros, stored, embedded, deletions, bin, row_count, .. } = options;
+    let Options { edition, millis, micros, stored, embedded, deletions, bin, row_count, .. } = options;
     let data_rows = row_count.map(|rows| number(&rows, "--row-count")).transpose()?;
 
     let command = match name.as_str() {
@@ -127,6 +127,7 @@ fn command(mut places: Places, options: Options) -> Result<Command, String> {
         "ask" => {
             let index = places.index(embedded, data_rows)?;
             let question = places.named("QUESTION", "is-not-null")?;
+            let edition = edition_of(question, edition)?;
             let form = form(index.ty, millis, micros, stored)?;
             let mut literals = Vec::new();
             while !places.is_empty() {
@@ -139,7 +140,7 @@ fn command(mut places: Places, options: Options) -> Result<Command, String> {
                 (Some(_), None) => return Err("--deletions needs --bin N, the number of the data file's bin".to_string()),
                 (None, Some(_)) => return Err("--bin goes with --deletions FILE".to_string()),
             };
-            Command::Ask { index, question, literals, deletions }
+            Command::Ask { index, edition, question, literals, deletions }
         }
         "deletions" => {
             let file = places.source()?;
@@ -152,6 +153,21 @@ fn command(mut places: Places, options: Options) -> Result<Command, String> {
     };
     places.end()?;
     Ok(command)
+}
+
+/// The edition by which a question is asked.
+fn edition_of(question: Question, given: Option<OsString>) -> Result<Edition, String> {
+    let given = given.map(|word| word.to_string_lossy().parse().map_err(|error: UnknownName| format!("--edition {error}")));
+    match (given, question) {
+        (Some(given), _) => given,
+        // It decides whether null rows are in the answer; the wrong one draws a wrong graph, so none is assumed.
+        (None, Question::NotEqual | Question::NotIn) => {
+            Err(format!("{question} needs --edition 1 or 2: 1 chooses null rows too, for stored dashboards; 2 chooses none"))
+        }
+        // The library has to be handed one of the two. Which one makes no difference: it is proved that its answer to these
+        // questions is the same in both.
+        (None, Question::Equal | Question::In | Question::IsNull | Question::IsNotNull) => Ok(Edition::Second),
+    }
 }
 
 /// How the literals of a type are written.
@@ -183,6 +199,7 @@ struct Options {
     millis: bool,
     micros: bool,
     stored: bool,
+    edition: Option<OsString>,
     embedded: Option<OsString>,
     deletions: Option<OsString>,
     bin: Option<OsString>,
@@ -197,6 +214,7 @@ impl Options {
             (self.rows, "--rows", &["ask", "deletions"][..]),
             (self.embedded.is_some(), "--embedded", &["locate", "audit", "ask"]),
             (self.row_count.is_some(), "--row-count", &["audit", "ask"]),
+            (self.edition.is_some(), "--edition", ask),
             (self.millis, "--millis", ask),
             (self.micros, "--micros", ask),
             (self.stored, "--stored", ask),
@@ -256,6 +274,7 @@ fn split(words: impl IntoIterator<Item = OsString>) -> Result<Words, String> {
             b"--millis" => flag(&mut options.millis, value, "--millis")?,
             b"--micros" => flag(&mut options.micros, value, "--micros")?,
             b"--stored" => flag(&mut options.stored, value, "--stored")?,
+            b"--edition" => valued(&mut options.edition, value, &mut words, "--edition", "1 or 2")?,
             b"--embedded" => valued(&mut options.embedded, value, &mut words, "--embedded", "FILE")?,
             b"--deletions" => valued(&mut options.deletions, value, &mut words, "--deletions", "FILE")?,
             b"--bin" => valued(&mut options.bin, value, &mut words, "--bin", "N")?,
@@ -375,7 +394,8 @@ mod tests {
     }
 
     fn ask(literals: Vec<Literal>, deletions: Option<Deletions>) -> Command {
-        Command::Ask { index: index(Type::TinyInt, None), question: Question::In, literals, deletions }
+        let (edition, question) = (Edition::Second, Question::In);
+        Command::Ask { index: index(Type::TinyInt, None), edition, question, literals, deletions }
     }
 
     #[test]
@@ -402,6 +422,38 @@ mod tests {
             assert_eq!(command(line), Command::Help, "{line:?}");
         }
         assert_eq!(command(&["--version"]), Command::Version);
+    }
+
+    /// NOT EQUAL and NOT IN need an edition, and the other questions may have one.
+    #[test]
+    fn editions() {
+        let asked = |question: &str, more: &[&str]| match read(&[&["ask", "f", "s", "int", question], more].concat()) {
+            Ok(Job { command: Command::Ask { edition, .. }, .. }) => Ok(edition),
+            Ok(other) => panic!("{other:?}"),
+            Err(message) => Err(message),
+        };
+        for question in Question::ALL {
+            for edition in Edition::ALL {
+                let number = edition.to_string();
+                assert_eq!(asked(question.name(), &["--edition", &number]), Ok(edition), "{question}");
+                assert_eq!(asked(question.name(), &[&format!("--edition={number}")]), Ok(edition), "{question}");
+            }
+            let without = asked(question.name(), &[]);
+            match question {
+                Question::NotEqual | Question::NotIn => {
+                    let message = "needs --edition 1 or 2: 1 chooses null rows too, for stored dashboards; 2 chooses none";
+                    assert_eq!(without, Err(format!("{question} {message}")));
+                }
+                _ => assert!(without.is_ok(), "{question}"),
+            }
+            for word in ["0", "3", "", "-1", "+1", "01", "one", "1.0", "4294967297"] {
+                let message = format!("--edition {word:?} is none of 1, 2");
+                assert_eq!(asked(question.name(), &["--edition", word]), Err(message), "{question}");
+            }
+        }
+        let line = ["ask", "f", "s", "int", "not-in", "--edition"].map(OsString::from);
+        let line = line.into_iter().chain([OsStr::from_bytes(b"\xFF").to_os_string()]);
+        assert_eq!(parse(line), Err("--edition \"\u{FFFD}\" is none of 1, 2".to_string()));
     }
 
     #[test]
@@ -503,6 +555,10 @@ mod tests {
             (&["audit", "f", "s", "int", "--rows"], "--rows goes with ask and deletions alone"),
             (&["audit", "f", "s", "int", "--micros"], "--micros goes with ask alone"),
             (&["audit", "f", "s", "int", "--stored"], "--stored goes with ask alone"),
+            (&["columns", "f", "--edition", "1"], "--edition goes with ask alone"),
+            (&["locate", "f", "s", "--edition", "1"], "--edition goes with ask alone"),
+            (&["audit", "f", "s", "int", "--edition", "2"], "--edition goes with ask alone"),
+            (&["deletions", "f", "0", "6", "--edition", "3"], "--edition goes with ask alone"),
             (&["audit", "f", "s", "int", "--row-count"], "--row-count needs ROWS"),
             (
                 &["audit", "f", "s", "int", "--row-count", "x"],
@@ -525,6 +581,9 @@ mod tests {
             (&["ask", "f", "s", "int", "in", "--bin"], "--bin needs N"),
             (&["ask", "f", "s", "int", "in", "--deletions"], "--deletions needs FILE"),
             (&["ask", "--bin", "0", "--bin", "1"], "--bin is there twice"),
+            (&["ask", "f", "s", "int", "not-in", "--edition"], "--edition needs 1 or 2"),
+            (&["ask", "f", "s", "int", "not-in", "--edition", "1", "--edition", "1"], "--edition is there twice"),
+            (&["ask", "f", "s", "int", "in", "--edition=1", "--edition=2"], "--edition is there twice"),
             (&["ask", "--json", "--json"], "--json is there twice"),
             (&["ask", "--json=1"], "--json takes no value"),
             (&["ask", "--row"], "\"--row\" is no option; a literal that begins with -- goes behind the word --"),

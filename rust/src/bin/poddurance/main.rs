@@ -15,7 +15,7 @@ use std::process::ExitCode;
 
 use poddurance::raw::{self, Fault};
 use poddurance::{ask, ask_file, audit, locate, read_deletions, subtract};
-use poddurance::{Error, Literals, Question, Refusal, RowField, LIMIT};
+use poddurance::{Edition, Error, Literals, Question, Refusal, RowField, LIMIT};
 
 use args::{Command, Deletions, IndexBytes, IndexOf, Job, Source, BITMAP};
 use literal::Literal;
@@ -62,8 +62,8 @@ fn carry_out(command: Command) -> Result<Outcome, String> {
         Command::Columns { file } => listed(&read(&file)?),
         Command::Locate { bytes, column, kind } => place(&Buffers::read(&bytes)?, column, kind),
         Command::Audit { index } => audited(&Buffers::read(&index.bytes)?, &index),
-        Command::Ask { index, question, literals, deletions } => {
-            match (asked(&Buffers::read(&index.bytes)?, &index, question, &literals), deletions) {
+        Command::Ask { index, edition, question, literals, deletions } => {
+            match (asked(&Buffers::read(&index.bytes)?, &index, edition, question, &literals), deletions) {
                 (Outcome::Answered { rows, field, .. }, Some(deletions)) => without(field, rows, &deletions)?,
                 (outcome, _) => outcome,
             }
@@ -141,7 +141,7 @@ fn audited(buffers: &Buffers, index: &IndexOf) -> Outcome {
 }
 
 /// Which rows the bitmap index on the column answers.
-fn asked(buffers: &Buffers, index: &IndexOf, question: Question, literals: &[Literal]) -> Outcome {
+fn asked(buffers: &Buffers, index: &IndexOf, edition: Edition, question: Question, literals: &[Literal]) -> Outcome {
     let literals = match Literals::of(index.ty, literals) {
         Ok(literals) => literals,
         Err(refusal) => return Outcome::Refused { refusal, part: Part::Literals },
@@ -151,7 +151,7 @@ fn asked(buffers: &Buffers, index: &IndexOf, question: Question, literals: &[Lit
     let located = buffers.locate(&index.column);
     let body = located.ok().flatten().unwrap_or_default();
     let field = RowField::for_body(body);
-    match ask_file(&buffers.embedded, &buffers.file, &index.column, BITMAP, question, &literals, field) {
+    match ask_file(&buffers.embedded, &buffers.file, &index.column, BITMAP, edition, question, &literals, field) {
         Ok(Some(answer)) => {
             // The row count that is said is the library's too, and Audit is the call that answers it.
             let rows = match audit(body, index.ty, RowField::for_body(body)) {
@@ -164,15 +164,16 @@ fn asked(buffers: &Buffers, index: &IndexOf, question: Question, literals: &[Lit
         Ok(None) => absent(index),
         Err(error) => {
             let refusal = refusal_of(error);
-            let part = if located.is_ok() && of_literals(refusal, question, &literals) { Part::Literals } else { Part::Index };
+            let part =
+                if located.is_ok() && of_literals(refusal, edition, question, &literals) { Part::Literals } else { Part::Index };
             Outcome::Refused { refusal, part }
         }
     }
 }
 
 /// Whether a refusal is of the literals: then a body of no bytes gets it too, since they are read before it.
-fn of_literals(refusal: Refusal, question: Question, literals: &Literals) -> bool {
-    let empty = ask(&[], question, literals, RowField::for_body(&[]));
+fn of_literals(refusal: Refusal, edition: Edition, question: Question, literals: &Literals) -> bool {
+    let empty = ask(&[], edition, question, literals, RowField::for_body(&[]));
     refusal != Refusal::Short && empty == Err(Error::Refused(refusal))
 }
 
