@@ -165,7 +165,8 @@ pub extern "C" fn poddurance_ask(
     matched: &mut u64,
     fault: &mut [u64; 3],
 ) -> u8
-    ensures { λ r. ⌜ Ask (now (body .entry)) t (question edition name) (now (literals .entry)) (now (field .entry)) (now (field .exit)) r (now (matched .exit)) (now (fault .exit)) ⌝ }
+    ensures { λ r. ⌜ Ask (now (body .entry)) t (question edition name) (now (literals .entry)) (now (field .entry)) (now (field .exit))
+        r (now (matched .exit)) (now (fault .exit)) ⌝ }
 {
     answered(
         bitmap_index::ask(body, t, Question { edition, name }, literals, field),
