@@ -1,6 +1,6 @@
 -- Ask, stage by stage: the question, the audit, then the rows of the chosen entries and their count.
 use Prim.Native.Nat.{ℕ, zero, suc, _<_, _≤_}
-use mathlib.Core.Path.{_≡_, refl, sym, _∙_}
+use mathlib.Core.Path.{_≡_, refl, sym, ap, _∙_}
 use mathlib.Core.Logic.{_⊎_, ⊎-elim}
 use mathlib.Core.Bool.{Bool, true, false, cond}
 use mathlib.Core.List.{List, []}
@@ -13,6 +13,8 @@ use Rattle.refusal.specs.declared.Refusal.{Refusal}
 use Rattle.refusal.specs.declared.Refusal.the-variants.{Literal, Limit}
 use Rattle.refusal.specs.Reading.{Out, refuse, ok, check, andThen, numbersOf, faultIn}
 use Rattle.row_field.specs.Meaning.{cleared, count, size}
+use Rattle.subtract.specs.declared.Record.{Record}
+use Rattle.subtract.specs.Meaning.{recordNumbers, noRecord, keeps}
 use Rattle.hash_table.specs.Promises.{slot}
 use Rattle.hash_table.proofs.Chaining.{holds-none}
 use Rattle.stored_value.specs.declared.Counted.{Counted}
@@ -26,15 +28,15 @@ use Rattle.dictionary.specs.declared.Checked.the-variants.{Found}
 use Rattle.dictionary.specs.declared.Summary.{Summary}
 use Rattle.dictionary.specs.Reading.{Dictionary}
 use Rattle.bitmap_index.specs.declared.Question.{Question}
-use Rattle.bitmap_index.specs.Meaning.{isIn, notIn, isNull, questions, firstEdition, secondEdition, knownEdition, takes, keeps}
-use Rattle.bitmap_index.specs.Reading.{prepared, audited, zeroedFrom, chosenOf, markEntries, Answer, answered, auditedAnswer, wellFormed, ask, answerBuffer, askBuffer, auditedBy, answeredBy, askOut, askNumbers, askFault}
-use Rattle.bitmap_index.specs.declared.Audited.{Audited}
-use Rattle.bitmap_index.specs.declared.Audited.the-variants.{Rows}
+use Rattle.bitmap_index.specs.Meaning.{isIn, notIn, isNull, questions, firstEdition, secondEdition, knownEdition, takes, nullRows}
+use Rattle.bitmap_index.specs.Reading.{prepared, audited, zeroedFrom, chosenOf, markEntries, markedFor, matchedFor, Answer, answered, auditedAnswer, wellFormed, ask, answerBuffer, askBuffer, answeredBy, askOut, askNumbers, askFault}
+use Rattle.bitmap_index.specs.declared.BitmapsAudited.{BitmapsAudited}
+use Rattle.bitmap_index.specs.declared.BitmapsAudited.the-variants.{Nulls}
 use Rattle.bitmap_index.specs.declared.Answered.{Answered}
 use Rattle.bitmap_index.specs.declared.Answered.the-variants.{Skip, Keep}
 use Rattle.bitmap_index.specs.declared.Outcome.{Outcome}
 use Rattle.bitmap_index.specs.declared.Outcome.the-variants.{Done}
-use Rattle.bitmap_index.specs.Promises.{AskPromise, ForDictionary, Prepares, Asked, TestsQuestion, Lookup, AuditsField, Answers, AnswersField}
+use Rattle.bitmap_index.specs.Promises.{AskPromise, ForDictionary, Prepares, Asked, TestsQuestion, Lookup, FindsNulls, AuditsField, Answers, AnswersField}
 use Rattle.bitmap_index.proofs.AcceptedStages.{asked-back}
 use Rattle.bitmap_index.proofs.Auditing.{zeroed-again}
 
@@ -153,64 +155,65 @@ may-enter t q s body w =
 -- ---- the chosen entries
 
 module _ (q : Question) (ls : List (List ℕ)) (d : Dictionary) (f : List ℕ) {after : List ℕ} (m : after ≡ markEntries (d .region) (chosenOf q ls (d .entries)) f)
-    {k : ℕ} (o : k ≡ count after (d .rows)) where
-  pub zero-skip : k ≡ 0 → Answers (ok (answered q ls d f)) (cleared (d .rows) f) after Skip
-  unfolding answered answeredBy answerBuffer keeps
-  zero-skip h = record { answer = rw (← m, ← o, eq-eqb k 0 h); buffer = m }
+    {k nulls : ℕ} (o : k ≡ count after (d .rows)) (z : nulls ≡ matchedFor nullRows [] d f) where
+  abbrev its-record : Record
+  its-record = record { rows = d .rows; nulls = nulls; deleted = 0; matched = k }
 
-  pub zero-keep : (k ≡ 0 → ⊥) → Answers (ok (answered q ls d f)) (cleared (d .rows) f) after (Keep k)
+  is-marked : after ≡ markedFor q ls d f
+  unfolding markedFor
+  is-marked = m
+
+  is-matched : k ≡ matchedFor q ls d f
+  unfolding matchedFor
+  is-matched = o ∙ ap (λ (g : List ℕ). count g (d .rows)) is-marked
+
+  pub zero-skip : k ≡ 0 → Answers (ok (answered q ls d f)) (cleared (d .rows) f) after (Skip its-record)
   unfolding answered answeredBy answerBuffer keeps
-  zero-keep h = record { answer = rw (← m, ← o, ne-eqb k 0 h); buffer = m }
+  zero-skip h = record { answer = rw (← is-matched, ← z, eq-eqb k 0 h); buffer = is-marked }
+
+  pub zero-keep : (k ≡ 0 → ⊥) → Answers (ok (answered q ls d f)) (cleared (d .rows) f) after (Keep its-record)
+  unfolding answered answeredBy answerBuffer keeps
+  zero-keep h = record { answer = rw (← is-matched, ← z, ne-eqb k 0 h); buffer = is-marked }
 
 -- ---- after the audit
 
-audit-refused : {r : Refusal} (o : Out Refusal ℕ) → auditedBy o ≡ Audited.Refused r → o ≡ refuse r
-unfolding auditedBy
-audit-refused (refuse r) e = cc
-audit-refused (ok n) e = absurd (let w : _≡_ {A = ℕ} 0 1 = cc in omega arith)
+pub then-accepted : (d : Dictionary) (f : List ℕ) {a : BitmapsAudited} {mid : List ℕ} → AuditsField d f mid a → {n : ℕ} → a ≡ Nulls n → FindsNulls d mid (Nulls n)
+then-accepted d f w e = rw (w .buffer) (rw e at (w .outcome))
 
-audit-accepted : {n : ℕ} (o : Out Refusal ℕ) → auditedBy o ≡ Rows n → o ≡ ok n
-unfolding auditedBy
-audit-accepted (refuse r) e = absurd (let w : _≡_ {A = ℕ} 0 1 = cc in omega arith)
-audit-accepted (ok n) e = cc
-
-pub then-accepted : (d : Dictionary) (f : List ℕ) {a : Audited} {mid : List ℕ} → AuditsField d f mid a → {n : ℕ} → a ≡ Rows n → audited d mid ≡ ok n
-then-accepted d f w e = rw (w .buffer) (audit-accepted (audited d (cleared (d .rows) f)) (sym (w .answer) ∙ e))
-
-module _ (q : Question) (ls : List (List ℕ)) (d : Dictionary) (f : List ℕ) {a : Audited} {mid : List ℕ} (w : AuditsField d f mid a) where
-  pub not-audited : {r : Refusal} → a ≡ Audited.Refused r
+module _ (q : Question) (ls : List (List ℕ)) (d : Dictionary) (f : List ℕ) {a : BitmapsAudited} {mid : List ℕ} (w : AuditsField d f mid a) where
+  pub not-audited : {r : Refusal} → a ≡ BitmapsAudited.Refused r
       → Answers (auditedAnswer q ls d (cleared (d .rows) f)) (cleared (d .rows) f) mid (Answered.Refused r)
   unfolding auditedAnswer andThen answeredBy answerBuffer
-  not-audited e =
-      let z = audit-refused (audited d (cleared (d .rows) f)) (sym (w .answer) ∙ e) in
+  not-audited {r} e =
+      let z : audited d (cleared (d .rows) f) ≡ refuse r = rw e at (w .outcome) in
       record { answer = rw z; buffer = rw z (w .buffer) }
 
-  pub then-answered : {n : ℕ} → a ≡ Rows n → {r : Answered} {after : List ℕ} → Answers (ok (answered q ls d mid)) (cleared (d .rows) mid) after r
+  pub then-answered : {n : ℕ} → a ≡ Nulls n → {r : Answered} {after : List ℕ} → Answers (ok (answered q ls d mid)) (cleared (d .rows) mid) after r
       → Answers (auditedAnswer q ls d (cleared (d .rows) f)) (cleared (d .rows) f) after r
   unfolding auditedAnswer andThen
   then-answered e {r} {after} p =
-      let z = audit-accepted (audited d (cleared (d .rows) f)) (sym (w .answer) ∙ e) in
+      let z = rw e at (w .outcome) in
       let g = rw (w .buffer, zeroed-again (size (d .rows)) f) at p in
-      rw z g
+      rw (z .0) g
 
 -- ---- the whole
 
--- the number and the count are those of the answer, and so is the fault
-ask-numbers : (o : Out Refusal Answer) → askOut (answeredBy o) ≡ numbersOf 0 askNumbers o
-unfolding askOut numbersOf answeredBy keeps
+-- the number and the record are those of the answer, and so is the fault
+ask-numbers : (o : Out Refusal Answer) → askOut (answeredBy o) ≡ numbersOf noRecord askNumbers o
+unfolding askOut numbersOf answeredBy
 ask-numbers (refuse r) = refl
-ask-numbers (ok b) = counts (b .matched)
+ask-numbers (ok b) = either (keeps (b .said .matched))
   where
-    counts : (n : ℕ) → askOut (cond (keeps n) (Keep n) Skip) ≡ (0, n)
-    counts zero = refl
-    counts (suc n) = rw (ne-eqb (suc n) 0 (λ q. omega arith))
+    either : (kept : Bool) → askOut (cond kept (Keep (b .said)) (Skip (b .said))) ≡ (0, recordNumbers (b .said))
+    either true = refl
+    either false = refl
 
 ask-fault : (o : Out Refusal Answer) → askFault (answeredBy o) ≡ faultIn o
 unfolding askFault faultIn answeredBy
 ask-fault (refuse r) = refl
-ask-fault (ok b) = none (keeps (b .matched))
+ask-fault (ok b) = none (keeps (b .said .matched))
   where
-    none : (kept : Bool) → askFault (cond kept (Keep (b .matched)) Skip) ≡ noFault
+    none : (kept : Bool) → askFault (cond kept (Keep (b .said)) (Skip (b .said))) ≡ noFault
     none true = refl
     none false = refl
 

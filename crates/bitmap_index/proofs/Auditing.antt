@@ -7,6 +7,7 @@ use native.Mathlib.Omega.{arith}
 use lib.Dec.{leb}
 use lib.ListN.{length}
 use borrow.Author.Tests.{eq-eqb, ne-eqb, le-leb, lt-leb}
+use Rattle.numbers.specs.Meaning.{Bytes}
 use Rattle.numbers.specs.declared.Row.{Row}
 use Rattle.refusal.specs.Meaning.{limit}
 use Rattle.refusal.specs.declared.Refusal.{Refusal}
@@ -19,14 +20,17 @@ use Rattle.dictionary.specs.declared.Checked.the-variants.{Found}
 use Rattle.dictionary.specs.declared.Summary.{Summary}
 use Rattle.dictionary.specs.Reading.{Dictionary, dictionary}
 use Rattle.dictionary.specs.Layout.{Entry}
-use Rattle.dictionary.specs.Promises.{dictionaryOf, IsRead, ReadsDictionary}
+use Rattle.dictionary.specs.Promises.{dictionaryOf, Summarizes, IsRead, ReadsDictionary}
 use Rattle.bitmap_index.specs.Reading.{firstNumber, roomFor, prepared, audited, audit, zeroedFrom, auditBuffer, auditedBy, auditOut, auditNumbers, auditFault}
 use Rattle.bitmap_index.specs.declared.Audited.{Audited}
 use Rattle.bitmap_index.specs.declared.Audited.the-variants.{Rows}
+use Rattle.bitmap_index.specs.declared.BitmapsAudited.{BitmapsAudited}
+use Rattle.bitmap_index.specs.declared.BitmapsAudited.the-variants.{Nulls}
 use Rattle.bitmap_index.specs.declared.Placing.{Placing}
 use Rattle.bitmap_index.specs.declared.Placing.the-variants.{Placed}
 use Rattle.bitmap_index.specs.Promises.{AuditPromise, ForDictionary, Prepares, Ready, Places, placeIn, PlacesNull, AuditsZero, AuditsField}
 use Rattle.bitmap_index.proofs.PlacingEntries.{null-refused, values-refused, both-placed}
+use Rattle.bitmap_index.proofs.NullRows.{nulls-counted}
 use Rattle.bitmap_index.proofs.AcceptedStages.{prepared-back}
 
 -- null's rows, then the values'
@@ -34,18 +38,18 @@ module _ (h : Summary) (body f : List ℕ) {r : Placing} {mid : List ℕ} (p : P
   abbrev read : Dictionary
   read = dictionaryOf body h es
 
-  pub nulls-refuse : {why : Refusal} → r ≡ Placing.Refused why → AuditsZero read f mid (Audited.Refused why)
-  unfolding audited auditedBy andThen
+  pub nulls-refuse : {why : Refusal} → r ≡ Placing.Refused why → AuditsZero read f mid (BitmapsAudited.Refused why)
+  unfolding audited andThen
   nulls-refuse e =
       let w = null-refused h body f p e es in
-      record { answer = rw (w .outcome); behind = w .behind }
+      record { outcome = rw (w .outcome); behind = w .behind }
 
   module _ {n : ℕ} (e : r ≡ Placed n) {r′ : Placing} {after : List ℕ} (q : Places (h .rows) (placeIn firstNumber body h es) mid after r′) where
-    pub values-refuse : {why : Refusal} → r′ ≡ Placing.Refused why → AuditsZero read f after (Audited.Refused why)
-    unfolding audited auditedBy andThen
+    pub values-refuse : {why : Refusal} → r′ ≡ Placing.Refused why → AuditsZero read f after (BitmapsAudited.Refused why)
+    unfolding audited andThen
     values-refuse t =
         let w = values-refused h body f p e es q t in
-        record { answer = rw (w .outcome); behind = w .behind }
+        record { outcome = rw (w .outcome); behind = w .behind }
 
     -- in a field with no row set, as many were placed as are then set
     module _ {m : ℕ} (t : r′ ≡ Placed m) (z : count f (h .rows) ≡ 0) where
@@ -55,18 +59,18 @@ module _ (h : Summary) (body f : List ℕ) {r : Placing} {mid : List ℕ} (p : P
       pub nulls-fit : n ≤ h .rows
       nulls-fit = omega (arith, so-many, count-le after (h .rows))
 
-      pub some-missing : (m ≡ h .rows - n → ⊥) → {low : Row} → low .0 ≡ firstClear after 0 (h .rows) → AuditsZero read f after (Audited.Refused (Missing low))
-      unfolding audited auditedBy andThen check
+      pub some-missing : (m ≡ h .rows - n → ⊥) → {low : Row} → low .0 ≡ firstClear after 0 (h .rows) → AuditsZero read f after (BitmapsAudited.Refused (Missing low))
+      unfolding audited andThen check
       some-missing l {low} first =
           let w = both-placed h body f p e es q t in
-          record { answer = rw (w .outcome .0, so-many, ne-eqb (n + m) (h .rows) (λ i. l (omega arith)), ← first); behind = w .behind }
+          record { outcome = rw (w .outcome .0, so-many, ne-eqb (n + m) (h .rows) (λ i. l (omega arith)), ← first); behind = w .behind }
 
-      pub none-missing : m ≡ h .rows - n → AuditsZero read f after (Rows (h .rows))
-      unfolding audited auditedBy andThen check
-      none-missing l =
+      pub none-missing : m ≡ h .rows - n → (k : ℕ) → Bytes body → Summarizes k body h es → AuditsZero read f after (Nulls n)
+      unfolding audited andThen check
+      none-missing l k b s =
           let w = both-placed h body f p e es q t in
           let i : n + m ≡ h .rows = omega (arith, nulls-fit) in
-          record { answer = rw (w .outcome .0, so-many, eq-eqb (n + m) (h .rows) i); behind = w .behind }
+          record { outcome = (rw (w .outcome .0, so-many, eq-eqb (n + m) (h .rows) i), nulls-counted k body h es b s f z (rw e at p)); behind = w .behind }
 
 -- ---- the field is clear before, and again after
 
@@ -84,9 +88,9 @@ zero-ready t body h f c y =
       none-counted (cleared (h .rows) f) (h .rows) (λ r l. bit-zeroed (size (h .rows)) f r (omega arith)),
     )
 
-pub then-zero : (d : Dictionary) (f full : List ℕ) {zero after : List ℕ} {r : Audited} → zero ≡ cleared (d .rows) f → AuditsZero d zero full r
+pub then-zero : (d : Dictionary) (f full : List ℕ) {zero after : List ℕ} {r : BitmapsAudited} → zero ≡ cleared (d .rows) f → AuditsZero d zero full r
     → after ≡ cleared (d .rows) full → AuditsField d f after r
-then-zero d f full c w z = record { answer = rw (← c) (w .answer); buffer = z ∙ w .behind ∙ rw c (zeroed-again (size (d .rows)) f) }
+then-zero d f full c w z = record { outcome = rw (← c) (w .outcome); buffer = z ∙ w .behind ∙ rw c (zeroed-again (size (d .rows)) f) }
 
 -- ---- before a byte is written
 
@@ -148,10 +152,19 @@ module _ (t : ℕ) (s f : List ℕ) where
         let d : prepared t s f ≡ refuse r = rw e at w in
         audit-says (rw d) (rw d)
 
-    pub audit-found : {h : Summary} → c ≡ Found h → Prepares t s f c → {r : Audited} {after : List ℕ}
-        → ForDictionary t s h (λ d. AuditsField d f after r) → AuditPromise t s f after r
-    unfolding audit auditBuffer zeroedFrom andThen
-    audit-found {h} e w g =
-        let d : Prepares t s f (Found h) = rw e at w in
-        let z = g (d .0 .entries) (d .0 .summary) in
-        audit-says (rw (d .1) (z .answer)) (rw (d .1) (z .buffer))
+    module _ {h : Summary} (e : c ≡ Found h) (w : Prepares t s f c) {b : BitmapsAudited} {after : List ℕ} (g : ForDictionary t s h (λ d. AuditsField d f after b)) where
+      pub bitmaps-refused : {r : Refusal} → b ≡ BitmapsAudited.Refused r → AuditPromise t s f after (Audited.Refused r)
+      unfolding audit auditBuffer zeroedFrom auditedBy andThen
+      bitmaps-refused {r} i =
+          let d : Prepares t s f (Found h) = rw e at w in
+          let z = g (d .0 .entries) (d .0 .summary) in
+          let o : audited _ _ ≡ refuse r = rw i at (z .outcome) in
+          audit-says (rw (d .1, o)) (rw (d .1) (z .buffer))
+
+      pub bitmaps-sound : {k : ℕ} → b ≡ Nulls k → AuditPromise t s f after (Rows (h .rows))
+      unfolding audit auditBuffer zeroedFrom auditedBy andThen
+      bitmaps-sound {k} i =
+          let d : Prepares t s f (Found h) = rw e at w in
+          let z = g (d .0 .entries) (d .0 .summary) in
+          let o = rw i at (z .outcome) in
+          audit-says (rw (d .1, o .0)) (rw (d .1) (z .buffer))

@@ -19,16 +19,17 @@ use Rattle.row_field.specs.Meaning.{size, bit, count, cleared}
 use Rattle.row_field.proofs.Laws.{bytes-zeros, field-ext}
 use Rattle.row_field.proofs.Marks.{bytes-markAll, none-set}
 use Rattle.row_field.proofs.Counts.{count-field, none-counted}
-use Rattle.subtract.specs.Meaning.{subtracted, removed}
+use Rattle.subtract.specs.Meaning.{subtracted, removed, keeps}
 use Rattle.subtract.proofs.Laws.{bytes-without}
+use Rattle.subtract.proofs.Restating.{none-left}
 use Rattle.subtract.proofs.Theorems.{clears-just-the-rows, keeps-the-length, left-and-removed}
 use Rattle.stored_value.specs.Meaning.{types, mostLiterals, Cell, null, value}
 use Rattle.stored_value.specs.Reading.{literals}
 use Rattle.dictionary.specs.Layout.{Entry}
 use Rattle.dictionary.specs.Reading.{Dictionary}
 use Rattle.bitmap_index.specs.declared.Question.{Question}
-use Rattle.bitmap_index.specs.Meaning.{notEqual, notIn, isNull, firstEdition, secondEdition, knownEdition, question, chosen, takes, scan, keeps}
-use Rattle.bitmap_index.specs.Reading.{prepared, zeroedFrom, chosenOf, answered, auditedAnswer, wellFormed, ask, answerBuffer, askBuffer}
+use Rattle.bitmap_index.specs.Meaning.{notEqual, notIn, isNull, firstEdition, secondEdition, knownEdition, question, chosen, takes, scan, nullRows}
+use Rattle.bitmap_index.specs.Reading.{prepared, zeroedFrom, chosenOf, markedFor, matchedFor, answered, auditedAnswer, wellFormed, ask, answerBuffer, askBuffer}
 use Rattle.bitmap_index.specs.Claims.{IsWithout}
 use Rattle.bitmap_index.proofs.Rows.{rowsWhere, passes, all-cells, rows-ext, rows-rising}
 use Rattle.bitmap_index.proofs.ScanAnswers.{scanned}
@@ -62,14 +63,7 @@ row-without n r x y z e h = go (decLt r n)
         let b : z ≡ false = h (omega arith) in
         rw (le-ltb r n (omega arith)) (e ∙ rw b)
 
-both-off : (x y : Bool) → (x ≡ true → y ≡ true) → x && not y ≡ false
-both-off true y h = rw (h refl)
-both-off false y h = refl
-
 -- ---- the second edition is the first without the rows of IS NULL
-
-abbrev nulls : Question
-nulls = question firstEdition isNull
 
 module _ (name : ℕ) where
   abbrev first : Question
@@ -79,7 +73,7 @@ module _ (name : ℕ) where
   second = question secondEdition name
 
   module _ (ls : List (List ℕ)) (other : name ≡ isNull → ⊥) where
-    cell-without : (c : Cell) → chosen second ls c ≡ chosen first ls c && not (chosen nulls [] c)
+    cell-without : (c : Cell) → chosen second ls c ≡ chosen first ls c && not (chosen nullRows [] c)
     unfolding chosen
     cell-without null = rw (ne-eqb name isNull other) (go (eqb name notEqual || eqb name notIn))
       where
@@ -88,7 +82,7 @@ module _ (name : ℕ) where
         go false = refl
     cell-without (value v) = sym (and-true _)
 
-    passes-without : (r : ℕ) (cells : List Cell) → passes (chosen second ls) r cells ≡ passes (chosen first ls) r cells && not (passes (chosen nulls []) r cells)
+    passes-without : (r : ℕ) (cells : List Cell) → passes (chosen second ls) r cells ≡ passes (chosen first ls) r cells && not (passes (chosen nullRows []) r cells)
     passes-without r [] = refl
     passes-without zero (c ∷ cells) = cell-without c
     passes-without (suc r) (c ∷ cells) = passes-without r cells
@@ -101,12 +95,12 @@ module _ (name : ℕ) where
       f = scan first ls cells .field
 
       abbrev g : List ℕ
-      g = scan nulls [] cells .field
+      g = scan nullRows [] cells .field
 
       bit-without : (r : ℕ) → r / 8 < size n → bit (scan second ls cells .field) r ≡ bit (subtracted n f g) r
       bit-without r h =
-          rw (clears-just-the-rows n f g r, scan-bit second ls cells r h, scan-bit first ls cells r h, scan-bit nulls [] cells r h)
-          (row-without n r _ (passes (chosen first ls) r cells) (passes (chosen nulls []) r cells) (passes-without r cells) (λ l. passes-past (chosen nulls []) r cells l))
+          rw (clears-just-the-rows n f g r, scan-bit second ls cells r h, scan-bit first ls cells r h, scan-bit nullRows [] cells r h)
+          (row-without n r _ (passes (chosen first ls) r cells) (passes (chosen nullRows []) r cells) (passes-without r cells) (λ l. passes-past (chosen nullRows []) r cells l))
 
       field-without : scan second ls cells .field ≡ subtracted n f g
       field-without =
@@ -114,32 +108,17 @@ module _ (name : ℕ) where
           field-ext (scan second ls cells .field) (subtracted n f g) (scan-bytes second ls cells) (bytes-without f _ (scan-bytes first ls cells))
           (s ∙ sym (keeps-the-length n f g ∙ scan-length first ls cells)) (λ r h. bit-without r (omega (arith, s)))
 
-      count-without : scan second ls cells .matched + removed n f g ≡ scan first ls cells .matched
-      count-without =
-          let e : scan second ls cells .matched ≡ count (subtracted n f g) n =
-          sym (scan-count second ls cells) ∙ ap (λ (x : List ℕ). count x n) field-without in
-          rw e (left-and-removed n f g ∙ scan-count first ls cells)
+      left-is : scan second ls cells .matched ≡ count (subtracted n f g) n
+      left-is = sym (scan-count second ls cells) ∙ ap (λ (x : List ℕ). count x n) field-without
 
-      row-left : (r : ℕ) → r < n → bit (scan second ls cells .field) r ≡ bit f r && not (bit g r)
-      row-left r h = bit-without r (omega arith) ∙ clears-just-the-rows n f g r ∙ rw (lt-ltb r n h)
+      count-without : scan second ls cells .matched + removed n f g ≡ scan first ls cells .matched
+      count-without = rw left-is (left-and-removed n f g ∙ scan-count first ls cells)
 
       -- nothing is left exactly if each row of the first is a null row
       skip-without : (keeps (scan second ls cells .matched) ≡ false) ↔ ((r : ℕ) → r < n → bit f r ≡ true → bit g r ≡ true)
-      unfolding keeps
-      skip-without =
-          let m : ℕ = scan second ls cells .matched in
-          let s : List ℕ = scan second ls cells .field in
-          let e = scan-count second ls cells in (
-            λ h r l y.
-                let z : m ≡ 0 = eqb-true m 0 (not-false _ h) in
-                let o : bit s r ≡ false = none-set s n (e ∙ z) r l in
-                not-false _ (rw y at (sym (row-left r l) ∙ o)),
-            λ h.
-                let z : m ≡ 0 = sym e ∙ none-counted s n (λ r l. row-left r l ∙ both-off (bit f r) (bit g r) (h r l)) in
-                rw (eq-eqb m 0 z),
-          )
+      skip-without = rw left-is (none-left n f g)
 
-      pub is-without : IsWithout n (scan second ls cells) (scan first ls cells) (scan nulls [] cells)
+      pub is-without : IsWithout n (scan second ls cells) (scan first ls cells) (scan nullRows [] cells)
       is-without = record { field = field-without; count = count-without; skip = skip-without }
 
   -- ---- the questions that choose null in both editions or in neither
@@ -166,7 +145,7 @@ module _ (name : ℕ) where
     same-chosen ls (x ∷ es) = rw (same-cell ls (x .cell), same-chosen ls es)
 
     same-answer : (ls : List (List ℕ)) (d : Dictionary) (f : List ℕ) → auditedAnswer second ls d f ≡ auditedAnswer first ls d f
-    unfolding auditedAnswer answered
+    unfolding auditedAnswer answered markedFor matchedFor
     same-answer ls d f = rw (same-chosen ls (d .entries))
 
     module _ (t : ℕ) (literal body field : List ℕ) where

@@ -17,8 +17,9 @@ pub mod Offsets
 pub mod PlacingRows
 pub mod Walking
 pub mod PlacingEntries
+pub mod Marking
+pub mod NullRows
 pub mod Auditing
 pub mod Choosing
-pub mod Marking
 pub mod Answering
 pub mod Asking

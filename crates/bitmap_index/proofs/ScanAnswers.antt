@@ -21,9 +21,9 @@ use Rattle.stored_value.proofs.Laws.{sameCell→eq, sameCell-sym}
 use Rattle.dictionary.specs.Layout.{Entry, someHas}
 use Rattle.dictionary.specs.Claims.{Once}
 use Rattle.bitmap_index.specs.declared.Question.{Question}
-use Rattle.bitmap_index.specs.Meaning.{chosen, scan, scanFrom}
+use Rattle.bitmap_index.specs.Meaning.{chosen, scan, scanFrom, nullRows, scanRecord}
 use Rattle.bitmap_index.specs.Layout.{rowsWith, EntryRows, ExactRows, Covers}
-use Rattle.bitmap_index.specs.Reading.{nextNumber, firstNumber, placeEntry, placeEntries, audited, chosenOf, rowsAt, markEntries, counted, answered}
+use Rattle.bitmap_index.specs.Reading.{nextNumber, firstNumber, placeEntry, placeEntries, audited, chosenOf, rowsAt, markEntries, markedFor, matchedFor, answered}
 use Rattle.bitmap_index.proofs.LaidRows.{rows-at, place-one}
 use Rattle.bitmap_index.proofs.Rows.{rowsWhere, rows-with, all-cells, rows-ext, rows-none, rows-all, rows-below, Apart, rows-join, Free, rows-free, cleared-free, rows-marked, rows-counted}
 
@@ -170,12 +170,25 @@ module _ (q : Question) (ls : List (List ℕ)) where
   scanned cells = rw zero-add at (scan-from 0 (replicate (size (length cells)) 0) 0 cells)
 
   module _ (cells : List Cell) (es : List Entry) (region field : List ℕ) (w : HasColumn cells es region) (b : Bytes field) (h : size (length cells) ≤ length field) where
-    pub column-answered : answered q ls (record { rows = length cells; entries = es; region = region }) (cleared (length cells) field)
-        ≡ record { buffer = scan q ls cells .field ++ drop (size (length cells)) field; matched = scan q ls cells .matched }
-    unfolding answered
-    column-answered =
+    column-rows : markedFor q ls (record { rows = length cells; entries = es; region = region }) (cleared (length cells) field)
+        ≡ markAll (cleared (length cells) field) (rowsWhere (chosen q ls) 0 cells)
+    unfolding markedFor
+    column-rows =
         let zero : List ℕ = cleared (length cells) field in
         let p : Cell → Bool = λ c. someHas c (chosenOf q ls es) in
-        let e : rowsWhere p 0 cells ≡ rowsWhere (chosen q ls) 0 cells = rows-ext p (chosen q ls) 0 cells (chosen-covers es cells (w .covers)) in
-        ap (counted (length cells)) (marked-all region cells zero (w .short) (bytes-zeroed (size (length cells)) field b) (chosenOf q ls es) (chosen-placed region cells es (w .placed)))
-        ∙ rw (scanned cells, e, rows-counted (chosen q ls) cells field h, rows-marked (chosen q ls) cells field h)
+        marked-all region cells zero (w .short) (bytes-zeroed (size (length cells)) field b) (chosenOf q ls es) (chosen-placed region cells es (w .placed))
+        ∙ ap (λ (rs : List ℕ). markAll zero rs) (rows-ext p (chosen q ls) 0 cells (chosen-covers es cells (w .covers)))
+
+    column-marked : markedFor q ls (record { rows = length cells; entries = es; region = region }) (cleared (length cells) field)
+        ≡ scan q ls cells .field ++ drop (size (length cells)) field
+    column-marked = column-rows ∙ rw (scanned cells) (rows-marked (chosen q ls) cells field h)
+
+    column-matched : matchedFor q ls (record { rows = length cells; entries = es; region = region }) (cleared (length cells) field) ≡ scan q ls cells .matched
+    unfolding matchedFor
+    column-matched = ap (λ (f : List ℕ). count f (length cells)) column-rows ∙ rw (scanned cells) (rows-counted (chosen q ls) cells field h)
+
+module _ (q : Question) (ls : List (List ℕ)) (cells : List Cell) (es : List Entry) (region field : List ℕ) (w : HasColumn cells es region) (b : Bytes field) (h : size (length cells) ≤ length field) where
+  pub column-answered : answered q ls (record { rows = length cells; entries = es; region = region }) (cleared (length cells) field)
+      ≡ record { buffer = scan q ls cells .field ++ drop (size (length cells)) field; said = scanRecord q ls cells }
+  unfolding answered scanRecord
+  column-answered = rw (column-marked q ls cells es region field w b h, column-matched q ls cells es region field w b h, column-matched nullRows [] cells es region field w b h)

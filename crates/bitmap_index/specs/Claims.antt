@@ -15,7 +15,7 @@ use Rattle.refusal.specs.declared.Refusal.the-variants.{Short, Magic, Version, 
 use Rattle.refusal.specs.Reading.{refuse, ok, check, andThen}
 use Rattle.refusal.specs.Claims.{CarriesNothing}
 use Rattle.row_field.specs.Meaning.{size, bit, cleared, Below}
-use Rattle.subtract.specs.Meaning.{subtracted, removed}
+use Rattle.subtract.specs.Meaning.{subtracted, removed, keeps}
 use Rattle.roaring.specs.declared.Extent.{Extent}
 use Rattle.roaring.specs.declared.Extent.the-variants.{AsLong, Exactly}
 use Rattle.roaring.specs.Faults.{Broken}
@@ -24,15 +24,15 @@ use Rattle.dictionary.specs.Layout.{Entry}
 use Rattle.dictionary.specs.Reading.{Dictionary, dictionary}
 use Rattle.dictionary.specs.Claims.{Once}
 use Rattle.bitmap_index.specs.declared.Question.{Question}
-use Rattle.bitmap_index.specs.Meaning.{notEqual, notIn, isNull, firstEdition, secondEdition, knownEdition, question, WellFormed, Scanned, scan, keeps}
+use Rattle.bitmap_index.specs.Meaning.{notEqual, notIn, isNull, firstEdition, secondEdition, knownEdition, question, WellFormed, Scanned, scan, nullRows, scanRecord}
 use Rattle.bitmap_index.specs.Layout.{EntryRows, ColumnBody}
 use Rattle.bitmap_index.specs.Reading.{prepared, audit, auditBuffer, wellFormed, Answer, ask, askBuffer}
 
 -- ---- Demand 3, from a body to its answers. A reading that refuses everything does not have it
 
--- the answer of a column's scan in a lent buffer: the scan's field, what lies behind it as it was, and the scan's count
+-- the answer of a column's scan in a lent buffer: the scan's field, what lies behind it as it was, and the scan's record
 abbrev pub scanAnswer : Question → List (List ℕ) → List Cell → List ℕ → Answer
-scanAnswer q ls cells buffer = record { buffer = scan q ls cells .field ++ drop (size (length cells)) buffer; matched = scan q ls cells .matched }
+scanAnswer q ls cells buffer = record { buffer = scan q ls cells .field ++ drop (size (length cells)) buffer; said = scanRecord q ls cells }
 
 -- Audit finds all rows and leaves the field zero, and Ask answers every well-formed question, of either edition, as the scan does (02, Ticket 4: "Demands 2 and 3
 -- hold for each edition, whose rule the scan then follows")
@@ -123,7 +123,7 @@ pub record IsWithout (n : ℕ) (second first nulls : Scanned) : Type 0 where
 abbrev pub SecondIsFirstWithoutNulls : Type 0
 SecondIsFirstWithoutNulls =
     (name : ℕ) (ls : List (List ℕ)) (cells : List Cell) → (name ≡ isNull → ⊥)
-    → IsWithout (length cells) (scan (question secondEdition name) ls cells) (scan (question firstEdition name) ls cells) (scan (question firstEdition isNull) [] cells)
+    → IsWithout (length cells) (scan (question secondEdition name) ls cells) (scan (question firstEdition name) ls cells) (scan nullRows [] cells)
 
 -- "2 drops null rows from NOT EQUAL and NOT IN", and from no other: IS NULL "stays", and so do EQUAL, IN and IS NOT NULL
 abbrev pub OthersStay : Type 0

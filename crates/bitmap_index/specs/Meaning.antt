@@ -1,4 +1,5 @@
--- What a column is, which of its rows a question chooses, and the plain scan that answers it (01, "Questions"; 02, Ticket 4). Nothing here knows an index.
+-- What a column is, which of its rows a question chooses, and the plain scan that answers it (01, "Questions"; 02, Tickets 4 and 7). Nothing here knows an
+-- index.
 use mathlib.Core.Path.{_≡_}
 use Prim.Native.Nat.{ℕ, _+_, _<_, _≤_}
 use mathlib.Core.Bool.{Bool, true, not, _||_, cond}
@@ -6,6 +7,7 @@ use mathlib.Core.List.{List, [], _∷_}
 use lib.Dec.{eqb, ltb}
 use lib.ListN.{length, replicate}
 use Rattle.row_field.specs.Meaning.{size, mark}
+use Rattle.subtract.specs.declared.Record.{Record}
 use Rattle.stored_value.specs.Meaning.{types, mostLiterals, Cell, null, value, Value, listed, Literals}
 use Rattle.bitmap_index.specs.declared.Question.{Question}
 
@@ -93,6 +95,12 @@ scanFrom q ls r field matched (c ∷ cells) =
 unfoldable pub scan : Question → List (List ℕ) → List Cell → Scanned
 scan q ls cells = scanFrom q ls 0 (replicate (size (length cells)) 0) 0 cells
 
--- "In the end a count of 0 says skip, any other keep"
-unfoldable pub keeps : ℕ → Bool
-keeps matched = not (eqb matched 0)
+-- "In the end a count of 0 says skip, any other keep": subtract's `keeps`
+
+-- the question whose rows are the null rows. It chooses the same in both editions
+abbrev pub nullRows : Question
+nullRows = question firstEdition isNull
+
+-- what the scan says of the column in numbers: its row count, its null rows, whatever is asked, no deleted rows, and the rows that match
+unfoldable pub scanRecord : Question → List (List ℕ) → List Cell → Record
+scanRecord q ls cells = record { rows = length cells; nulls = scan nullRows [] cells .matched; deleted = 0; matched = scan q ls cells .matched }

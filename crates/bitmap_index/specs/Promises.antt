@@ -1,13 +1,14 @@
 -- What contracts say, in the reading's terms: of Audit and Ask, then of the functions that they are made of.
 use mathlib.Core.Path.{_≡_}
 use Prim.Native.Nat.{ℕ, _+_, _<_, _≤_}
-use mathlib.Core.List.{List, _++_}
+use mathlib.Core.List.{List, [], _++_}
 use lib.IntN.{ℤ, pos, negsuc}
 use lib.ListN.{length, drop}
 use Rattle.numbers.specs.Meaning.{All, same, signed32}
 use Rattle.refusal.specs.declared.Refusal.{Refusal}
 use Rattle.refusal.specs.Reading.{Out, refuse, ok, numbersOf, faultIn}
 use Rattle.row_field.specs.Meaning.{size, count, cleared}
+use Rattle.subtract.specs.Meaning.{noRecord}
 use Rattle.roaring.specs.Promises.{SoundBelow}
 use Rattle.stored_value.specs.Meaning.{listed}
 use Rattle.stored_value.specs.Promises.{Entered}
@@ -21,14 +22,16 @@ use Rattle.dictionary.specs.Reading.{Dictionary}
 use Rattle.bitmap_index.specs.declared.Question.{Question}
 use Rattle.bitmap_index.specs.declared.Audited.{Audited}
 use Rattle.bitmap_index.specs.declared.Answered.{Answered}
+use Rattle.bitmap_index.specs.declared.BitmapsAudited.{BitmapsAudited}
+use Rattle.bitmap_index.specs.declared.BitmapsAudited.the-variants.{Nulls}
 use Rattle.bitmap_index.specs.declared.Outcome.{Outcome}
 use Rattle.bitmap_index.specs.declared.Outcome.the-variants.{Done}
 use Rattle.bitmap_index.specs.declared.Placing.{Placing}
 use Rattle.bitmap_index.specs.declared.Placing.the-variants.{Placed}
-use Rattle.bitmap_index.specs.Meaning.{isIn, isNull}
-use Rattle.bitmap_index.specs.Reading.{firstNumber, placeEntries, prepared, audited, audit, auditBuffer, chosenOf, markEntries, Answer, answered, auditedAnswer, wellFormed, ask, answerBuffer, askBuffer, auditedBy, auditOut, auditNumbers, auditFault, answeredBy, askOut, askNumbers, askFault}
+use Rattle.bitmap_index.specs.Meaning.{isIn, isNull, nullRows}
+use Rattle.bitmap_index.specs.Reading.{firstNumber, placeEntries, prepared, audited, audit, auditBuffer, chosenOf, markEntries, matchedFor, Answer, answered, auditedAnswer, wellFormed, ask, answerBuffer, askBuffer, auditedBy, auditOut, auditNumbers, auditFault, answeredBy, askOut, askNumbers, askFault}
 
--- ---- Audit and Ask (01), for any bytes: the answer, what the lent buffer then holds, the answer's number and count, and where its fault is
+-- ---- Audit and Ask (01), for any bytes: the answer, what the lent buffer then holds, the answer's number with its count or record, and where its fault is
 
 pub record AuditPromise (t : ℕ) (body before after : List ℕ) (r : Audited) : Type 0 where
   pub answer : r ≡ auditedBy (audit t body before)
@@ -39,7 +42,7 @@ pub record AuditPromise (t : ℕ) (body before after : List ℕ) (r : Audited) :
 pub record AskPromise (t : ℕ) (q : Question) (literal body before after : List ℕ) (r : Answered) : Type 0 where
   pub answer : r ≡ answeredBy (ask t q literal body before)
   pub buffer : after ≡ askBuffer t q literal body before
-  pub numbers : askOut r ≡ numbersOf 0 askNumbers (ask t q literal body before)
+  pub numbers : askOut r ≡ numbersOf noRecord askNumbers (ask t q literal body before)
   pub fault : askFault r ≡ faultIn (ask t q literal body before)
 
 -- ---- what comes before a byte of the field is written
@@ -145,14 +148,19 @@ MarksAsked t body h q literal before after =
 
 -- ---- what is said once rows are placed or marked
 
--- an audit of the dictionary d in a field that is zero; no byte behind the field has changed
-pub record AuditsZero (d : Dictionary) (zero after : List ℕ) (r : Audited) : Type 0 where
-  pub answer : r ≡ auditedBy (audited d zero)
+-- what an audit of the dictionary d comes to in a field that is zero: a refusal; or it is accepted, and null has so many rows
+abbrev pub FindsNulls : Dictionary → List ℕ → BitmapsAudited → Type 0
+FindsNulls d zero (BitmapsAudited.Refused r) = audited d zero ≡ refuse r
+FindsNulls d zero (Nulls k) = (audited d zero ≡ ok (d .rows)) × (k ≡ matchedFor nullRows [] d zero)
+
+-- no byte behind the field has changed
+pub record AuditsZero (d : Dictionary) (zero after : List ℕ) (r : BitmapsAudited) : Type 0 where
+  pub outcome : FindsNulls d zero r
   pub behind : cleared (d .rows) after ≡ cleared (d .rows) zero
 
 -- an audit in any field, which it leaves zero
-pub record AuditsField (d : Dictionary) (before after : List ℕ) (r : Audited) : Type 0 where
-  pub answer : r ≡ auditedBy (audited d (cleared (d .rows) before))
+pub record AuditsField (d : Dictionary) (before after : List ℕ) (r : BitmapsAudited) : Type 0 where
+  pub outcome : FindsNulls d (cleared (d .rows) before) r
   pub buffer : after ≡ cleared (d .rows) before
 
 -- what was answered, and what the buffer then holds: `otherwise` where it was refused
@@ -160,10 +168,10 @@ pub record Answers (o : Out Refusal Answer) (otherwise after : List ℕ) (r : An
   pub answer : r ≡ answeredBy o
   pub buffer : after ≡ answerBuffer o otherwise
 
--- an audit in this field accepted the dictionary
-pub record AuditAccepts (t : ℕ) (body : List ℕ) (h : Summary) (zero : List ℕ) : Type 0 where
+-- an audit in this field accepted the dictionary and found so many null rows
+pub record AuditAccepts (t : ℕ) (body : List ℕ) (h : Summary) (zero : List ℕ) (nulls : ℕ) : Type 0 where
   pub is-read : IsRead t body h
-  pub accepts : ForDictionary t body h (λ d. (n : ℕ) × (audited d zero ≡ ok n))
+  pub accepts : ForDictionary t body h (λ d. FindsNulls d zero (Nulls nulls))
 
 -- an answer in a field that is zero, and one in any field, which is audited first: with a refusal the field is zero
 abbrev pub AnswersZero : ℕ → Question → List ℕ → List ℕ → Dictionary → List ℕ → List ℕ → Answered → Type 0

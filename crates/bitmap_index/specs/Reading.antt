@@ -1,5 +1,5 @@
--- What Audit and Ask answer for any bytes (01, "Bitmap body" and "Questions"; 02, Tickets 2 and 4): their stages in 01's order, each begun only where the one
--- before passed.
+-- What Audit and Ask answer for any bytes (01, "Bitmap body" and "Questions"; 02, Tickets 2, 4 and 7): their stages in 01's order, each begun only where the
+-- one before passed.
 use Prim.Native.Nat.{ℕ, _+_}
 use mathlib.Core.Bool.{not, _&&_, cond}
 use mathlib.Core.List.{List, [], _∷_}
@@ -11,6 +11,8 @@ use Rattle.refusal.specs.declared.Refusal.{Refusal}
 use Rattle.refusal.specs.Meaning.{limit, numberOf, noFault, faultOf}
 use Rattle.refusal.specs.declared.Refusal.the-variants.{Bitmap, Range, Twice, Missing, Room, Literal, Limit}
 use Rattle.row_field.specs.Meaning.{size, bit, mark, markAll, anySet, count, firstClear, cleared}
+use Rattle.subtract.specs.declared.Record.{Record}
+use Rattle.subtract.specs.Meaning.{recordNumbers, noRecord, keeps}
 use Rattle.roaring.specs.declared.Extent.{Extent}
 use Rattle.roaring.specs.declared.Extent.the-variants.{AsLong, Exactly}
 use Rattle.roaring.specs.Reading.{containerOf, read, measured, endOf, rowsRead}
@@ -24,7 +26,7 @@ use Rattle.bitmap_index.specs.declared.Audited.the-variants.{Rows}
 use Rattle.bitmap_index.specs.declared.Answered.{Answered}
 use Rattle.bitmap_index.specs.declared.Answered.the-variants.{Skip, Keep}
 use Rattle.bitmap_index.specs.declared.Question.{Question}
-use Rattle.bitmap_index.specs.Meaning.{questions, knownEdition, chosen, takes, keeps}
+use Rattle.bitmap_index.specs.Meaning.{questions, knownEdition, chosen, takes, nullRows}
 
 -- ---- the bitmaps
 
@@ -96,7 +98,7 @@ zeroedFrom (ok d) field = cleared (d .rows) field
 unfoldable pub auditBuffer : ℕ → List ℕ → List ℕ → List ℕ
 auditBuffer t body field = zeroedFrom (prepared t body field) field
 
--- ---- Ask: the literals, the audit, then the rows of each chosen entry in a zero field, and how many they are
+-- ---- Ask: the literals, the audit, then the rows of each chosen entry in a zero field, and the record of the answer
 
 -- the entries whose rows the question chooses
 unfoldable pub chosenOf : Question → List (List ℕ) → List Entry → List Entry
@@ -117,18 +119,24 @@ unfoldable pub markEntries : List ℕ → List Entry → List ℕ → List ℕ
 markEntries region [] field = field
 markEntries region (e ∷ es) field = markEntries region es (markAll field (rowsAt region e))
 
--- what an accepted question leaves in the buffer, and how many rows it chose
+-- what is marked in a field that is zero for a question. An audit comes before, so that BITMAP, RANGE and TWICE aren't tested again
+unfoldable pub markedFor : Question → List (List ℕ) → Dictionary → List ℕ → List ℕ
+markedFor q ls d zero = markEntries (d .region) (chosenOf q ls (d .entries)) zero
+
+-- "Counts are counts of ones in the field": how many rows are then set
+unfoldable pub matchedFor : Question → List (List ℕ) → Dictionary → List ℕ → ℕ
+matchedFor q ls d zero = count (markedFor q ls d zero) (d .rows)
+
+-- what an accepted question leaves in the buffer, and its record
 pub record Answer : Type 0 where
   pub buffer : List ℕ
-  pub matched : ℕ
+  pub said : Record
 
--- "Counts are counts of ones in the field", here of n rows
-abbrev pub counted : ℕ → List ℕ → Answer
-counted n field = record { buffer = field; matched = count field n }
-
--- in a field that is zero: the chosen entries' rows are marked. An audit comes before, so that BITMAP, RANGE and TWICE aren't tested again
+-- 02, Ticket 7: "The answer record gains row count, null rows and deleted rows besides matched rows. Deleted is 0 until deletions are subtracted". Null rows are the
+-- rows of null's entry, whatever is asked
 unfoldable pub answered : Question → List (List ℕ) → Dictionary → List ℕ → Answer
-answered q ls d zero = counted (d .rows) (markEntries (d .region) (chosenOf q ls (d .entries)) zero)
+answered q ls d zero =
+    record { buffer = markedFor q ls d zero; said = record { rows = d .rows; nulls = matchedFor nullRows [] d zero; deleted = 0; matched = matchedFor q ls d zero } }
 
 -- "audits the whole body, then answers"
 unfoldable pub auditedAnswer : Question → List (List ℕ) → Dictionary → List ℕ → Out Refusal Answer
@@ -155,8 +163,9 @@ unfoldable pub askBuffer : ℕ → Question → List ℕ → List ℕ → List �
 askBuffer t q literal body field =
     answerBuffer (ask t q literal body field) (zeroedFrom (andThen (wellFormed t q literal body) (λ ls. prepared t body field)) field)
 
--- ---- the calls' answers, and their numbers: the answer's, 0 for accepted and else the refusal's in 01's table; then the count, 0 with a refusal. What the
--- numbers are is said by refusal's `numbersOf` of the reading, `auditNumbers` and `askNumbers` being those of what was accepted
+-- ---- the calls' answers, and their numbers: the answer's, 0 for accepted and else the refusal's in 01's table; then Audit's row count, or the four of Ask's
+-- record, all 0 with a refusal. What the numbers are is said by refusal's `numbersOf` of the reading, `auditNumbers` and `askNumbers` being those of what was
+-- accepted
 
 -- Audit: a refusal, or the row count
 unfoldable pub auditedBy : Out Refusal ℕ → Audited
@@ -175,20 +184,20 @@ unfoldable pub auditFault : Audited → List ℕ
 auditFault (Audited.Refused r) = faultOf r
 auditFault (Rows n) = noFault
 
--- Ask: a refusal, or skip where no row is chosen, else keep and how many are; skip and keep have the number 0, and a count of 0 is skip
+-- Ask: a refusal, or the record: skip where no row is chosen, else keep; both have the number 0, and a count of 0 is skip
 unfoldable pub answeredBy : Out Refusal Answer → Answered
 answeredBy (refuse r) = Answered.Refused r
-answeredBy (ok a) = cond (keeps (a .matched)) (Keep (a .matched)) Skip
+answeredBy (ok a) = cond (keeps (a .said .matched)) (Keep (a .said)) (Skip (a .said))
 
-unfoldable pub askOut : Answered → ℕ × ℕ
-askOut (Answered.Refused r) = (numberOf r, 0)
-askOut Skip = (0, 0)
-askOut (Keep n) = (0, n)
+unfoldable pub askOut : Answered → ℕ × List ℕ
+askOut (Answered.Refused r) = (numberOf r, noRecord)
+askOut (Skip c) = (0, recordNumbers c)
+askOut (Keep c) = (0, recordNumbers c)
 
-abbrev pub askNumbers : Answer → ℕ × ℕ
-askNumbers a = (0, a .matched)
+abbrev pub askNumbers : Answer → ℕ × List ℕ
+askNumbers a = (0, recordNumbers (a .said))
 
 unfoldable pub askFault : Answered → List ℕ
 askFault (Answered.Refused r) = faultOf r
-askFault Skip = noFault
-askFault (Keep n) = noFault
+askFault (Skip c) = noFault
+askFault (Keep c) = noFault

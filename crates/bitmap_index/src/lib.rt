@@ -1,4 +1,4 @@
-// The bitmap body of one column (document 01, "Bitmap body" and "Questions"; document 02, Tickets 2 and 4): Audit and Ask.
+// The bitmap body of one column (document 01, "Bitmap body" and "Questions"; document 02, Tickets 2, 4 and 7): Audit and Ask.
 ghost use mathlib.Core.Path.{_≡_};
 ghost use mathlib.Core.List.{List, [], _∷_, _++_};
 ghost use Prim.Native.Nat.{ℕ, _≤_};
@@ -22,6 +22,7 @@ use refusal::Refusal;
 use roaring::Extent;
 use roaring::Measured;
 use stored_value::Counted;
+use subtract::Record;
 
 // The names of questions, by number, and how many there are (document 01, "Questions").
 pub const EQUAL: u32 = 0;
@@ -64,11 +65,11 @@ pub enum Audited {
     Rows(u64),
 }
 
-// What Ask answers: a refusal; or that no row is chosen, or how many are.
+// What Ask answers: a refusal; or the record of its answer: skip where no row is chosen, else keep.
 pub enum Answered {
     Refused(Refusal),
-    Skip,
-    Keep(u64),
+    Skip(Record),
+    Keep(Record),
 }
 
 // What a step comes to that has nothing to hand on.
@@ -81,6 +82,12 @@ enum Outcome {
 enum Placing {
     Refused(Refusal),
     Placed(u64),
+}
+
+// What an audit of the bitmaps comes to: a refusal, or how many rows null has.
+enum BitmapsAudited {
+    Refused(Refusal),
+    Nulls(u64),
 }
 
 // Places the single row of an entry in a field for `rows` rows: RANGE, TWICE.
@@ -172,23 +179,27 @@ fn place_at(
     )
 }
 
-// Places null's rows, if it has an entry.
+// Places null's rows, if it has an entry, in a field that is clear, and counts them there.
 fn place_null(field: &mut [u8], body: &[u8], summary: Summary) -> Placing
-    requires { ⌜ (summary .region .0 ≤ length (now body)) × (size (summary .rows) ≤ length (now field)) ⌝ }
+    requires { ⌜ (summary .region .0 ≤ length (now body)) × (size (summary .rows) ≤ length (now field)) × (count (now field) (summary .rows) ≡ 0) ⌝ }
     ensures { λ r. ⌜ PlacesNull (now (body .entry)) summary (now (field .entry)) (now (field .exit)) r ⌝ }
 {
     if !summary.has_null {
         return Placing::Placed(0);
     }
     let region = summary.region.0;
-    place_at(
+    let placing = place_at(
         field,
         &body[region..],
         summary.null_offset,
         summary.null_extent,
         summary.rows,
         NULL_NUMBER,
-    )
+    );
+    match placing {
+        Placing::Refused(r) => Placing::Refused(r),
+        Placing::Placed(_) => Placing::Placed(row_field::count(field, summary.rows)),
+    }
 }
 
 // Places the rows of the values' entries, in their order, and adds up how many they are. They are numbered from 1, with and without a null.
@@ -224,24 +235,24 @@ fn place_values(field: &mut [u8], body: &[u8], summary: Summary, t: u32) -> Plac
 
 // Places the rows of all entries in a field that is clear: null's first, then the values' in their order. None is placed twice, so none is
 // missing exactly if the values have as many rows as null leaves.
-fn audit_zero(field: &mut [u8], body: &[u8], summary: Summary, t: u32) -> Audited
+fn audit_zero(field: &mut [u8], body: &[u8], summary: Summary, t: u32) -> BitmapsAudited
     requires { ⌜ Ready t (now body) summary (now field) × (count (now field) (summary .rows) ≡ 0) ⌝ }
     ensures { λ r. ⌜ ForDictionary t (now (body .entry)) summary (λ d. AuditsZero d (now (field .entry)) (now (field .exit)) r) ⌝ }
 {
     let nulls = place_null(field, body, summary);
     match nulls {
-        Placing::Refused(r) => Audited::Refused(r),
+        Placing::Refused(r) => BitmapsAudited::Refused(r),
         Placing::Placed(n) => {
             let values = place_values(field, body, summary, t);
             match values {
-                Placing::Refused(r) => Audited::Refused(r),
+                Placing::Refused(r) => BitmapsAudited::Refused(r),
                 Placing::Placed(m) => {
                     if m != summary.rows - n {
-                        return Audited::Refused(Refusal::Missing {
+                        return BitmapsAudited::Refused(Refusal::Missing {
                             row: row_field::first_clear(field, summary.rows),
                         });
                     }
-                    Audited::Rows(summary.rows)
+                    BitmapsAudited::Nulls(n)
                 }
             }
         }
@@ -249,7 +260,7 @@ fn audit_zero(field: &mut [u8], body: &[u8], summary: Summary, t: u32) -> Audite
 }
 
 // Audits the bitmaps of a dictionary in a field that has room, and leaves the field zero.
-fn audit_field(field: &mut [u8], body: &[u8], summary: Summary, t: u32) -> Audited
+fn audit_field(field: &mut [u8], body: &[u8], summary: Summary, t: u32) -> BitmapsAudited
     requires { ⌜ Ready t (now body) summary (now field) ⌝ }
     ensures { λ r. ⌜ ForDictionary t (now (body .entry)) summary (λ d. AuditsField d (now (field .entry)) (now (field .exit)) r) ⌝ }
 {
@@ -287,7 +298,13 @@ pub fn audit(body: &[u8], t: u32, field: &mut [u8]) -> Audited
     let prepared = prepare(body, t, field);
     match prepared {
         Checked::Refused(r) => Audited::Refused(r),
-        Checked::Found(summary) => audit_field(field, body, summary, t),
+        Checked::Found(summary) => {
+            let audit = audit_field(field, body, summary, t);
+            match audit {
+                BitmapsAudited::Refused(r) => Audited::Refused(r),
+                BitmapsAudited::Nulls(_) => Audited::Rows(summary.rows),
+            }
+        }
     }
 }
 
@@ -507,7 +524,7 @@ fn mark_asked(
     }
 }
 
-// Marks the rows of each chosen entry in a field that is clear and was audited in, and counts them.
+// Marks the rows of each chosen entry in a field that is clear and was audited in, and counts them. The audit has counted null's.
 fn answer_zero(
     field: &mut [u8],
     body: &[u8],
@@ -515,17 +532,25 @@ fn answer_zero(
     t: u32,
     question: Question,
     literals: &[u8],
+    nulls: u64,
 ) -> Answered
-    requires { ⌜ AuditAccepts t (now body) summary (now field) × Asked t question (now literals) (now body) ⌝ }
+    requires { ⌜ AuditAccepts t (now body) summary (now field) nulls × Asked t question (now literals) (now body) ⌝ }
     ensures { λ r. ⌜ ForDictionary t (now (body .entry)) summary
         (λ d. AnswersZero t question (now (literals .entry)) (now (body .entry)) d (now (field .entry)) (now (field .exit)) r) ⌝ }
 {
     mark_asked(field, body, summary, t, question, literals);
-    let matched = row_field::count(field, summary.rows);
+    let rows = summary.rows;
+    let matched = row_field::count(field, rows);
+    let record = Record {
+        rows,
+        nulls,
+        deleted: 0,
+        matched,
+    };
     if matched == 0 {
-        return Answered::Skip;
+        return Answered::Skip(record);
     }
-    Answered::Keep(matched)
+    Answered::Keep(record)
 }
 
 // Audits the bitmaps of a dictionary in a field that has room, then answers the question.
@@ -543,13 +568,15 @@ fn ask_field(
 {
     let audit = audit_field(field, body, summary, t);
     match audit {
-        Audited::Refused(r) => Answered::Refused(r),
-        Audited::Rows(_) => answer_zero(field, body, summary, t, question, literals),
+        BitmapsAudited::Refused(r) => Answered::Refused(r),
+        BitmapsAudited::Nulls(nulls) => {
+            answer_zero(field, body, summary, t, question, literals, nulls)
+        }
     }
 }
 
-// Ask (document 01): tests the question and its literals, audits the whole body, then says skip where no row is chosen, and else keep and how many are. The
-// rows are then set in the field, and no others; a refusal leaves the buffer as Audit's does.
+// Ask (document 01): tests the question and its literals, audits the whole body, then says skip where no row is chosen, and else keep, with the record of its
+// answer. The rows are then set in the field, and no others; a refusal leaves the buffer as Audit's does.
 pub fn ask(body: &[u8], t: u32, question: Question, literals: &[u8], field: &mut [u8]) -> Answered
     ensures { λ r. ⌜ AskPromise t question (now (literals .entry)) (now (body .entry)) (now (field .entry)) (now (field .exit)) r ⌝ }
 {

@@ -9,6 +9,7 @@ use Rattle.numbers.specs.declared.Position.{Position}
 use Rattle.refusal.specs.Meaning.{numberOf}
 use Rattle.refusal.specs.declared.Refusal.{Refusal}
 use Rattle.refusal.specs.Reading.{Out, refuse, ok, andThen, numbersOf, faultIn}
+use Rattle.subtract.specs.Meaning.{noRecord}
 use Rattle.index_file.specs.declared.Located.{Located}
 use Rattle.index_file.specs.Reading.{Part, Sought, found, absent, find, locatedBy, soughtNumbers}
 use Rattle.index_file.proofs.Theorems.{found-within}
@@ -85,7 +86,7 @@ unfolding fileAnswerBy andThen answeredBy
 asked (refuse r) = refl
 asked (ok a) = refl
 
-numbered : (o : Out Refusal Answer) → numbersOf 0 askNumbers o ≡ numbersOf 0 askFileNumbers (andThen o (λ a. ok (found a)))
+numbered : (o : Out Refusal Answer) → numbersOf noRecord askNumbers o ≡ numbersOf noRecord askFileNumbers (andThen o (λ a. ok (found a)))
 unfolding numbersOf andThen askFileNumbers
 numbered (refuse r) = refl
 numbered (ok a) = refl

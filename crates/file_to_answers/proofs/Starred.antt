@@ -10,6 +10,7 @@ use Rattle.refusal.specs.Meaning.{limit}
 use Rattle.refusal.specs.declared.Refusal.the-variants.{Range}
 use Rattle.refusal.specs.Reading.{refuse, check, andThen, numbersOf}
 use Rattle.row_field.specs.Meaning.{bit, mark, markAll, anySet, zeroed, upTo, rowsFrom}
+use Rattle.subtract.specs.Meaning.{keeps}
 use Rattle.roaring.specs.Layout.{Bitmap, plain-bitmap, flagged-bitmap, array, runs}
 use Rattle.roaring.specs.Reading.{valuesOf, runsOf, valuesRise, runsRise, bodySize, bodyValues, sound, body, offsetIs, containers, contents, readPlain, readFlagged, read}
 use Rattle.stored_value.specs.Meaning.{Cell, null, value, Value, width, isString, booleanOk, sameCell, signedNumber, less, listed}
@@ -20,9 +21,9 @@ use Rattle.dictionary.specs.Reading.{countAtMost, entriesOne, listings, past, i
 use Rattle.index_file.specs.Layout.{ListedIndex, ListedColumn}
 use Rattle.index_file.specs.Reading.{soughtNumbers}
 use Rattle.index_file.specs.Reading as head
-use Rattle.bitmap_index.specs.Meaning.{Column, knownEdition, chosen, takes, scanFrom, scan, keeps}
+use Rattle.bitmap_index.specs.Meaning.{Column, knownEdition, chosen, takes, scanFrom, scan, scanRecord}
 use Rattle.bitmap_index.specs.Layout.{ColumnEntries, single, ColumnBody, version1, version2}
-use Rattle.bitmap_index.specs.Reading.{entryNumber, nextNumber, placeAt, placeEntry, placeEntries, roomFor, prepared, audited, audit, chosenOf, rowsFor, rowsAt, markEntries, answered, auditedAnswer, wellFormed, ask, answeredBy}
+use Rattle.bitmap_index.specs.Reading.{entryNumber, nextNumber, placeAt, placeEntry, placeEntries, roomFor, prepared, audited, audit, chosenOf, rowsFor, rowsAt, markEntries, markedFor, matchedFor, answered, auditedAnswer, wellFormed, ask, answeredBy}
 use Rattle.file_to_answers.specs.Layout.{ColumnFile}
 use Rattle.file_to_answers.specs.Reading.{used, askPart, askFile}
 use Rattle.file_to_answers.specs.Starred.{cells, one, two, file, s, bitmap, names, Holds, StarredHolds}
@@ -115,7 +116,7 @@ unfolding placeAt
 named-last = (refl, λ entry extent n region field. refl, λ c extent region h. single 2147483647 refl (omega arith) refl h)
 
 pub starred : StarredHolds
-unfolding number head.find head.file head.count head.name head.entries head.afterEntry head.columns head.afterColumn head.placed head.head soughtNumbers numbersOf used askFile askPart read readPlain readFlagged contents containers offsetIs body bodySize bodyValues sound valuesOf runsOf valuesRise runsRise bit mark markAll anySet zeroed upTo rowsFrom entryNumber nextNumber placeAt placeEntry placeEntries rowsFor rowsAt markEntries check andThen valueSize valueOf literals width isString booleanOk same sameCell signedNumber less listed countAtMost entriesOne listings past isDue entriesTwo behind blocksOf blocked nullOf dictionary knownEdition chosen takes scanFrom scan roomFor prepared audited audit chosenOf answered auditedAnswer wellFormed ask answeredBy keeps
+unfolding number head.find head.file head.count head.name head.entries head.afterEntry head.columns head.afterColumn head.placed head.head soughtNumbers numbersOf used askFile askPart read readPlain readFlagged contents containers offsetIs body bodySize bodyValues sound valuesOf runsOf valuesRise runsRise bit mark markAll anySet zeroed upTo rowsFrom entryNumber nextNumber placeAt placeEntry placeEntries rowsFor rowsAt markEntries check andThen valueSize valueOf literals width isString booleanOk same sameCell signedNumber less listed countAtMost entriesOne listings past isDue entriesTwo behind blocksOf blocked nullOf dictionary knownEdition chosen takes scanFrom scan scanRecord roomFor prepared audited audit chosenOf markedFor matchedFor answered auditedAnswer wellFormed ask answeredBy keeps
 starred = (
   (refl, refl, its-file, refl),
   (
@@ -123,17 +124,17 @@ starred = (
     (
       (refl, two-is-its-body),
       (
-        (refl, refl, refl, refl, refl),
+        (refl, refl, refl, refl, refl, refl),
         (
-          (refl, refl, refl, refl, refl),
+          (refl, refl, refl, refl, refl, refl),
           (
-            (refl, refl, refl, refl, refl),
+            (refl, refl, refl, refl, refl, refl),
             (
-              (refl, refl, refl, refl, refl),
+              (refl, refl, refl, refl, refl, refl),
               (
-                (refl, refl, refl, refl, refl),
+                (refl, refl, refl, refl, refl, refl),
                 (
-                  (refl, refl, refl, refl, refl),
+                  (refl, refl, refl, refl, refl, refl),
                   ((refl, array-bitmap), ((refl, run-bitmap), (named-0, (named-last, (always, tt))))),
                 ),
               ),

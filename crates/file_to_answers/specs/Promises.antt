@@ -7,6 +7,7 @@ use Rattle.numbers.specs.Meaning.{joined}
 use Rattle.refusal.specs.Reading.{numbersOf, faultIn}
 use Rattle.row_field.specs.Meaning.{size}
 use Rattle.stored_value.specs.Meaning.{Cell}
+use Rattle.subtract.specs.Meaning.{noRecord}
 use Rattle.index_file.specs.Reading.{find, locateNumbers}
 use Rattle.bitmap_index.specs.declared.Question.{Question}
 use Rattle.bitmap_index.specs.Meaning.{WellFormed}
@@ -25,7 +26,7 @@ pub record LocatePromise (bytes column kind : List ℕ) (buffer : ℕ × ℕ) (a
 -- `ask_file` with a field before and after the call
 pub record AskFilePromise (bytes column kind : List ℕ) (t : ℕ) (q : Question) (literals before after : List ℕ) (r : FileAnswer) : Type 0 where
   pub answer : r ≡ fileAnswerBy (askFile bytes column kind t q literals before)
-  pub numbers : askFileOut r ≡ numbersOf 0 askFileNumbers (askFile bytes column kind t q literals before)
+  pub numbers : askFileOut r ≡ numbersOf noRecord askFileNumbers (askFile bytes column kind t q literals before)
   pub fault : askFileFault r ≡ faultIn (askFile bytes column kind t q literals before)
   pub buffer : after ≡ askFileBuffer bytes column kind t q literals before
 

@@ -5,6 +5,7 @@ use mathlib.Core.List.{List, [], _∷_}
 use Rattle.refusal.specs.declared.Refusal.{Refusal}
 use Rattle.refusal.specs.Meaning.{noFault}
 use Rattle.refusal.specs.Reading.{Out, refuse, ok, andThen}
+use Rattle.subtract.specs.Meaning.{recordNumbers, noRecord}
 use Rattle.index_file.specs.Reading.{Part, Sought, found, absent, bytesOf, find, foundNumber, absentNumber}
 use Rattle.bitmap_index.specs.declared.Question.{Question}
 use Rattle.bitmap_index.specs.declared.Answered.{Answered}
@@ -60,15 +61,15 @@ fileAnswerBy (refuse r) = FileAnswer.Answered (Answered.Refused r)
 fileAnswerBy (ok absent) = FileAnswer.Absent
 fileAnswerBy (ok (found a)) = FileAnswer.Answered (answeredBy (ok a))
 
--- its number and its count: Ask's, or ABSENT's and 0
-unfoldable pub askFileOut : FileAnswer → ℕ × ℕ
-askFileOut FileAnswer.Absent = (absentNumber, 0)
+-- its number and its record's: Ask's, or ABSENT's and all 0
+unfoldable pub askFileOut : FileAnswer → ℕ × List ℕ
+askFileOut FileAnswer.Absent = (absentNumber, noRecord)
 askFileOut (FileAnswer.Answered a) = askOut a
 
 -- the same of the reading, where it is no refusal
-unfoldable pub askFileNumbers : Sought Answer → ℕ × ℕ
-askFileNumbers absent = (absentNumber, 0)
-askFileNumbers (found a) = (foundNumber, a .matched)
+unfoldable pub askFileNumbers : Sought Answer → ℕ × List ℕ
+askFileNumbers absent = (absentNumber, noRecord)
+askFileNumbers (found a) = (foundNumber, recordNumbers (a .said))
 
 -- where its fault is, in three numbers: Ask's, and all 0 with ABSENT. A refusal of Locate carries nothing (index_file's claim `FindCarriesNothing`)
 unfoldable pub askFileFault : FileAnswer → List ℕ

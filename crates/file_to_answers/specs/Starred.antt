@@ -1,5 +1,5 @@
 -- 01, "Files written out": the cases marked * stand together in one table, with one statement, `StarredHolds`. The questions are asked in both editions (02,
--- Ticket 4: "01's NOT EQUAL 7 gives 06 in edition 1, 02 in edition 2").
+-- Ticket 4: "01's NOT EQUAL 7 gives 06 in edition 1, 02 in edition 2"), and answered with the whole record (02, Ticket 7).
 use Prim.Native.Nat.{ℕ, _≤_, _<_}
 use mathlib.Core.Path.{_≡_}
 use mathlib.Core.Bool.{not}
@@ -12,13 +12,14 @@ use Rattle.refusal.specs.Meaning.{limit}
 use Rattle.refusal.specs.declared.Refusal.the-variants.{Range, Twice}
 use Rattle.refusal.specs.Reading.{refuse, ok, check}
 use Rattle.row_field.specs.Meaning.{bit, mark}
+use Rattle.subtract.specs.declared.Record.{Record}
 use Rattle.roaring.specs.Layout.{Bitmap}
 use Rattle.roaring.specs.Reading.{parsed, read}
 use Rattle.stored_value.specs.Meaning.{Cell, null, value}
 use Rattle.index_file.specs.Reading.{found, find, locateNumbers}
 use Rattle.bitmap_index.specs.declared.Answered.{Answered}
 use Rattle.bitmap_index.specs.declared.Answered.the-variants.{Skip, Keep}
-use Rattle.bitmap_index.specs.Meaning.{equal, notEqual, firstEdition, secondEdition, question, scan}
+use Rattle.bitmap_index.specs.Meaning.{equal, notEqual, firstEdition, secondEdition, question, scan, scanRecord}
 use Rattle.bitmap_index.specs.declared.Question.{Question}
 use Rattle.bitmap_index.specs.Layout.{EntryRows, ColumnBody}
 use Rattle.bitmap_index.specs.Reading.{placeAt, audit, ask, answeredBy}
@@ -54,7 +55,7 @@ pub data Case : Type 0 where
   locates : List ℕ → Case
   -- the body is the column's, and Audit of it gives three rows
   audits : List ℕ → Case
-  -- the question with this TINYINT literal, of either body, of the file and of the scan: the field's byte, the count, and what Ask answers
+  -- the question with this TINYINT literal, of either body, of the file and of the scan: the field's byte, how many rows match, and what Ask answers
   answers : Question → ℕ → ℕ → ℕ → Answered → Case
   -- the bytes are a bitmap of these rows, and are read so
   reads : List ℕ → List ℕ → Case
@@ -63,6 +64,10 @@ pub data Case : Type 0 where
   -- the offset is RANGE always: for each row count that 01 allows
   outside : ℕ → Case
 
+-- the record of an answer in which so many rows match: three rows, one of them null, none deleted
+abbrev pub ofThree : ℕ → Record
+ofThree matched = record { rows = 3; nulls = 1; deleted = 0; matched = matched }
+
 -- the buffer that is lent is one byte, all its bits set before the call
 abbrev pub Holds : Case → Type 0
 Holds (locates body) =
@@ -70,11 +75,12 @@ Holds (locates body) =
     × ColumnFile 0 cells s bitmap file × (length file ≡ 71)
 Holds (audits body) = (audit 0 body (0xFF ∷ []) ≡ ok 3) × ColumnBody 0 cells body
 Holds (answers q v field matched answer) =
-    (ask 0 q (v ∷ []) one (0xFF ∷ []) ≡ ok (record { buffer = field ∷ []; matched = matched }))
-    × (ask 0 q (v ∷ []) two (0xFF ∷ []) ≡ ok (record { buffer = field ∷ []; matched = matched }))
-    × (askFile file s bitmap 0 q (v ∷ []) (0xFF ∷ []) ≡ ok (found (record { buffer = field ∷ []; matched = matched })))
+    (ask 0 q (v ∷ []) one (0xFF ∷ []) ≡ ok (record { buffer = field ∷ []; said = ofThree matched }))
+    × (ask 0 q (v ∷ []) two (0xFF ∷ []) ≡ ok (record { buffer = field ∷ []; said = ofThree matched }))
+    × (askFile file s bitmap 0 q (v ∷ []) (0xFF ∷ []) ≡ ok (found (record { buffer = field ∷ []; said = ofThree matched })))
     × (scan q ((v ∷ []) ∷ []) cells ≡ record { field = field ∷ []; matched = matched })
-    × (answeredBy (ok (record { buffer = field ∷ []; matched = matched })) ≡ answer)
+    × (scanRecord q ((v ∷ []) ∷ []) cells ≡ ofThree matched)
+    × (answeredBy (ok (record { buffer = field ∷ []; said = ofThree matched })) ≡ answer)
 Holds (reads bytes rows) = (read bytes ≡ ok (parsed rows (length bytes) [])) × Bitmap rows bytes
 Holds (names offset row) =
     (signed32 offset ≡ negsuc row)
@@ -88,12 +94,12 @@ table =
     locates one
     ∷ audits one
     ∷ audits two
-    ∷ answers (question firstEdition equal) 7 0x01 1 (Keep 1)
-    ∷ answers (question secondEdition equal) 7 0x01 1 (Keep 1)
-    ∷ answers (question firstEdition notEqual) 7 0x06 2 (Keep 2)
-    ∷ answers (question secondEdition notEqual) 7 0x02 1 (Keep 1)
-    ∷ answers (question firstEdition equal) 8 0x00 0 Skip
-    ∷ answers (question secondEdition equal) 8 0x00 0 Skip
+    ∷ answers (question firstEdition equal) 7 0x01 1 (Keep (ofThree 1))
+    ∷ answers (question secondEdition equal) 7 0x01 1 (Keep (ofThree 1))
+    ∷ answers (question firstEdition notEqual) 7 0x06 2 (Keep (ofThree 2))
+    ∷ answers (question secondEdition notEqual) 7 0x02 1 (Keep (ofThree 1))
+    ∷ answers (question firstEdition equal) 8 0x00 0 (Skip (ofThree 0))
+    ∷ answers (question secondEdition equal) 8 0x00 0 (Skip (ofThree 0))
     ∷ reads
     (0x3A ∷ 0x30 ∷ 0 ∷ 0 ∷ 1 ∷ 0 ∷ 0 ∷ 0 ∷ 0 ∷ 0 ∷ 2 ∷ 0 ∷ 0x10 ∷ 0 ∷ 0 ∷ 0 ∷ 0 ∷ 0 ∷ 2 ∷ 0 ∷ 5 ∷ 0 ∷ [])
     (0 ∷ 2 ∷ 5 ∷ [])

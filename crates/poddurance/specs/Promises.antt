@@ -4,7 +4,8 @@ use Prim.Native.Nat.{ℕ}
 use mathlib.Core.Path.{_≡_}
 use mathlib.Core.List.{List}
 use Rattle.refusal.specs.Reading.{numbersOf, faultIn}
-use Rattle.subtract.specs.Reading.{subtraction, subtractBuffer, subtractNumbers}
+use Rattle.subtract.specs.Meaning.{recordOf, noRecord}
+use Rattle.subtract.specs.Reading.{subtraction, subtractBuffer, subtractNumbers, restating, restateNumbers}
 use Rattle.deletion_file.specs.Reading.{deletions, deletionsBuffer, deletionsNumbers}
 use Rattle.index_file.specs.Reading.{find, locateNumbers}
 use Rattle.bitmap_index.specs.declared.Question.{Question}
@@ -21,6 +22,11 @@ pub record Subtract (second : List ℕ) (rows : ℕ) (before after : List ℕ) (
   pub numbers : (number, (left, removed)) ≡ numbersOf (0, 0) subtractNumbers (subtraction rows before second)
   pub buffer : after ≡ subtractBuffer rows before second
 
+-- `given` and `said` are the record's four numbers before and after the call
+pub record SubtractRecord (second given : List ℕ) (before after : List ℕ) (number : ℕ) (said : List ℕ) (removed : ℕ) : Type 0 where
+  pub numbers : (number, (said, removed)) ≡ numbersOf (noRecord, 0) restateNumbers (restating (recordOf given) before second)
+  pub buffer : after ≡ subtractBuffer (recordOf given .rows) before second
+
 -- `bytes` are those of the buffer that is looked at
 pub record Locate (bytes column kind : List ℕ) (number start length : ℕ) : Type 0 where
   pub numbers : (number, (start, length)) ≡ locateNumbers (find bytes column kind)
@@ -30,13 +36,14 @@ pub record Audit (body : List ℕ) (t : ℕ) (before after : List ℕ) (number r
   pub fault-is : fault ≡ faultIn (audit t body before)
   pub buffer : after ≡ auditBuffer t body before
 
-pub record Ask (body : List ℕ) (t : ℕ) (q : Question) (literals before after : List ℕ) (number matched : ℕ) (fault : List ℕ) : Type 0 where
-  pub numbers : (number, matched) ≡ numbersOf 0 askNumbers (ask t q literals body before)
+-- `said` are the record's four numbers
+pub record Ask (body : List ℕ) (t : ℕ) (q : Question) (literals before after : List ℕ) (number : ℕ) (said fault : List ℕ) : Type 0 where
+  pub numbers : (number, said) ≡ numbersOf noRecord askNumbers (ask t q literals body before)
   pub fault-is : fault ≡ faultIn (ask t q literals body before)
   pub buffer : after ≡ askBuffer t q literals body before
 
--- `bytes` as for Locate
-pub record AskFile (bytes column kind : List ℕ) (t : ℕ) (q : Question) (literals before after : List ℕ) (number matched : ℕ) (fault : List ℕ) : Type 0 where
-  pub numbers : (number, matched) ≡ numbersOf 0 askFileNumbers (askFile bytes column kind t q literals before)
+-- `bytes` as for Locate, `said` as for Ask
+pub record AskFile (bytes column kind : List ℕ) (t : ℕ) (q : Question) (literals before after : List ℕ) (number : ℕ) (said fault : List ℕ) : Type 0 where
+  pub numbers : (number, said) ≡ numbersOf noRecord askFileNumbers (askFile bytes column kind t q literals before)
   pub fault-is : fault ≡ faultIn (askFile bytes column kind t q literals before)
   pub buffer : after ≡ askFileBuffer bytes column kind t q literals before

@@ -1,18 +1,22 @@
 // The C interface (include/poddurance.h). Each function answers a number, 0 for accepted, 255 for ABSENT (Locate and Ask of a file) and else the
 // refusal's number in document 01, and writes counts through pointers; with ABSENT and a refusal the counts are 0. Where a fault is (entry, container, row) is
-// written through a pointer too: 0 in each number that the refusal does not carry, and all 0 with every other answer.
+// written through a pointer too: 0 in each number that the refusal does not carry, and all 0 with every other answer. A record (`said`; document 02, Ticket 7) is
+// four counts: rows, nulls, deleted, matched.
 ghost use mathlib.Core.Path.{_≡_};
+ghost use Rattle.subtract.specs.Meaning.{recordNumbers};
+ghost use Rattle.subtract.specs.Reading.{restateOut};
 ghost use Rattle.bitmap_index.specs.Meaning.{question};
 ghost use Rattle.bitmap_index.specs.Reading.{askOut, askFault};
 ghost use Rattle.file_to_answers.specs.Reading.{lookedAt};
 ghost use Rattle.file_to_answers.specs.Promises.{FileAsScan};
-ghost use Rattle.poddurance.specs.Promises.{ReadDeletions, Subtract, Locate, Audit, Ask, AskFile};
+ghost use Rattle.poddurance.specs.Promises.{ReadDeletions, Subtract, SubtractRecord, Locate, Audit, Ask, AskFile};
 use bitmap_index::Answered;
 use bitmap_index::Audited;
 use bitmap_index::Question;
 use deletion_file::Deletions;
 use file_to_answers::FileAnswer;
 use index_file::Located;
+use subtract::RecordSubtracted;
 use subtract::Subtracted;
 
 const ACCEPTED: u8 = 0;
@@ -69,6 +73,53 @@ pub extern "C" fn poddurance_subtract(
             ACCEPTED
         }
     }
+}
+
+// What Subtract with a record answers, in numbers: the answer's, and through pointers the record's and rows removed.
+fn subtracted(answer: RecordSubtracted, said: &mut [u64; 4], removed: &mut u64) -> u8
+    ensures { λ r. ⌜ (r, (now (said .exit), now (removed .exit))) ≡ restateOut answer ⌝ }
+{
+    match answer {
+        RecordSubtracted::Refused(r) => {
+            *said = subtract::NO_RECORD;
+            *removed = 0;
+            refusal::number(r)
+        }
+        RecordSubtracted::Skip {
+            record: c,
+            removed: m,
+        } => {
+            *said = subtract::record_numbers(c);
+            *removed = m;
+            ACCEPTED
+        }
+        RecordSubtracted::Keep {
+            record: c,
+            removed: m,
+        } => {
+            *said = subtract::record_numbers(c);
+            *removed = m;
+            ACCEPTED
+        }
+    }
+}
+
+#[no_mangle]
+pub extern "C" fn poddurance_subtract_record(
+    first: &mut [u8],
+    second: &[u8],
+    said: &mut [u64; 4],
+    removed: &mut u64,
+) -> u8
+    ensures { λ r. ⌜ SubtractRecord (now (second .entry)) (now (said .entry)) (now (first .entry)) (now (first .exit))
+        r (now (said .exit)) (now (removed .exit)) ⌝ }
+{
+    let given = subtract::record_of(*said);
+    subtracted(
+        subtract::subtract_record(first, second, given),
+        said,
+        removed,
+    )
 }
 
 #[no_mangle]
@@ -131,23 +182,23 @@ pub extern "C" fn poddurance_audit(
     }
 }
 
-// The number of an answer to a question, and through pointers its count and where its fault is.
-fn answered(answer: Answered, matched: &mut u64, fault: &mut [u64; 3]) -> u8
-    ensures { λ r. ⌜ ((r, now (matched .exit)) ≡ askOut answer) × (now (fault .exit) ≡ askFault answer) ⌝ }
+// The number of an answer to a question, and through pointers its record and where its fault is.
+fn answered(answer: Answered, said: &mut [u64; 4], fault: &mut [u64; 3]) -> u8
+    ensures { λ r. ⌜ ((r, now (said .exit)) ≡ askOut answer) × (now (fault .exit) ≡ askFault answer) ⌝ }
 {
     match answer {
         Answered::Refused(r) => {
-            *matched = 0;
+            *said = subtract::NO_RECORD;
             *fault = refusal::fault(r);
             refusal::number(r)
         }
-        Answered::Skip => {
-            *matched = 0;
+        Answered::Skip(c) => {
+            *said = subtract::record_numbers(c);
             *fault = refusal::NO_FAULT;
             ACCEPTED
         }
-        Answered::Keep(n) => {
-            *matched = n;
+        Answered::Keep(c) => {
+            *said = subtract::record_numbers(c);
             *fault = refusal::NO_FAULT;
             ACCEPTED
         }
@@ -162,20 +213,20 @@ pub extern "C" fn poddurance_ask(
     name: u32,
     literals: &[u8],
     field: &mut [u8],
-    matched: &mut u64,
+    said: &mut [u64; 4],
     fault: &mut [u64; 3],
 ) -> u8
     ensures { λ r. ⌜ Ask (now (body .entry)) t (question edition name) (now (literals .entry)) (now (field .entry)) (now (field .exit))
-        r (now (matched .exit)) (now (fault .exit)) ⌝ }
+        r (now (said .exit)) (now (fault .exit)) ⌝ }
 {
     answered(
         bitmap_index::ask(body, t, Question { edition, name }, literals, field),
-        matched,
+        said,
         fault,
     )
 }
 
-// Locate, then Ask on the part that it finds. The second promise is demand 3: of a column's file the answer, the count and the field are those of the scan.
+// Locate, then Ask on the part that it finds. The second promise is demand 3: of a column's file the answer, the record and the field are those of the scan.
 #[no_mangle]
 pub extern "C" fn poddurance_ask_file<'a>(
     embedded: &'a [u8],
@@ -187,13 +238,14 @@ pub extern "C" fn poddurance_ask_file<'a>(
     name: u32,
     literals: &[u8],
     field: &mut [u8],
-    matched: &mut u64,
+    said: &mut [u64; 4],
     fault: &mut [u64; 3],
 ) -> u8
     ensures any_bytes { λ r. ⌜ AskFile (lookedAt (now (embedded .entry)) (now (file .entry))) (now (column .entry)) (now (kind .entry))
-        t (question edition name) (now (literals .entry)) (now (field .entry)) (now (field .exit)) r (now (matched .exit)) (now (fault .exit)) ⌝ }
+        t (question edition name) (now (literals .entry)) (now (field .entry)) (now (field .exit)) r (now (said .exit)) (now (fault .exit)) ⌝ }
     ensures demand_3 { λ r. ⌜ FileAsScan (lookedAt (now (embedded .entry)) (now (file .entry))) (now (column .entry)) (now (kind .entry))
-        t (question edition name) (now (literals .entry)) (now (field .entry)) (λ a. (r ≡ 0) × (now (matched .exit) ≡ a .matched) × (now (field .exit) ≡ a .buffer)) ⌝ }
+        t (question edition name) (now (literals .entry)) (now (field .entry))
+        (λ a. (r ≡ 0) × (now (said .exit) ≡ recordNumbers (a .said)) × (now (field .exit) ≡ a .buffer)) ⌝ }
 {
     let answer = file_to_answers::ask_file(
         embedded,
@@ -207,10 +259,10 @@ pub extern "C" fn poddurance_ask_file<'a>(
     );
     match answer {
         FileAnswer::Absent => {
-            *matched = 0; // what is not listed has no count
+            *said = subtract::NO_RECORD; // what is not listed has no record
             *fault = refusal::NO_FAULT;
             index_file::ABSENT
         }
-        FileAnswer::Answered(a) => answered(a, matched, fault),
+        FileAnswer::Answered(a) => answered(a, said, fault),
     }
 }

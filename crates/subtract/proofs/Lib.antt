@@ -1,3 +1,4 @@
--- Laws of a field less the rows of another, and the proofs of the claims.
+-- Laws of a field less the rows of another, Subtract with a record, and the proofs of the claims.
 pub mod Laws
+pub mod Restating
 pub mod Theorems

@@ -1,6 +1,8 @@
 -- The claims of specs/Claims.
-use Rattle.subtract.specs.Claims.{ClearsJustTheRows, KeepsTheLength, LeftAndRemoved}
+use mathlib.Core.Path.{refl}
+use Rattle.subtract.specs.Claims.{ClearsJustTheRows, KeepsTheLength, LeftAndRemoved, NumbersAreTheRecord, RecordIsRestated}
 use Rattle.subtract.proofs.Laws.{bit-subtracted, length-subtracted, left-removed}
+use Rattle.subtract.proofs.Restating.{restates-it}
 
 pub clears-just-the-rows : ClearsJustTheRows
 clears-just-the-rows = bit-subtracted
@@ -10,3 +12,9 @@ keeps-the-length = length-subtracted
 
 pub left-and-removed : LeftAndRemoved
 left-and-removed = left-removed
+
+pub numbers-are-the-record : NumbersAreTheRecord
+numbers-are-the-record c = refl
+
+pub record-is-restated : RecordIsRestated
+record-is-restated = restates-it

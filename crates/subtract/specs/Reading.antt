@@ -1,17 +1,21 @@
--- What Subtract answers for any two fields and any row count, and what the first buffer holds after it (01: "Subtract checks LIMIT, then ROOM, and changes
--- nothing when it refuses").
+-- What Subtract, with a row count and with a record, answers for any two fields, and what the first buffer holds after it (01: "Subtract checks LIMIT, then ROOM,
+-- and changes nothing when it refuses"; 02, Ticket 7).
 use Prim.Native.Nat.{ℕ}
+use mathlib.Core.Bool.{cond}
 use mathlib.Core.List.{List}
 use lib.Dec.{leb}
 use lib.ListN.{length}
 use Rattle.refusal.specs.Meaning.{limit, numberOf}
-use Rattle.refusal.specs.Reading.{Out, refuse, ok, check}
+use Rattle.refusal.specs.Reading.{Out, refuse, ok, check, andThen}
 use Rattle.refusal.specs.declared.Refusal.{Refusal}
 use Rattle.refusal.specs.declared.Refusal.the-variants.{Limit, Room}
 use Rattle.row_field.specs.Meaning.{size, count}
+use Rattle.subtract.specs.declared.Record.{Record}
+use Rattle.subtract.specs.declared.RecordSubtracted.{RecordSubtracted}
+use Rattle.subtract.specs.declared.RecordSubtracted.the-variants.{Skip, Keep}
 use Rattle.subtract.specs.declared.Subtracted.{Subtracted}
-use Rattle.subtract.specs.declared.Subtracted.the-variants.{Refused, Done}
-use Rattle.subtract.specs.Meaning.{subtracted, removed}
+use Rattle.subtract.specs.declared.Subtracted.the-variants.{Done}
+use Rattle.subtract.specs.Meaning.{subtracted, removed, recordNumbers, noRecord, keeps}
 
 -- "answers rows left and rows removed"
 pub record Counts : Type 0 where
@@ -36,14 +40,40 @@ subtractBuffer n f g = bufferBy (subtraction n f g) n f g
 
 -- the call's answer
 unfoldable pub subtractedBy : Out Refusal Counts → Subtracted
-subtractedBy (refuse r) = Refused r
+subtractedBy (refuse r) = Subtracted.Refused r
 subtractedBy (ok c) = Done (c .left) (c .removed)
 
 -- the answer's number, 0 for accepted and else the refusal's in 01's table; then rows left and rows removed, 0 with a refusal
 unfoldable pub subtractOut : Subtracted → ℕ × (ℕ × ℕ)
-subtractOut (Refused r) = (numberOf r, (0, 0))
+subtractOut (Subtracted.Refused r) = (numberOf r, (0, 0))
 subtractOut (Done left gone) = (0, (left, gone))
 
 -- the same of accepted counts
 abbrev pub subtractNumbers : Counts → ℕ × (ℕ × ℕ)
 subtractNumbers c = (0, (c .left, c .removed))
+
+-- ---- with a record: "a second Subtract takes the record, uses its row count and hands it back with rows removed"
+
+pub record Restated : Type 0 where
+  pub restated : Record
+  pub removed : ℕ
+
+-- "Deleted then counts all rows set below that count in the second field, skip is said exactly when matched is 0, the rest stays. Matched is counted afresh, as
+-- rows left in the first": neither is added to what the record had. LIMIT and ROOM are Subtract's, and the first buffer is then as Subtract leaves it
+unfoldable pub restating : Record → List ℕ → List ℕ → Out Refusal Restated
+restating c f g =
+    andThen (subtraction (c .rows) f g) (λ counts.
+    ok (record { restated = record { rows = c .rows; nulls = c .nulls; deleted = count g (c .rows); matched = counts .left }; removed = counts .removed }))
+
+unfoldable pub restatedBy : Out Refusal Restated → RecordSubtracted
+restatedBy (refuse r) = RecordSubtracted.Refused r
+restatedBy (ok a) = cond (keeps (a .restated .matched)) (Keep (a .restated) (a .removed)) (Skip (a .restated) (a .removed))
+
+-- the answer's number, then the record's four and rows removed, all 0 with a refusal
+unfoldable pub restateOut : RecordSubtracted → ℕ × (List ℕ × ℕ)
+restateOut (RecordSubtracted.Refused r) = (numberOf r, (noRecord, 0))
+restateOut (Skip c gone) = (0, (recordNumbers c, gone))
+restateOut (Keep c gone) = (0, (recordNumbers c, gone))
+
+abbrev pub restateNumbers : Restated → ℕ × (List ℕ × ℕ)
+restateNumbers a = (0, (recordNumbers (a .restated), a .removed))

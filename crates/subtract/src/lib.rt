@@ -1,11 +1,11 @@
-// Document 01, Subtract: clears in one row field the rows of another.
+// Document 01, Subtract: clears in one row field the rows of another. Document 02, Ticket 7: the record of an answer, and Subtract with a record.
 ghost use mathlib.Core.Path.{_≡_};
 ghost use Prim.Native.Nat.{_-_, _*_, _<_, _≤_};
 ghost use lib.Bits.{bitAnd};
 ghost use lib.ListN.{length, getD, set};
 ghost use Rattle.row_field.specs.Meaning.{size};
-ghost use Rattle.subtract.specs.Meaning.{subtracted};
-ghost use Rattle.subtract.specs.Promises.{SubtractPromise};
+ghost use Rattle.subtract.specs.Meaning.{subtracted, recordNumbers, recordOf};
+ghost use Rattle.subtract.specs.Promises.{SubtractPromise, SubtractRecordPromise};
 use numbers::Position;
 use refusal::LIMIT;
 use refusal::Refusal;
@@ -14,6 +14,25 @@ use refusal::Refusal;
 pub enum Subtracted {
     Refused(Refusal),
     Done { left: u64, removed: u64 },
+}
+
+// What may be claimed of an accepted answer: how many rows the index has, how many of them are null, how many are deleted, and how many match. Deleted is 0 until
+// deletions are subtracted.
+pub struct Record {
+    pub rows: u64,
+    pub nulls: u64,
+    pub deleted: u64,
+    pub matched: u64,
+}
+
+// A record in numbers where there is none: with a refusal, and with ABSENT.
+pub const NO_RECORD: [u64; 4] = [0, 0, 0, 0];
+
+// What Subtract with a record answers: a refusal; or the record as it is then, and how many rows were removed: skip where no row is left, else keep.
+pub enum RecordSubtracted {
+    Refused(Refusal),
+    Skip { record: Record, removed: u64 },
+    Keep { record: Record, removed: u64 },
 }
 
 // Clears the bits of one byte that are set in `bits`.
@@ -73,4 +92,50 @@ pub fn subtract(first: &mut [u8], second: &[u8], rows: u64) -> Subtracted
     let left = row_field::count(first, rows);
     let removed = before - left;
     Subtracted::Done { left, removed }
+}
+
+// Subtract with a record, whose row count it uses. The record is handed back: matched are the rows left in the first field, deleted all rows below the row count
+// that the second has, whether the first had them or not; both are counted afresh, and the rest stays.
+pub fn subtract_record(first: &mut [u8], second: &[u8], given: Record) -> RecordSubtracted
+    ensures { λ r. ⌜ SubtractRecordPromise given (now (first .entry)) (now (second .entry)) (now (first .exit)) r ⌝ }
+{
+    let rows = given.rows;
+    let nulls = given.nulls;
+    let subtracted = subtract(first, second, rows);
+    match subtracted {
+        Subtracted::Refused(r) => RecordSubtracted::Refused(r),
+        Subtracted::Done { left, removed } => {
+            let deleted = row_field::count(second, rows);
+            let matched = left;
+            let record = Record {
+                rows,
+                nulls,
+                deleted,
+                matched,
+            };
+            if matched == 0 {
+                return RecordSubtracted::Skip { record, removed };
+            }
+            RecordSubtracted::Keep { record, removed }
+        }
+    }
+}
+
+// A record as four numbers: rows, nulls, deleted, matched.
+pub fn record_numbers(given: Record) -> [u64; 4]
+    ensures { λ numbers. ⌜ numbers ≡ recordNumbers given ⌝ }
+{
+    [given.rows, given.nulls, given.deleted, given.matched]
+}
+
+// The record that four numbers stand for, in that order.
+pub fn record_of(numbers: [u64; 4]) -> Record
+    ensures { λ r. ⌜ r ≡ recordOf numbers ⌝ }
+{
+    Record {
+        rows: numbers[0],
+        nulls: numbers[1],
+        deleted: numbers[2],
+        matched: numbers[3],
+    }
 }

@@ -16,7 +16,7 @@ mark-asked-requires c κs =
     let accepted = start .pre .0 in (
       record {
         is-read = accepted .is-read;
-        sound = λ es d. let (n, ok) = accepted .accepts es d in audited-sound (dictionaryOf (a .body .now) (a .summary) es) (a .field .now) region n ok;
+        sound = λ es d. audited-sound (dictionaryOf (a .body .now) (a .summary) es) (a .field .now) region (a .summary .rows) (accepted .accepts es d .0);
       },
       start .pre .1,
     )
@@ -24,16 +24,18 @@ mark-asked-requires c κs =
 returns : tie.Need-returns
 returns c =
     let marked = c .before .before .before .before .before in
-    let a = marked .before .before .before .before .before .args in
+    let start = marked .before .before .before .before .before in
+    let a = start .args in
     λ es d ls w. zero-skip (a .question) ls (dictionaryOf (a .body .now) (a .summary) es) (a .field .now) (marked .mark-asked .ensures es d ls w)
-    (c .before .count .ensures) (c .if1 .taken)
+    (c .before .count .ensures) (start .pre .0 .accepts es d .1) (c .if1 .taken)
 
 returns-2 : tie.Need-returns-2
 returns-2 c =
     let marked = c .before .before .before .before .before in
-    let a = marked .before .before .before .before .before .args in
+    let start = marked .before .before .before .before .before in
+    let a = start .args in
     λ es d ls w. zero-keep (a .question) ls (dictionaryOf (a .body .now) (a .summary) es) (a .field .now) (marked .mark-asked .ensures es d ls w)
-    (c .before .count .ensures) (c .if1 .left)
+    (c .before .count .ensures) (start .pre .0 .accepts es d .1) (c .if1 .left)
 
 pub answer-zero-spec : {M : Type 1} → statement M
 answer-zero-spec =

@@ -10,17 +10,15 @@ audit-field-requires c κs = c .before .before .before .before .pre .0
 
 answer-zero-requires : tie.Need-answer-zero-requires
 answer-zero-requires c κs =
-    let told = c .before in
+    let told = c .before .before in
     let audited = told .before .before .before .before in
     let start = audited .before .before .before .before .before in
     let a = start .args in (
       record {
         is-read = start .pre .0 .is-read;
-        accepts = λ es l. (
-          _,
-          then-accepted (dictionaryOf (a .body .now) (a .summary) es) (a .field .now) (audited .audit-field .ensures es l)
-              (told .enum-told .given .1),
-        );
+        accepts = λ es l.
+            then-accepted (dictionaryOf (a .body .now) (a .summary) es) (a .field .now) (audited .audit-field .ensures es l)
+            (told .audit2 .given .1);
       },
       start .pre .1,
     )
@@ -34,11 +32,11 @@ returns c =
 
 returns-2 : tie.Need-returns-2
 returns-2 c =
-    let told = c .before .before .before .before in
+    let told = c .before .before .before .before .before in
     let audited = told .before .before .before .before in
     let a = audited .before .before .before .before .before .args in
     λ es l ls k. then-answered (a .question) ls (dictionaryOf (a .body .now) (a .summary) es) (a .field .now) (audited .audit-field .ensures es l)
-    (told .enum-told .given .1)
+    (told .audit2 .given .1)
     (c .before .before .answer-zero .ensures es l ls k)
 
 pub ask-field-spec : {M : Type 1} → statement M

@@ -7,8 +7,9 @@ use Rattle.bitmap_index.proofs.audit_zero.Tie as tie
 
 place-null-requires : tie.Need-place-null-requires
 place-null-requires c κs =
-    let ready = c .before .before .before .pre .0 in
-    (ready .is-read .summary .region, ready .room)
+    let start = c .before .before .before in
+    let ready = start .pre .0 in
+    (ready .is-read .summary .region, ready .room, start .pre .1)
 
 place-values-requires : tie.Need-place-values-requires
 place-values-requires c κs =
@@ -64,7 +65,7 @@ returns-4 c =
     let a = start .args in
     λ es l. none-missing (a .summary) (a .body .now) (a .field .now) (nulls .place-null .ensures) es (told .nulls2 .given .1)
     (values .place-values .ensures es l)
-    (c .before .before .before .values2 .given .1) (start .pre .1) (c .if1 .left)
+    (c .before .before .before .values2 .given .1) (start .pre .1) (c .if1 .left) (a .t) (λ i. nulls .before .before .shared-slice-known .given i .fits) l
 
 pub audit-zero-spec : {M : Type 1} → statement M
 audit-zero-spec =
