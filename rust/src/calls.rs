@@ -206,11 +206,11 @@ impl Audited {
 /// ```
 pub fn ask(body: &[u8], edition: Edition, question: Question, literals: &Literals, mut field: RowField) -> Result<Answer, Error> {
     let (ty, bytes) = (literals.ty().number(), literals.as_bytes());
-    let (answer, count, fault) = raw::ask(body, ty, edition.number(), question.number(), bytes, field.bytes_mut());
+    let (answer, record, fault) = raw::ask(body, ty, edition.number(), question.number(), bytes, field.bytes_mut());
     accepted(answer, fault)?;
     // An accepted body has the row count that stands in its bytes.
     same_rows(&field, RowField::claim(body))?;
-    Ok(Answer { field, count })
+    Ok(Answer { field, count: record.matched })
 }
 
 /// From the file to the answer in one call: finds the index as [`locate`] does, checks its whole body as [`audit`] does, then
@@ -269,7 +269,7 @@ pub fn ask_file(
     literals: &Literals,
     mut field: RowField,
 ) -> Result<Option<Answer>, Error> {
-    let (answer, count, fault) = raw::ask_file(
+    let (answer, record, fault) = raw::ask_file(
         embedded,
         file,
         column.as_bytes(),
@@ -287,7 +287,7 @@ pub fn ask_file(
     // The call answers no row count. An accepted body has the one that stands in its bytes, and Locate finds the same body again.
     let body = locate(embedded, file, column, kind)?.expect("the index that was asked is there");
     same_rows(&field, RowField::claim(body))?;
-    Ok(Some(Answer { field, count }))
+    Ok(Some(Answer { field, count: record.matched }))
 }
 
 /// The answer to a question: the rows it chooses.
