@@ -114,22 +114,6 @@ fn subtract_record_refuses_rows() {
     }
 }
 
-/// As many rows as there may be, in fields that are only mapped until they are read.
-#[test]
-fn subtract_record_takes_the_most_rows() {
-    let bytes = LIMIT.div_ceil(8) as usize;
-    let (mut first, mut second) = (vec![0; bytes], vec![0; bytes]);
-    // The last row, the bit behind it, which stands for no row, and row 3.
-    (first[bytes - 1], second[bytes - 1]) = (0xC0, 0xC0);
-    second[0] = 0b1000;
-    let given = Record { rows: LIMIT, nulls: 5, deleted: 6, matched: 7 };
-    let left = Record { deleted: 2, matched: 0, ..given };
-    assert_eq!(raw::subtract_record(&mut first, &second, given), (0, left, 1));
-    assert_eq!(first[bytes - 1], 0x80);
-    assert_eq!(raw::subtract_record(&mut first[1..], &second, given), (10, Record::NONE, 0));
-    assert_eq!(raw::subtract_record(&mut first, &second[1..], given), (10, Record::NONE, 0));
-}
-
 #[test]
 fn row_fields_may_be_longer() {
     let mut long = too_long();
