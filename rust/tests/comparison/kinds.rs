@@ -49,9 +49,10 @@ impl Subtracted<'_> {
 }
 
 /// A name and what it stands for.
-type Kind<Is> = (&'static str, Is);
+type OfAsk = (&'static str, fn(&Asked) -> bool);
+type OfSubtract = (&'static str, fn(&Subtracted) -> bool);
 
-const OF_ASK: [Kind<fn(&Asked) -> bool>; 8] = [
+const OF_ASK: [OfAsk; 8] = [
     ("no rows", |it| it.record.rows == 0),
     ("skip", |it| it.record.rows > 0 && it.record.matched == 0),
     ("keep", |it| it.record.matched > 0),
@@ -62,7 +63,7 @@ const OF_ASK: [Kind<fn(&Asked) -> bool>; 8] = [
     ("more null rows than matched", |it| it.record.matched > 0 && it.record.nulls > it.record.matched),
 ];
 
-const OF_SUBTRACT: [Kind<fn(&Subtracted) -> bool>; 26] = [
+const OF_SUBTRACT: [OfSubtract; 26] = [
     ("LIMIT", |it| it.answer == LIMIT),
     ("LIMIT, one row too many", |it| it.answer == LIMIT && it.given.rows == MAX + 1),
     ("ROOM, both fields", |it| it.short() == [true, true]),
