@@ -3,8 +3,8 @@
  * Link the archive that `rt staticlib poddurance` writes to target/staticlib/libpoddurance.a (x86-64 Linux).
  * Every call ends, reads and writes only inside the buffers it is lent, allocates nothing and keeps no state.
  * A buffer that is written must not overlap another of the call. A pointer may not be NULL, even where its length is 0. Each count, start and length is
- * written to a uint64_t of its own, and the fault to a poddurance_fault, aligned as the compiler aligns them, distinct from the others of the call and
- * outside its buffers.
+ * written to a uint64_t of its own, the fault to a poddurance_fault and the record to a poddurance_record, aligned as the compiler aligns them, distinct from
+ * the others of the call and outside its buffers.
  *
  * A row field for n rows is the first (n + 7) / 8 bytes of a buffer: row r is the bit of weight 1 << (r % 8) in byte r / 8, and the spare bits of its
  * last byte are 0. Bytes of the buffer behind the field never change.
@@ -28,8 +28,8 @@
  *
  * What a refusal carries is written to the call's poddurance_fault; refusals listed without 'carries' carry nothing.
  *
- * With any answer but 0 the counts, start and length are 0. Refusals up to and including ROOM leave the field's buffer as it was; later ones leave the
- * field's (n + 7) / 8 bytes zero. In the order in which causes are tested, with a bar behind ROOM:
+ * With any answer but 0 the counts, the record's four among them, start and length are 0. Refusals up to and including ROOM leave the field's buffer as it was;
+ * later ones leave the field's (n + 7) / 8 bytes zero. In the order in which causes are tested, with a bar behind ROOM:
  *
  *    Locate          LIMIT, SHORT, MAGIC, VERSION, HEAD (no field)
  *    Audit           LIMIT, LITERAL (an unknown type), then the dictionary in byte order: SHORT, VERSION, LIMIT, DICT; ROOM | then null's and each entry's
@@ -37,7 +37,8 @@
  *    Ask             LIMIT, LITERAL (an unknown type, edition or question), the literals in turn: LIMIT, LITERAL; then as Audit
  *    Ask of a file   as Locate, then as Ask on the part that was found: body and literals are tested when Ask's turn comes
  *    Read deletions  LIMIT, ROOM | SHORT, VERSION, SHORT, NOBIN, MAGIC, CHECKSUM, BITMAP, RANGE
- *    Subtract        LIMIT, ROOM (changes nothing when it refuses)
+ *    Subtract        LIMIT, ROOM (leaves both fields as they were when it refuses)
+ *    Subtract record LIMIT, ROOM (leaves both fields as they were when it refuses; the record becomes all 0)
  */
 #ifndef PODDURANCE_H
 #define PODDURANCE_H
@@ -116,6 +117,23 @@ typedef struct {
     uint64_t row;
 } poddurance_fault;
 
+/* What a graph may claim of its rows, as 'drawn from 970 of 1,000 rows', matched of rows. All 0 with any answer but 0. Lent as the counts are. Ask and Ask of a
+ * file write it and don't read it; Subtract record reads its row count and writes it.
+ *
+ * rows     the row count of the index. Subtract record leaves it.
+ * nulls    how many rows are null: those of null's bitmap, 0 where has-null is 0, for each question and edition. Subtract record leaves it.
+ * deleted  0 until deletions are subtracted. Subtract record writes how many rows below the row count are set in its second field, chosen or not; it replaces
+ *          what stood here and does not add to it.
+ * matched  how many rows are set in the field: Ask's chosen ones, and after Subtract record those left of them, counted afresh. Accepted with 0 says skip.
+ *
+ * Hand on an accepted answer's record alone. A refusal's is that of a data file without rows, for which Subtract record would answer 0 and clear nothing. */
+typedef struct {
+    uint64_t rows;
+    uint64_t nulls;
+    uint64_t deleted;
+    uint64_t matched;
+} poddurance_record;
+
 /* Read deletions: the rows of bin number `bin` (from 0) of a deletion file, into a field for `rows` rows, and how many they are. */
 uint8_t poddurance_read_deletions(const uint8_t *file, size_t file_len, uint64_t bin, uint64_t rows,
                                   uint8_t *field, size_t field_len, uint64_t *deleted, poddurance_fault *fault);
@@ -124,6 +142,13 @@ uint8_t poddurance_read_deletions(const uint8_t *file, size_t file_len, uint64_t
  * removed. ROOM is tested on both fields. */
 uint8_t poddurance_subtract(uint8_t *first, size_t first_len, const uint8_t *second, size_t second_len,
                             uint64_t rows, uint64_t *left, uint64_t *removed);
+
+/* Subtract record: Subtract for an answer's record, which goes in and comes back. Clears in `first` each row below record->rows that is set in `second`. Answers
+ * in record->deleted how many rows below record->rows are set in `second`, in record->matched how many are left in `first`, and in *removed how many were removed
+ * from it: the last two together are the rows below record->rows that were set in `first` before. A record->matched of 0 says skip. LIMIT and ROOM, the latter
+ * for both fields, are tested on record->rows; the record's other numbers are not tested. */
+uint8_t poddurance_subtract_record(uint8_t *first, size_t first_len, const uint8_t *second, size_t second_len,
+                                   poddurance_record *record, uint64_t *removed);
 
 /* Locate: finds the index of kind `kind` on column `column` in the embedded bytes if embedded_len isn't 0, else in the index file. The other buffer isn't
  * looked at. 0: found; the body is the `length` bytes from `start` on of the buffer that was looked at, and isn't copied. 255: the column or the kind is
@@ -137,18 +162,19 @@ uint8_t poddurance_audit(const uint8_t *body, size_t body_len, uint32_t type,
                          uint8_t *field, size_t field_len, uint64_t *rows, poddurance_fault *fault);
 
 /* Ask: audits the body; then exactly the rows that the question chooses by its edition's rule are set in the field. Literals lie one after another in the type's
- * stored form (big-endian numbers; strings with a 4-byte length). Accepted with a *matched of 0 says skip; a refusal writes 0 too. */
+ * stored form (big-endian numbers; strings with a 4-byte length). The record has the row count, the null rows and the chosen rows, as record->matched; accepted
+ * with 0 of these says skip; a refusal writes 0 too. */
 uint8_t poddurance_ask(const uint8_t *body, size_t body_len, uint32_t type, uint32_t edition, uint32_t question,
                        const uint8_t *literals, size_t literals_len,
-                       uint8_t *field, size_t field_len, uint64_t *matched, poddurance_fault *fault);
+                       uint8_t *field, size_t field_len, poddurance_record *record, poddurance_fault *fault);
 
-/* Ask of a file: Locate, then Ask on the part that it finds, in one call. 0: Ask's answer, its rows set in the field; a *matched of 0 says skip. 255: the column
- * or the kind is not listed. With 255 and with a refusal of Locate the field's buffer is as it was; with a refusal of Ask it is as Ask leaves it. *matched is 0
- * with every answer but 0. With 255 and with a refusal of Locate the fault is all 0. */
+/* Ask of a file: Locate, then Ask on the part that it finds, in one call. 0: Ask's answer, its rows set in the field; a record->matched of 0 says skip. 255: the
+ * column or the kind is not listed. With 255 and with a refusal of Locate the field's buffer is as it was; with a refusal of Ask it is as Ask leaves it. The record
+ * is all 0 with every answer but 0. With 255 and with a refusal of Locate the fault is all 0. */
 uint8_t poddurance_ask_file(const uint8_t *embedded, size_t embedded_len, const uint8_t *file, size_t file_len,
                             const uint8_t *column, size_t column_len, const uint8_t *kind, size_t kind_len,
                             uint32_t type, uint32_t edition, uint32_t question, const uint8_t *literals, size_t literals_len,
-                            uint8_t *field, size_t field_len, uint64_t *matched, poddurance_fault *fault);
+                            uint8_t *field, size_t field_len, poddurance_record *record, poddurance_fault *fault);
 
 #ifdef __cplusplus
 }

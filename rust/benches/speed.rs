@@ -22,6 +22,7 @@ use std::time::{Duration, Instant};
 use poddurance::raw;
 use reference::random::Random;
 use reference::reader;
+use reference::record::Record;
 use reference::types;
 use reference::writer::{bitmap, body, deletion_file, index_file, BitmapForm, ContainerForm, Groups, Layout};
 use timing::{grouped, median_by, print_machine, shown, time, Effort, Patience};
@@ -309,8 +310,8 @@ enum Call<'a> {
     Subtract { first: &'a [u8], second: &'a [u8], rows: u32 },
 }
 
-/// The answer and up to two counts, or start and length.
-type Answer = (u8, u64, u64);
+/// The answer and up to four counts, or start and length.
+type Answer = (u8, [u64; 4]);
 
 impl Call<'_> {
     fn name(&self) -> &'static str {
@@ -333,24 +334,32 @@ impl Call<'_> {
     }
 
     fn library(&self, field: &mut [u8]) -> Answer {
-        let one = |(answer, count, _)| (answer, count, 0);
+        let one = |(answer, count, _)| (answer, [count, 0, 0, 0]);
+        let two = |(answer, first, second)| (answer, [first, second, 0, 0]);
+        let four = |(answer, record, _): (u8, raw::Record, raw::Fault)| {
+            (answer, [record.matched, record.rows, record.nulls, record.deleted])
+        };
         match *self {
-            Call::Locate { file, column } => raw::locate(&[], file, column.as_bytes(), KIND.as_bytes()),
+            Call::Locate { file, column } => two(raw::locate(&[], file, column.as_bytes(), KIND.as_bytes())),
             Call::Audit { body, ty } => one(raw::audit(body, ty, field)),
-            Call::Ask { body, ty, question, literals } => one(raw::ask(body, ty, EDITION, question, literals, field)),
+            Call::Ask { body, ty, question, literals } => four(raw::ask(body, ty, EDITION, question, literals, field)),
             Call::ReadDeletions { file, rows } => one(raw::read_deletions(file, 0, rows.into(), field)),
-            Call::Subtract { second, rows, .. } => raw::subtract(field, second, rows.into()),
+            Call::Subtract { second, rows, .. } => two(raw::subtract(field, second, rows.into())),
         }
     }
 
     fn reference(&self, field: &mut [u8]) -> Answer {
-        let one = |(answer, count, _)| (answer, count, 0);
+        let one = |(answer, count, _)| (answer, [count, 0, 0, 0]);
+        let two = |(answer, first, second)| (answer, [first, second, 0, 0]);
+        let four = |(answer, record, _): (u8, Record, reader::Fault)| {
+            (answer, [record.matched, record.rows, record.nulls, record.deleted])
+        };
         match *self {
-            Call::Locate { file, column } => reader::locate(&[], file, column.as_bytes(), KIND.as_bytes()),
+            Call::Locate { file, column } => two(reader::locate(&[], file, column.as_bytes(), KIND.as_bytes())),
             Call::Audit { body, ty } => one(reader::audit(body, ty, field)),
-            Call::Ask { body, ty, question, literals } => one(reader::ask(body, ty, EDITION, question, literals, field)),
+            Call::Ask { body, ty, question, literals } => four(reader::ask(body, ty, EDITION, question, literals, field)),
             Call::ReadDeletions { file, rows } => one(reader::read_deletions(file, 0, rows.into(), field)),
-            Call::Subtract { second, rows, .. } => reader::subtract(field, second, rows.into()),
+            Call::Subtract { second, rows, .. } => two(reader::subtract(field, second, rows.into())),
         }
     }
 }
@@ -377,7 +386,7 @@ fn compare(Line { call, rows, .. }: &Line) {
     let (answer, expected) = (call.library(&mut ours), call.reference(&mut theirs));
     assert_eq!(answer, expected, "{}: the answers differ", call.name());
     assert_eq!(answer.0, raw::ACCEPTED, "{}: refused", call.name());
-    assert_ne!(answer.1, 0, "{}: no row to count", call.name());
+    assert_ne!(answer.1[0], 0, "{}: no row to count", call.name());
     assert!(ours == theirs, "{}: the fields differ", call.name());
     assert_eq!(ours[size..], [0xAA; 8], "{}: written behind the field", call.name());
 }

@@ -1,7 +1,7 @@
 use std::fmt;
 
 use crate::raw::{self, Fault};
-use crate::{Edition, Literals, Question, Refusal, RowField, Type};
+use crate::{Edition, Literals, Question, Record, Refusal, RowField, Type};
 
 /// Why a call gives no answer: a refusal, or fields and indexes of different row counts.
 ///
@@ -27,9 +27,9 @@ pub enum Error {
     Refused(Refusal),
     /// The row counts differ.
     RowsDiffer {
-        /// The row count of the field that the call was given, the first one for [`subtract`].
+        /// The row count of the field that the call was given, the first one for [`subtract`] and [`subtract_record`].
         expected: u64,
-        /// The row count of the index, or of the second field.
+        /// The row count of the index, of the second field or of the record.
         found: u64,
     },
 }
@@ -170,7 +170,7 @@ impl Audited {
     /// let body = [1, 0, 0, 0, 1, 0, 0, 0, 0, 1, 255, 255, 255, 255];
     /// let field = audit(&body, Type::Int, RowField::for_body(&body))?.into_field();
     /// assert_eq!(field.count(), 0);
-    /// assert_eq!(ask(&body, Edition::Second, Question::IsNull, &Literals::none(Type::Int), field)?.count(), 1);
+    /// assert!(!ask(&body, Edition::Second, Question::IsNull, &Literals::none(Type::Int), field)?.is_skip());
     /// # Ok::<(), poddurance::Error>(())
     /// ```
     #[must_use]
@@ -179,7 +179,7 @@ impl Audited {
     }
 }
 
-/// Checks the whole body of an index as [`audit`] does, then answers a question: which rows does it choose?
+/// Checks the whole body of an index as [`audit`] does, then answers a question: which rows does it choose, and how many of how many?
 ///
 /// The edition says what becomes of null rows in NOT EQUAL and NOT IN; in the other questions it makes no difference. The type is
 /// that of the literals. A body with another row count than the field's is [`Error::RowsDiffer`], or [`Refusal::Room`] where it
@@ -193,12 +193,13 @@ impl Audited {
 /// let seven = Literals::of(Type::TinyInt, [7])?;
 ///
 /// let answer = ask(&body, Edition::First, Question::NotEqual, &seven, RowField::for_body(&body))?;
-/// assert_eq!(answer.count(), 2);
 /// assert!(answer.field().iter().eq([1, 2])); // 9 and null
+/// assert_eq!(answer.record().to_string(), "drawn from 2 of 3 rows");
 ///
 /// let answer = ask(&body, Edition::Second, Question::NotEqual, &seven, RowField::for_body(&body))?;
-/// assert_eq!(answer.count(), 1);
 /// assert!(answer.field().iter().eq([1])); // 9
+/// assert_eq!(answer.record().to_string(), "drawn from 1 of 3 rows");
+/// assert_eq!(answer.record().nulls(), 1); // in each edition
 ///
 /// let eight = Literals::of(Type::TinyInt, [8])?;
 /// assert!(ask(&body, Edition::Second, Question::Equal, &eight, RowField::for_body(&body))?.is_skip());
@@ -206,11 +207,10 @@ impl Audited {
 /// ```
 pub fn ask(body: &[u8], edition: Edition, question: Question, literals: &Literals, mut field: RowField) -> Result<Answer, Error> {
     let (ty, bytes) = (literals.ty().number(), literals.as_bytes());
-    let (answer, count, fault) = raw::ask(body, ty, edition.number(), question.number(), bytes, field.bytes_mut());
+    let (answer, record, fault) = raw::ask(body, ty, edition.number(), question.number(), bytes, field.bytes_mut());
     accepted(answer, fault)?;
-    // An accepted body has the row count that stands in its bytes.
-    same_rows(&field, RowField::claim(body))?;
-    Ok(Answer { field, count })
+    same_rows(&field, record.rows)?;
+    Ok(Answer { field, record: Record::accepted(record) })
 }
 
 /// From the file to the answer in one call: finds the index as [`locate`] does, checks its whole body as [`audit`] does, then
@@ -269,7 +269,7 @@ pub fn ask_file(
     literals: &Literals,
     mut field: RowField,
 ) -> Result<Option<Answer>, Error> {
-    let (answer, count, fault) = raw::ask_file(
+    let (answer, record, fault) = raw::ask_file(
         embedded,
         file,
         column.as_bytes(),
@@ -284,13 +284,11 @@ pub fn ask_file(
         return Ok(None);
     }
     accepted(answer, fault)?;
-    // The call answers no row count. An accepted body has the one that stands in its bytes, and Locate finds the same body again.
-    let body = locate(embedded, file, column, kind)?.expect("the index that was asked is there");
-    same_rows(&field, RowField::claim(body))?;
-    Ok(Some(Answer { field, count }))
+    same_rows(&field, record.rows)?;
+    Ok(Some(Answer { field, record: Record::accepted(record) }))
 }
 
-/// The answer to a question: the rows it chooses.
+/// The answer to a question: the rows it chooses, and the record of how many they are, of how many.
 ///
 /// ```
 /// use poddurance::{ask, Edition, Literals, Question, RowField, Type};
@@ -298,6 +296,7 @@ pub fn ask_file(
 /// let body = [1, 0, 0, 0, 3, 0, 0, 0, 2, 1, 255, 255, 255, 253, 7, 255, 255, 255, 255, 9, 255, 255, 255, 254];
 /// let answer = ask(&body, Edition::Second, Question::IsNull, &Literals::none(Type::TinyInt), RowField::for_body(&body))?;
 /// if !answer.is_skip() {
+///     assert_eq!(answer.record().to_string(), "drawn from 1 of 3 rows");
 ///     for row in answer.field() {
 ///         assert_eq!(row, 2);
 ///     }
@@ -307,7 +306,7 @@ pub fn ask_file(
 #[derive(Clone, Debug, PartialEq, Eq)]
 pub struct Answer {
     field: RowField,
-    count: u64,
+    record: Record,
 }
 
 impl Answer {
@@ -323,22 +322,23 @@ impl Answer {
     /// ```
     #[must_use]
     pub fn is_skip(&self) -> bool {
-        self.count == 0
+        self.record.is_skip()
     }
 
-    /// How many rows are chosen.
+    /// How many rows are chosen, of how many, and how many are null. No row of it is deleted yet.
     ///
     /// ```
     /// # use poddurance::{ask, Edition, Literals, Question, RowField, Type};
     /// // One row, null.
     /// let body = [1, 0, 0, 0, 1, 0, 0, 0, 0, 1, 255, 255, 255, 255];
-    /// let answer = ask(&body, Edition::Second, Question::IsNull, &Literals::none(Type::Int), RowField::for_body(&body))?;
-    /// assert_eq!(answer.count(), 1);
+    /// let answer = ask(&body, Edition::Second, Question::IsNotNull, &Literals::none(Type::Int), RowField::for_body(&body))?;
+    /// let record = answer.record();
+    /// assert_eq!((record.rows(), record.nulls(), record.deleted(), record.matched()), (1, 1, 0, 0));
     /// # Ok::<(), poddurance::Error>(())
     /// ```
     #[must_use]
-    pub fn count(&self) -> u64 {
-        self.count
+    pub fn record(&self) -> Record {
+        self.record
     }
 
     /// The rows that are chosen, of all rows of the body.
@@ -356,7 +356,7 @@ impl Answer {
         &self.field
     }
 
-    /// The rows that are chosen, to [`subtract`] from, or to lend to the next call.
+    /// The rows that are chosen, or the field to lend to the next call.
     ///
     /// ```
     /// # use poddurance::{ask, Edition, Literals, Question, RowField, Type};
@@ -370,6 +370,22 @@ impl Answer {
     #[must_use]
     pub fn into_field(self) -> RowField {
         self.field
+    }
+
+    /// The rows that are chosen and the record, for [`subtract_record`].
+    ///
+    /// ```
+    /// # use poddurance::{ask, subtract_record, Edition, Literals, Question, RowField, Type};
+    /// // One row, null.
+    /// let body = [1, 0, 0, 0, 1, 0, 0, 0, 0, 1, 255, 255, 255, 255];
+    /// let answer = ask(&body, Edition::Second, Question::IsNull, &Literals::none(Type::Int), RowField::for_body(&body))?;
+    /// let (mut rows, record) = answer.into_parts();
+    /// assert_eq!(subtract_record(&mut rows, &RowField::all_of(1)?, record)?.removed, 1);
+    /// # Ok::<(), poddurance::Error>(())
+    /// ```
+    #[must_use]
+    pub fn into_parts(self) -> (RowField, Record) {
+        (self.field, self.record)
     }
 }
 
@@ -445,7 +461,7 @@ impl Deleted {
         self.count
     }
 
-    /// The rows that are deleted, to [`subtract`].
+    /// The rows that are deleted, for [`subtract_record`] or [`subtract`].
     ///
     /// ```
     /// # use poddurance::{read_deletions, RowField};
@@ -475,7 +491,8 @@ impl Deleted {
     }
 }
 
-/// Clears in `first` each row that is set in `second`.
+/// Clears in `first` each row that is set in `second`, for rows that no question chose, as where there is no index. For an answer's
+/// rows there is [`subtract_record`].
 ///
 /// Both must be for the same number of rows: a field of another data file is [`Error::RowsDiffer`] and changes nothing.
 ///
@@ -515,6 +532,67 @@ pub struct Subtracted {
     /// How many rows are left.
     pub left: u64,
     /// How many rows were removed.
+    pub removed: u64,
+}
+
+/// Clears in `first`, the rows of an answer, each row that is set in `second`, the deleted ones, and brings the answer's record up to date.
+///
+/// In the record that comes back [`deleted`](Record::deleted) counts all rows of `second`, those that weren't chosen too, and
+/// [`matched`](Record::matched) is what is left in `first`; row count and null rows are as they were. Both counts are made afresh: a second call
+/// doesn't add to the first one's.
+///
+/// The two fields and the record must be of the same number of rows: another is [`Error::RowsDiffer`] and changes nothing. The record
+/// should be that of the answer that `first` came with; its null rows are handed on as they are.
+///
+/// ```
+/// use poddurance::{ask, subtract_record, Edition, Error, Literals, Question, RowField, Type};
+///
+/// // 7, 9, null
+/// let body = [1, 0, 0, 0, 3, 0, 0, 0, 2, 1, 255, 255, 255, 253, 7, 255, 255, 255, 255, 9, 255, 255, 255, 254];
+/// let none = Literals::none(Type::TinyInt);
+/// let (mut rows, record) = ask(&body, Edition::Second, Question::IsNotNull, &none, RowField::for_body(&body))?.into_parts();
+/// assert_eq!(record.to_string(), "drawn from 2 of 3 rows");
+///
+/// // Rows 1 and 2 are deleted. Row 2, null, was not chosen, and so one is removed.
+/// let seven = Literals::of(Type::TinyInt, [7])?;
+/// let deleted = ask(&body, Edition::First, Question::NotEqual, &seven, RowField::for_body(&body))?.into_field();
+/// let subtracted = subtract_record(&mut rows, &deleted, record)?;
+/// assert_eq!(subtracted.record.to_string(), "drawn from 1 of 3 rows");
+/// assert_eq!((subtracted.record.deleted(), subtracted.removed), (2, 1));
+/// assert!(rows.iter().eq([0]));
+///
+/// let other = RowField::all_of(4)?;
+/// assert_eq!(subtract_record(&mut rows, &other, record), Err(Error::RowsDiffer { expected: 3, found: 4 }));
+/// assert!(rows.iter().eq([0]));
+/// # Ok::<(), Error>(())
+/// ```
+pub fn subtract_record(first: &mut RowField, second: &RowField, record: Record) -> Result<RecordSubtracted, Error> {
+    same_rows(first, second.rows())?;
+    same_rows(first, record.rows())?;
+    let (answer, record, removed) = raw::subtract_record(first.bytes_mut(), second.as_bytes(), record.raw());
+    accepted(answer, Fault::NONE)?;
+    Ok(RecordSubtracted { record: Record::accepted(record), removed })
+}
+
+/// What [`subtract_record`] did: the record, brought up to date, and how many rows were removed.
+///
+/// ```
+/// use poddurance::{ask, subtract_record, Edition, Literals, Question, RowField, Type};
+///
+/// // One row, null.
+/// let body = [1, 0, 0, 0, 1, 0, 0, 0, 0, 1, 255, 255, 255, 255];
+/// let answer = ask(&body, Edition::Second, Question::IsNull, &Literals::none(Type::Int), RowField::for_body(&body))?;
+/// let (mut rows, before) = answer.into_parts();
+/// let subtracted = subtract_record(&mut rows, &RowField::all_of(1)?, before)?;
+/// assert_eq!(subtracted.record.matched() + subtracted.removed, before.matched());
+/// assert!(subtracted.record.is_skip());
+/// # Ok::<(), poddurance::Error>(())
+/// ```
+#[derive(Clone, Copy, Debug, PartialEq, Eq, Hash)]
+pub struct RecordSubtracted {
+    /// The record of what is left.
+    pub record: Record,
+    /// How many rows were removed: the deleted ones among the chosen.
     pub removed: u64,
 }
 

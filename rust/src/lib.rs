@@ -3,12 +3,14 @@
 //!
 //! A thin layer over an archive that is written and proved in Rattle. Document 01, the rules and scope of the library, decides
 //! what each call answers and which [`Refusal`] it gives. [`ask_file`] goes from an index file to the answer; [`locate`],
-//! [`audit`] and [`ask`] are its steps. [`read_deletions`] and [`subtract`] take the deleted rows away.
+//! [`audit`] and [`ask`] are its steps. [`read_deletions`] and [`subtract_record`] take the deleted rows away, [`subtract`] where there is
+//! no answer. The [`Record`] that comes with an answer is what a graph may claim of its rows.
 //!
 //! Which rows of a data file hold another value than 7, without the deleted ones?
 //!
 //! ```
-//! use poddurance::{ask_file, read_deletions, subtract, Edition, Literals, Question, RowField, Type};
+//! use poddurance::{ask_file, read_deletions, subtract, subtract_record};
+//! use poddurance::{Edition, Literals, Question, RowField, Type};
 //!
 //! // The TINYINT column s with the rows 7, 9, null, 11.
 //! let index_file = [
@@ -24,16 +26,24 @@
 //! ];
 //! let row_count = 4; // as the table's metadata has it
 //!
+//! let deleted = read_deletions(&deletion_file, 0, RowField::for_rows(row_count)?)?;
 //! let seven = Literals::of(Type::TinyInt, [7])?;
 //! let field = RowField::for_rows(row_count)?;
-//! let mut rows = match ask_file(&[], &index_file, "s", "bitmap", Edition::Second, Question::NotEqual, &seven, field)? {
-//!     Some(answer) => answer.into_field(),
-//!     None => RowField::all_of(row_count)?, // without an index all rows are to be read
+//! let rows = match ask_file(&[], &index_file, "s", "bitmap", Edition::Second, Question::NotEqual, &seven, field)? {
+//!     Some(answer) => {
+//!         assert!(answer.field().iter().eq([1, 3])); // in Edition::First row 2, which is null, too
+//!         let (mut rows, record) = answer.into_parts();
+//!         let record = subtract_record(&mut rows, deleted.field(), record)?.record;
+//!         assert_eq!(record.to_string(), "drawn from 1 of 4 rows");
+//!         rows
+//!     }
+//!     None => {
+//!         // Without an index all rows are to be read, but for the deleted ones.
+//!         let mut rows = RowField::all_of(row_count)?;
+//!         subtract(&mut rows, deleted.field())?;
+//!         rows
+//!     }
 //! };
-//! assert!(rows.iter().eq([1, 3])); // in Edition::First row 2, which is null, too
-//!
-//! let deleted = read_deletions(&deletion_file, 0, RowField::for_rows(row_count)?)?;
-//! assert_eq!(subtract(&mut rows, deleted.field())?.left, 1);
 //! assert!(rows.iter().eq([3]));
 //! # Ok::<(), poddurance::Error>(())
 //! ```
@@ -51,16 +61,20 @@
 #![deny(unsafe_code)]
 
 mod calls;
+mod commas;
 mod literals;
 mod names;
 #[allow(unsafe_code)]
 pub mod raw;
+mod record;
 mod refusal;
 mod row_field;
 
-pub use calls::{ask, ask_file, audit, locate, read_deletions, subtract, Answer, Audited, Deleted, Error, Subtracted};
+pub use calls::{ask, ask_file, audit, locate, read_deletions, subtract, subtract_record};
+pub use calls::{Answer, Audited, Deleted, Error, RecordSubtracted, Subtracted};
 pub use literals::{Literals, Value};
 pub use names::{Edition, Question, Type, UnknownName};
+pub use record::Record;
 pub use refusal::Refusal;
 pub use row_field::{Ranges, RowField, Rows};
 

@@ -1,7 +1,8 @@
-//! The six calls as the archive has them: numbers in, numbers out, over buffers that the caller keeps.
+//! The seven calls as the archive has them: numbers in, numbers out, over buffers that the caller keeps.
 //!
 //! Each call answers [`ACCEPTED`], [`ABSENT`] ([`locate`] and [`ask_file`] alone) or the number of a [`Refusal`](crate::Refusal),
-//! and then its counts, which are 0 unless the call accepts; those that read bitmaps answer last the [`Fault`], where a refusal's cause is.
+//! and then its counts, of [`ask`] and [`ask_file`] the [`Record`], which are 0 unless the call accepts; those that read bitmaps answer
+//! last the [`Fault`], where a refusal's cause is.
 //! These functions are for callers that reuse their own buffers; the functions at the top of the crate keep a field and its row count
 //! together and are harder to use wrongly.
 //!
@@ -10,16 +11,16 @@
 //! ROOM and the refusals before ROOM leave the whole buffer as it was, with the rows of an earlier call.
 //!
 //! ```
-//! use poddurance::raw::{self, Fault};
+//! use poddurance::raw::{self, Fault, Record};
 //!
 //! // TINYINT (0) with the rows 7, 9, null; the buffer has room for more, and bits of an earlier call.
 //! let mut body = [1, 0, 0, 0, 3, 0, 0, 0, 2, 1, 255, 255, 255, 253, 7, 255, 255, 255, 255, 9, 255, 255, 255, 254];
 //! let mut buffer = [0xFF; 100];
 //! let (answer, rows, fault) = raw::audit(&body, 0, &mut buffer);
 //! assert_eq!((answer, rows, fault), (raw::ACCEPTED, 3, Fault::NONE));
-//! let (answer, count, _) = raw::ask(&body, 0, 2, 5, &[], &mut buffer); // edition 2, IS NOT NULL (5)
-//! assert_eq!((answer, count), (raw::ACCEPTED, 2));
-//! let field = &buffer[..rows.div_ceil(8) as usize];
+//! let (answer, record, _) = raw::ask(&body, 0, 2, 5, &[], &mut buffer); // edition 2, IS NOT NULL (5)
+//! assert_eq!((answer, record), (raw::ACCEPTED, Record { rows: 3, nulls: 1, deleted: 0, matched: 2 }));
+//! let field = &buffer[..record.rows.div_ceil(8) as usize];
 //! assert_eq!(field, [0b011]);
 //!
 //! body[23] = 255; // the second value, 9, is now at row 0, where 7 is: TWICE (8), entry 2
@@ -75,9 +76,46 @@ impl Fault {
     pub const NONE: Fault = Fault { entry: 0, container: 0, row: 0 };
 }
 
+/// What a graph may claim of its rows: four counts, [`Record::NONE`] with any answer but [`ACCEPTED`].
+///
+/// Its parts can be written by hand, and [`subtract_record`] takes any numbers; the [`Record`](crate::Record) at the top of the crate is
+/// made by accepted calls alone.
+///
+/// ```
+/// use poddurance::raw::{ask, Record};
+///
+/// // TINYINT (0) with the rows 7, 9, null; edition 2, NOT EQUAL (1) 7.
+/// let body = [1, 0, 0, 0, 3, 0, 0, 0, 2, 1, 255, 255, 255, 253, 7, 255, 255, 255, 255, 9, 255, 255, 255, 254];
+/// let (_, record, _) = ask(&body, 0, 2, 1, &[7], &mut [0]);
+/// assert_eq!(record, Record { rows: 3, nulls: 1, deleted: 0, matched: 1 });
+/// ```
+#[derive(Clone, Copy, Debug, Default, PartialEq, Eq, Hash)]
+#[repr(C)]
+pub struct Record {
+    /// The row count of the index.
+    pub rows: u64,
+    /// How many rows are null, for each question and edition.
+    pub nulls: u64,
+    /// How many rows the deletions list, chosen or not; 0 until they are subtracted.
+    pub deleted: u64,
+    /// How many rows are chosen, and after [`subtract_record`] how many are left of them. 0 in an accepted answer says skip.
+    pub matched: u64,
+}
+
+impl Record {
+    /// That of an answer which isn't accepted.
+    ///
+    /// ```
+    /// use poddurance::raw::Record;
+    ///
+    /// assert_eq!(Record::NONE, Record { rows: 0, nulls: 0, deleted: 0, matched: 0 });
+    /// ```
+    pub const NONE: Record = Record { rows: 0, nulls: 0, deleted: 0, matched: 0 };
+}
+
 /// The functions of the archive, as include/poddurance.h declares them.
 mod c {
-    use super::Fault;
+    use super::{Fault, Record};
 
     extern "C" {
         pub fn poddurance_locate(
@@ -111,7 +149,7 @@ mod c {
             literals_len: usize,
             field: *mut u8,
             field_len: usize,
-            matched: *mut u64,
+            record: *mut Record,
             fault: *mut Fault,
         ) -> u8;
         pub fn poddurance_ask_file(
@@ -130,7 +168,7 @@ mod c {
             literals_len: usize,
             field: *mut u8,
             field_len: usize,
-            matched: *mut u64,
+            record: *mut Record,
             fault: *mut Fault,
         ) -> u8;
         pub fn poddurance_read_deletions(
@@ -150,6 +188,14 @@ mod c {
             second_len: usize,
             rows: u64,
             left: *mut u64,
+            removed: *mut u64,
+        ) -> u8;
+        pub fn poddurance_subtract_record(
+            first: *mut u8,
+            first_len: usize,
+            second: *const u8,
+            second_len: usize,
+            record: *mut Record,
             removed: *mut u64,
         ) -> u8;
     }
@@ -212,28 +258,31 @@ pub fn audit(body: &[u8], ty: u32, field: &mut [u8]) -> (u8, u64, Fault) {
     (answer, rows, fault)
 }
 
-/// Ask: the answer, how many rows the question chooses by the edition's rule of null rows ([`Edition`](crate::Edition)), and where a
-/// refusal's cause is. Accepted, those rows are set in the field; a number of 0 says skip.
+/// Ask: the answer, the record, and where a refusal's cause is. Accepted, the rows that the question chooses by the edition's rule of null
+/// rows ([`Edition`](crate::Edition)) are set in the field and counted as the record's `matched`, of which 0 says skip.
 ///
 /// Edition and question are both numbers, and swapped they may be another well-formed question.
 ///
 /// ```
-/// use poddurance::raw::{ask, Fault};
+/// use poddurance::raw::{ask, Fault, Record};
 /// use poddurance::{Edition, Question};
 ///
 /// let body = [1, 0, 0, 0, 3, 0, 0, 0, 2, 1, 255, 255, 255, 253, 7, 255, 255, 255, 255, 9, 255, 255, 255, 254];
 /// let mut field = [0];
 /// let not_equal = Question::NotEqual.number();
 /// // TINYINT (0), NOT EQUAL 7
-/// assert_eq!(ask(&body, 0, Edition::First.number(), not_equal, &[7], &mut field), (0, 2, Fault::NONE));
+/// let record = Record { rows: 3, nulls: 1, deleted: 0, matched: 2 };
+/// assert_eq!(ask(&body, 0, Edition::First.number(), not_equal, &[7], &mut field), (0, record, Fault::NONE));
 /// assert_eq!(field, [0b110]); // 9 and null
-/// assert_eq!(ask(&body, 0, Edition::Second.number(), not_equal, &[7], &mut field), (0, 1, Fault::NONE));
+/// let record = Record { matched: 1, ..record };
+/// assert_eq!(ask(&body, 0, Edition::Second.number(), not_equal, &[7], &mut field), (0, record, Fault::NONE));
 /// assert_eq!(field, [0b010]); // 9
-/// assert_eq!(ask(&body, 0, 3, not_equal, &[7], &mut field), (11, 0, Fault::NONE)); // there is no edition 3: LITERAL (11)
+/// // There is no edition 3: LITERAL (11).
+/// assert_eq!(ask(&body, 0, 3, not_equal, &[7], &mut field), (11, Record::NONE, Fault::NONE));
 /// ```
 #[must_use]
-pub fn ask(body: &[u8], ty: u32, edition: u32, question: u32, literals: &[u8], field: &mut [u8]) -> (u8, u64, Fault) {
-    let (mut matched, mut fault) = (0, Fault::NONE);
+pub fn ask(body: &[u8], ty: u32, edition: u32, question: u32, literals: &[u8], field: &mut [u8]) -> (u8, Record, Fault) {
+    let (mut record, mut fault) = (Record::NONE, Fault::NONE);
     // SAFETY: a slice's pointer is never null and is good for its length, `field`'s for writing too; the results are two locals good
     // for writing. All live through the call, which keeps none of them. `field` is borrowed mutably, so that it overlaps no other
     // buffer; `body` and `literals` are read alone.
@@ -248,19 +297,19 @@ pub fn ask(body: &[u8], ty: u32, edition: u32, question: u32, literals: &[u8], f
             literals.len(),
             field.as_mut_ptr(),
             field.len(),
-            &mut matched,
+            &mut record,
             &mut fault,
         )
     };
-    (answer, matched, fault)
+    (answer, record, fault)
 }
 
-/// From the file to the answer: [`locate`], then [`ask`] on the part that it hands back. The answer, how many rows the question
-/// chooses by the edition's rule of null rows, and where a refusal's cause is. Accepted, those rows are set in the field; a number of
-/// 0 says skip. With [`ABSENT`] and with a refusal of Locate the field's buffer is as it was.
+/// From the file to the answer: [`locate`], then [`ask`] on the part that it hands back. The answer, the record, and where a refusal's
+/// cause is. Accepted, the rows that the question chooses by the edition's rule of null rows are set in the field and counted as the
+/// record's `matched`, of which 0 says skip. With [`ABSENT`] and with a refusal of Locate the field's buffer is as it was.
 ///
 /// ```
-/// use poddurance::raw::{ask_file, Fault, ABSENT};
+/// use poddurance::raw::{ask_file, Fault, Record, ABSENT};
 ///
 /// let file = [
 ///     0, 5, 0x4E, 0x4E, 0xD0, 0x1A, 0x35, 0xAE, 0, 0, 0, 1, 0, 0, 0, 47, 0, 0, 0, 1, // head up to the column number
@@ -269,11 +318,13 @@ pub fn ask(body: &[u8], ty: u32, edition: u32, question: u32, literals: &[u8], f
 /// ];
 /// let mut field = [0xAA];
 /// // TINYINT (0), edition 2, NOT EQUAL (1) 7
-/// assert_eq!(ask_file(&[], &file, b"t", b"bitmap", 0, 2, 1, &[7], &mut field), (ABSENT, 0, Fault::NONE));
+/// assert_eq!(ask_file(&[], &file, b"t", b"bitmap", 0, 2, 1, &[7], &mut field), (ABSENT, Record::NONE, Fault::NONE));
 /// assert_eq!(field, [0xAA]);
-/// assert_eq!(ask_file(&[], &file, b"s", b"bitmap", 0, 2, 1, &[7], &mut field), (0, 1, Fault::NONE));
+/// let record = Record { rows: 3, nulls: 1, deleted: 0, matched: 1 };
+/// assert_eq!(ask_file(&[], &file, b"s", b"bitmap", 0, 2, 1, &[7], &mut field), (0, record, Fault::NONE));
 /// assert_eq!(field, [0b010]); // 9
-/// assert_eq!(ask_file(&[], &file, b"s", b"bitmap", 0, 1, 1, &[7], &mut field), (0, 2, Fault::NONE)); // edition 1
+/// let record = Record { matched: 2, ..record };
+/// assert_eq!(ask_file(&[], &file, b"s", b"bitmap", 0, 1, 1, &[7], &mut field), (0, record, Fault::NONE)); // edition 1
 /// assert_eq!(field, [0b110]); // 9 and null
 /// ```
 // The archive's call has these parameters; what belongs together is put together at the top of the crate.
@@ -289,8 +340,8 @@ pub fn ask_file(
     question: u32,
     literals: &[u8],
     field: &mut [u8],
-) -> (u8, u64, Fault) {
-    let (mut matched, mut fault) = (0, Fault::NONE);
+) -> (u8, Record, Fault) {
+    let (mut record, mut fault) = (Record::NONE, Fault::NONE);
     // SAFETY: a slice's pointer is never null and is good for its length, `field`'s for writing too; the results are two locals good
     // for writing. All live through the call, which keeps none of them. `field` is borrowed mutably, so that it overlaps no other
     // buffer; the others are read alone and may share bytes.
@@ -311,11 +362,11 @@ pub fn ask_file(
             literals.len(),
             field.as_mut_ptr(),
             field.len(),
-            &mut matched,
+            &mut record,
             &mut fault,
         )
     };
-    (answer, matched, fault)
+    (answer, record, fault)
 }
 
 /// Read deletions: the answer, how many rows bin number `bin` of the deletion file lists, and where a refusal's cause is, its entry
@@ -371,4 +422,36 @@ pub fn subtract(first: &mut [u8], second: &[u8], rows: u64) -> (u8, u64, u64) {
         c::poddurance_subtract(first.as_mut_ptr(), first.len(), second.as_ptr(), second.len(), rows, &mut left, &mut removed)
     };
     (answer, left, removed)
+}
+
+/// Subtract for an answer's record: the answer, the record handed back, and how many rows were removed from `first`.
+///
+/// Clears in `first` each row below the record's row count that is set in `second`. In the record that comes back, `deleted` is how many rows
+/// below the row count are set in `second`, and `matched` how many are left in `first`, whatever numbers went in; `rows` and `nulls` are
+/// as they were. Only the row count is tested. With a refusal the record is [`Record::NONE`] and `first` is as it was.
+///
+/// **Hand on an accepted answer's record alone.** A refusal's is that of a data file without rows: this call accepts it and clears nothing.
+///
+/// ```
+/// use poddurance::raw::{subtract_record, Record};
+///
+/// // Of 6 rows the answer has 4; 3 rows are deleted, of which it has 2.
+/// let mut first = [0b110110];
+/// let record = Record { rows: 6, nulls: 1, deleted: 0, matched: 4 };
+/// let left = Record { deleted: 3, matched: 2, ..record };
+/// assert_eq!(subtract_record(&mut first, &[0b100101], record), (0, left, 2));
+/// assert_eq!(first, [0b010010]);
+/// assert_eq!(subtract_record(&mut first, &[], record), (10, Record::NONE, 0)); // the second has no room for 6 rows: ROOM (10)
+/// assert_eq!(first, [0b010010]);
+/// ```
+#[must_use]
+pub fn subtract_record(first: &mut [u8], second: &[u8], mut record: Record) -> (u8, Record, u64) {
+    let mut removed = 0;
+    // SAFETY: a slice's pointer is never null and is good for its length, `first`'s for writing too; the record is a local good for
+    // reading and writing, the other result one good for writing. All live through the call, which keeps none of them. `first` is
+    // borrowed mutably, so that it overlaps no other buffer.
+    let answer = unsafe {
+        c::poddurance_subtract_record(first.as_mut_ptr(), first.len(), second.as_ptr(), second.len(), &mut record, &mut removed)
+    };
+    (answer, record, removed)
 }

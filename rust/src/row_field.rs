@@ -67,7 +67,7 @@ impl RowField {
     }
 
     /// The row count that stands in a body: four bytes, big-endian and signed, behind the version.
-    pub(crate) fn claim(body: &[u8]) -> u64 {
+    fn claim(body: &[u8]) -> u64 {
         let claimed = body.get(1..5).and_then(|count| count.try_into().ok()).map_or(0, i32::from_be_bytes);
         u64::try_from(claimed).unwrap_or(0)
     }

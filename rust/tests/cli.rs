@@ -198,7 +198,7 @@ fn embedded_bytes_go_before_the_file() {
     let asks = |file: &str, embedded: &str, status: i32, line: &str| {
         says(&["ask", file, "s", "TINYINT", "EQUAL", "7", "--rows", "--embedded", embedded], status, line);
     };
-    let kept = "keep: 1 of 3 rows\nrows: 0";
+    let kept = "keep: drawn from 1 of 3 rows (deletions not applied, 1 null)\nrows: 0";
     for file in [other, "none", "/no such folder/f", "-"] {
         asks(file, embedded, 0, kept);
         says(&["locate", file, "s", "--embedded", embedded], 0, "found: bitmap index on column \"s\", 24 bytes at 47");
@@ -225,16 +225,21 @@ fn reads_standard_input() {
     says_of_input(&["locate", "-", "s"], &index, 0, "found: bitmap index on column \"s\", 24 bytes at 47");
     says_of_input(&["audit", "-", "s", "TINYINT"], &index, 0, "accepted: 3 rows, each in exactly one place");
     let ask = ["ask", "-", "s", "TINYINT", "EQUAL", "7"];
-    says_of_input(&ask, &index, 0, "keep: 1 of 3 rows");
+    says_of_input(&ask, &index, 0, "keep: drawn from 1 of 3 rows (deletions not applied, 1 null)");
     says_of_input(&ask, &[], 3, "refused: SHORT (1), the bytes end inside a field that is due, outside bitmaps");
-    says_of_input(&["ask", "none", "s", "TINYINT", "EQUAL", "7", "--embedded", "-"], &index, 0, "keep: 1 of 3 rows");
+    says_of_input(
+        &["ask", "none", "s", "TINYINT", "EQUAL", "7", "--embedded", "-"],
+        &index,
+        0,
+        "keep: drawn from 1 of 3 rows (deletions not applied, 1 null)",
+    );
     says_of_input(&["deletions", "-", "0", "3", "--rows"], &deletions, 0, "deleted: 1 of 3 rows\nrows: 0");
     let file = folder.write("index", &index);
     says_of_input(
         &["ask", &file, "s", "TINYINT", "NOT-IN", "--edition", "1", "--deletions", "-", "--bin", "0"],
         &deletions,
         0,
-        "keep: 2 of 3 rows, 1 deleted row removed",
+        "keep: drawn from 2 of 3 rows (1 deleted, 1 null)",
     );
     // A file may be called so.
     folder.write("-", &index);
@@ -283,29 +288,41 @@ fn asks() {
     let file = &folder.write("index", &index_file("state", "bitmap", &events()));
     let ask = ["ask", file, "state", "STRING"];
     let with = |more: &[&'static str]| [&ask[..], more].concat();
-    says(&with(&["EQUAL", "login"]), 0, "keep: 3 of 6 rows");
-    says(&with(&["IN", "login", "purchase", "--rows"]), 0, "keep: 4 of 6 rows\nrows: 0, 2-3, 5");
+    says(&with(&["EQUAL", "login"]), 0, "keep: drawn from 3 of 6 rows (deletions not applied, 0 null)");
+    says(
+        &with(&["IN", "login", "purchase", "--rows"]),
+        0,
+        "keep: drawn from 4 of 6 rows (deletions not applied, 0 null)\nrows: 0, 2-3, 5",
+    );
     // No row is null, so that the editions choose the same rows.
     for edition in ["1", "2"] {
         let with = |more: &[&'static str]| [&ask[..], &["--edition", edition], more].concat();
-        says(&with(&["NOT IN", "login", "--rows"]), 0, "keep: 3 of 6 rows\nrows: 1, 3-4");
-        says(&with(&["not-in", "--rows"]), 0, "keep: 6 of 6 rows\nrows: 0-5");
-        says(&with(&["not_equal", "click"]), 0, "keep: 4 of 6 rows");
+        says(
+            &with(&["NOT IN", "login", "--rows"]),
+            0,
+            "keep: drawn from 3 of 6 rows (deletions not applied, 0 null)\nrows: 1, 3-4",
+        );
+        says(&with(&["not-in", "--rows"]), 0, "keep: drawn from 6 of 6 rows (deletions not applied, 0 null)\nrows: 0-5");
+        says(&with(&["not_equal", "click"]), 0, "keep: drawn from 4 of 6 rows (deletions not applied, 0 null)");
     }
-    says(&with(&["in"]), 1, "skip: no row of 6");
-    says(&with(&["equal", "logout"]), 1, "skip: no row of 6");
-    says(&with(&["is-null", "--rows"]), 1, "skip: no row of 6\nrows: none");
-    says(&with(&["is-not-null"]), 0, "keep: 6 of 6 rows");
-    says(&with(&["equal", "login", "--json"]), 0, r#"{"answer":"keep","count":3,"rows":6,"removed":null}"#);
+    says(&with(&["in"]), 1, "skip: drawn from 0 of 6 rows (deletions not applied, 0 null)");
+    says(&with(&["equal", "logout"]), 1, "skip: drawn from 0 of 6 rows (deletions not applied, 0 null)");
+    says(&with(&["is-null", "--rows"]), 1, "skip: drawn from 0 of 6 rows (deletions not applied, 0 null)\nrows: none");
+    says(&with(&["is-not-null"]), 0, "keep: drawn from 6 of 6 rows (deletions not applied, 0 null)");
+    says(
+        &with(&["equal", "login", "--json"]),
+        0,
+        r#"{"answer":"keep","rows":6,"nulls":0,"deleted":null,"matched":3,"removed":null}"#,
+    );
     says(
         &with(&["equal", "login", "--json", "--rows"]),
         0,
-        r#"{"answer":"keep","count":3,"rows":6,"removed":null,"ranges":[[0,0],[2,2],[5,5]]}"#,
+        r#"{"answer":"keep","rows":6,"nulls":0,"deleted":null,"matched":3,"removed":null,"ranges":[[0,0],[2,2],[5,5]]}"#,
     );
     says(
         &with(&["equal", "logout", "--json", "--rows"]),
         1,
-        r#"{"answer":"skip","count":0,"rows":6,"removed":null,"ranges":[]}"#,
+        r#"{"answer":"skip","rows":6,"nulls":0,"deleted":null,"matched":0,"removed":null,"ranges":[]}"#,
     );
     says(&["ask", file, "x", "STRING", "IS NULL"], 4, "absent: no bitmap index on column \"x\"");
 }
@@ -316,34 +333,41 @@ fn asks_in_both_editions() {
     let demo = Path::new(env!("CARGO_MANIFEST_DIR")).join("../demo");
     for name in ["pumps-v1.index", "pumps-v2.index"] {
         let file = demo.join(name);
-        let asks = |more: &[&str], edition: &[&str], status: i32, line: &str| {
+        let ask = |more: &[&str], edition: &[&str], status: i32, line: &str| {
             let words = [&["ask", file.to_str().unwrap(), "alarm", "boolean"], more, edition].concat();
             says(&words, status, line);
         };
+        // The null rows are the same 4, whatever is asked.
+        let keeps = |more: &[&str], edition: &[&str], matched: u64, rows: &str| {
+            let line = format!("keep: drawn from {matched} of 24 rows (deletions not applied, 4 null)\nrows: {rows}");
+            ask(&[more, &["--rows"]].concat(), edition, 0, &line);
+        };
+        let skips = |more: &[&str], edition: &[&str]| {
+            ask(more, edition, 1, "skip: drawn from 0 of 24 rows (deletions not applied, 4 null)");
+        };
         let (first, second) = (&["--edition", "1"][..], &["--edition", "2"][..]);
         for question in ["not-equal", "not-in"] {
-            let not_true = [question, "true", "--rows"];
-            asks(&not_true, first, 0, "keep: 19 of 24 rows\nrows: 0-6, 8-9, 11-12, 14-15, 17-22");
-            asks(&not_true, second, 0, "keep: 15 of 24 rows\nrows: 0-1, 3-4, 6, 8-9, 11-12, 14-15, 17, 19-20, 22");
+            keeps(&[question, "true"], first, 19, "0-6, 8-9, 11-12, 14-15, 17-22");
+            keeps(&[question, "true"], second, 15, "0-1, 3-4, 6, 8-9, 11-12, 14-15, 17, 19-20, 22");
         }
         // Of no literals, and of all that there are.
-        asks(&["not-in", "--rows"], first, 0, "keep: 24 of 24 rows\nrows: 0-23");
-        asks(&["not-in", "--rows"], second, 0, "keep: 20 of 24 rows\nrows: 0-1, 3-4, 6-17, 19-20, 22-23");
-        asks(&["not-in", "true", "false", "--rows"], first, 0, "keep: 4 of 24 rows\nrows: 2, 5, 18, 21");
-        asks(&["not-in", "true", "false", "--rows"], second, 1, "skip: no row of 24\nrows: none");
+        keeps(&["not-in"], first, 24, "0-23");
+        keeps(&["not-in"], second, 20, "0-1, 3-4, 6-17, 19-20, 22-23");
+        keeps(&["not-in", "true", "false"], first, 4, "2, 5, 18, 21");
+        skips(&["not-in", "true", "false"], second);
         // The others answer the same in both, and where none is given.
         for edition in [first, second, &[]] {
-            asks(&["equal", "true", "--rows"], edition, 0, "keep: 5 of 24 rows\nrows: 7, 10, 13, 16, 23");
-            asks(&["in", "true", "--rows"], edition, 0, "keep: 5 of 24 rows\nrows: 7, 10, 13, 16, 23");
-            asks(&["in"], edition, 1, "skip: no row of 24");
-            asks(&["is-null", "--rows"], edition, 0, "keep: 4 of 24 rows\nrows: 2, 5, 18, 21");
-            asks(&["is-not-null", "--rows"], edition, 0, "keep: 20 of 24 rows\nrows: 0-1, 3-4, 6-17, 19-20, 22-23");
+            keeps(&["equal", "true"], edition, 5, "7, 10, 13, 16, 23");
+            keeps(&["in", "true"], edition, 5, "7, 10, 13, 16, 23");
+            skips(&["in"], edition);
+            keeps(&["is-null"], edition, 4, "2, 5, 18, 21");
+            keeps(&["is-not-null"], edition, 20, "0-1, 3-4, 6-17, 19-20, 22-23");
         }
         // Bin 0 of the deletions has rows 3, 13 and 20.
         let deletions = demo.join("pumps.deletions");
         let left = ["not-equal", "true", "--deletions", deletions.to_str().unwrap(), "--bin", "0", "--json"];
-        asks(&left, first, 0, r#"{"answer":"keep","count":17,"rows":24,"removed":2}"#);
-        asks(&left, second, 0, r#"{"answer":"keep","count":13,"rows":24,"removed":2}"#);
+        ask(&left, first, 0, r#"{"answer":"keep","rows":24,"nulls":4,"deleted":3,"matched":17,"removed":2}"#);
+        ask(&left, second, 0, r#"{"answer":"keep","rows":24,"nulls":4,"deleted":3,"matched":13,"removed":2}"#);
     }
 }
 
@@ -381,7 +405,7 @@ fn an_index_of_another_row_count_than_the_data_file() {
     let file = &folder.write("index", &index_file("s", "bitmap", &SMALL));
     let (audit, ask) = (["audit", file, "s", "TINYINT"], ["ask", file, "s", "TINYINT", "EQUAL"]);
     says(&[&audit[..], &["--row-count", "3"]].concat(), 0, "accepted: 3 rows, each in exactly one place");
-    says(&[&ask[..], &["7", "--row-count", "3"]].concat(), 0, "keep: 1 of 3 rows");
+    says(&[&ask[..], &["7", "--row-count", "3"]].concat(), 0, "keep: drawn from 1 of 3 rows (deletions not applied, 1 null)");
     for rows in ["0", "2", "4", "8", "9", "1000", "18446744073709551615"] {
         let line = &format!("refused: the index is of 3 rows, the data file has {rows}");
         says(&[&audit[..], &["--row-count", rows]].concat(), 3, line);
@@ -405,31 +429,50 @@ fn an_index_of_another_row_count_than_the_data_file() {
 fn asks_with_deletions() {
     let folder = Folder::new();
     let file = &folder.write("index", &index_file("state", "bitmap", &events()));
-    let deletions = &folder.write("deletions", &deletion_file(&[bitmap(&[0, 1]), bitmap(&[0, 2, 5])]));
+    // The third bin lists no row.
+    let bins = [bitmap(&[0, 1]), bitmap(&[0, 2, 5]), vec![0x3A, 0x30, 0, 0, 0, 0, 0, 0]];
+    let deletions = &folder.write("deletions", &deletion_file(&bins));
     let ask = |more: &[&str], bin: &str| {
         let words = [&["ask", file, "state", "STRING"], more, &["--deletions", deletions, "--bin", bin]].concat();
         words.into_iter().map(String::from).collect::<Vec<_>>()
     };
-    says(&ask(&["EQUAL", "login"], "0"), 0, "keep: 2 of 6 rows, 1 deleted row removed");
-    says(&ask(&["EQUAL", "login", "--rows"], "0"), 0, "keep: 2 of 6 rows, 1 deleted row removed\nrows: 2, 5");
-    says(&ask(&["EQUAL", "login"], "1"), 1, "skip: no row of 6, 3 deleted rows removed");
-    says(&ask(&["EQUAL", "purchase"], "1"), 0, "keep: 1 of 6 rows, 0 deleted rows removed");
-    says(&ask(&["EQUAL", "logout"], "1"), 1, "skip: no row of 6, 0 deleted rows removed");
+    // All rows of the bin are counted as deleted, chosen or not.
+    says(&ask(&["EQUAL", "login"], "0"), 0, "keep: drawn from 2 of 6 rows (2 deleted, 0 null)");
+    says(&ask(&["EQUAL", "login", "--rows"], "0"), 0, "keep: drawn from 2 of 6 rows (2 deleted, 0 null)\nrows: 2, 5");
+    says(&ask(&["EQUAL", "login"], "1"), 1, "skip: drawn from 0 of 6 rows (3 deleted, 0 null)");
+    says(&ask(&["EQUAL", "purchase"], "1"), 0, "keep: drawn from 1 of 6 rows (3 deleted, 0 null)");
+    says(&ask(&["EQUAL", "logout"], "1"), 1, "skip: drawn from 0 of 6 rows (3 deleted, 0 null)");
+    says(&ask(&["EQUAL", "login"], "2"), 0, "keep: drawn from 3 of 6 rows (0 deleted, 0 null)");
+    says(
+        &ask(&["EQUAL", "login", "--json"], "0"),
+        0,
+        r#"{"answer":"keep","rows":6,"nulls":0,"deleted":2,"matched":2,"removed":1}"#,
+    );
+    says(
+        &ask(&["EQUAL", "login", "--json"], "1"),
+        1,
+        r#"{"answer":"skip","rows":6,"nulls":0,"deleted":3,"matched":0,"removed":3}"#,
+    );
+    says(
+        &ask(&["EQUAL", "login", "--json"], "2"),
+        0,
+        r#"{"answer":"keep","rows":6,"nulls":0,"deleted":0,"matched":3,"removed":0}"#,
+    );
     says(
         &ask(&["NOT IN", "--edition", "2", "--json", "--rows"], "1"),
         0,
-        r#"{"answer":"keep","count":3,"rows":6,"removed":3,"ranges":[[1,1],[3,4]]}"#,
+        r#"{"answer":"keep","rows":6,"nulls":0,"deleted":3,"matched":3,"removed":3,"ranges":[[1,1],[3,4]]}"#,
     );
     // A refused deletion file is no answer, also where no row was chosen.
     for literal in ["login", "logout"] {
         says(
-            &ask(&["EQUAL", literal], "2"),
+            &ask(&["EQUAL", literal], "3"),
             3,
             "refused: NOBIN (14), bin number not below the number of bins, in the deletion file",
         );
     }
     says(
-        &ask(&["EQUAL", "login", "--json"], "2"),
+        &ask(&["EQUAL", "login", "--json"], "3"),
         3,
         r#"{"answer":"refused","file":"deletions","name":"NOBIN","number":14,"meaning":"bin number not below the number of bins"}"#,
     );
@@ -443,6 +486,43 @@ fn asks_with_deletions() {
     complains(
         &["ask", file, "state", "STRING", "IS-NULL", "--deletions", "/no such folder/d", "--bin", "0"],
         "can't read /no such folder/d: ",
+    );
+}
+
+/// The sentence that document 02 wants on a graph, with commas in each number of the line and in none of JSON's.
+#[test]
+fn thousands_have_commas() {
+    let folder = Folder::new();
+    // So many rows from this one on, as a run in one container.
+    let run = |first: u16, rows: u16| {
+        let [card, first, last] = [rows - 1, first, rows - 1].map(u16::to_le_bytes);
+        [&[0x3B, 0x30, 0, 0, 1, 0, 0][..], &card, &[1, 0], &first, &last].concat()
+    };
+    // Of 1,000 rows the first ten are null and the others 7; 30 rows are deleted, 20 of them among the chosen.
+    let body = |rows: u16, nulls: u16| {
+        let [high, low] = rows.to_be_bytes();
+        let head = [1, 0, 0, high, low, 0, 0, 0, 1, 1, 0, 0, 0, 0, 7, 0, 0, 0, 15];
+        index_file("s", "bitmap", &[&head[..], &run(0, nulls), &run(nulls, rows - nulls)].concat())
+    };
+    let index = &folder.write("index", &body(1_000, 10));
+    let deletions = &folder.write("deletions", &deletion_file(&[run(0, 30), run(0, 2_000)]));
+    let ask = ["ask", index, "s", "TINYINT", "EQUAL", "7"];
+    says(&ask, 0, "keep: drawn from 990 of 1,000 rows (deletions not applied, 10 null)");
+    let deleted = [&ask[..], &["--deletions", deletions, "--bin", "0"]].concat();
+    says(&deleted, 0, "keep: drawn from 970 of 1,000 rows (30 deleted, 10 null)");
+    says(
+        &[&deleted[..], &["--json"]].concat(),
+        0,
+        r#"{"answer":"keep","rows":1000,"nulls":10,"deleted":30,"matched":970,"removed":20}"#,
+    );
+
+    let index = &folder.write("larger", &body(65_000, 1_500));
+    let ask = ["ask", index, "s", "TINYINT", "IS-NOT-NULL", "--deletions", deletions, "--bin", "1"];
+    says(&ask, 0, "keep: drawn from 63,000 of 65,000 rows (2,000 deleted, 1,500 null)");
+    says(
+        &[&ask[..], &["--json"]].concat(),
+        0,
+        r#"{"answer":"keep","rows":65000,"nulls":1500,"deleted":2000,"matched":63000,"removed":500}"#,
     );
 }
 
@@ -571,7 +651,7 @@ fn every_refusal_of_literals() {
     );
 
     let many = |number: usize| [&["ask", file, "s", "TINYINT", "IN"][..], &vec!["7"; number]].concat();
-    says(&many(1_024), 0, "keep: 1 of 3 rows");
+    says(&many(1_024), 0, "keep: drawn from 1 of 3 rows (deletions not applied, 1 null)");
     says(&many(1_025), 3, "refused: LIMIT (12), a limit is passed");
     says(
         &[many(1_025), vec!["--json"]].concat(),
@@ -611,7 +691,7 @@ fn every_refusal_of_literals() {
 
     let strings = &folder.write("strings", &index_file("state", "bitmap", &events()));
     let long = |length: usize| ["ask", strings, "state", "STRING", "EQUAL", &"x".repeat(length)].map(String::from);
-    says(&long(65_535), 1, "skip: no row of 6");
+    says(&long(65_535), 1, "skip: drawn from 0 of 6 rows (deletions not applied, 0 null)");
     says(&long(65_536), 3, "refused: LIMIT (12), a limit is passed");
 }
 
@@ -677,10 +757,14 @@ fn literals_of_every_type() {
         body.extend([255, 255, 255, 255]);
         let file = &folder.write("index", &index_file("c", "bitmap", &body));
         for literal in literals {
-            says(&[&["--rows", "ask", file, "c", ty, "EQUAL"], *literal].concat(), 0, "keep: 1 of 2 rows\nrows: 0");
+            says(
+                &[&["--rows", "ask", file, "c", ty, "EQUAL"], *literal].concat(),
+                0,
+                "keep: drawn from 1 of 2 rows (deletions not applied, 1 null)\nrows: 0",
+            );
             let not_equal = |edition| [&["--rows", "--edition", edition, "ask", file, "c", ty, "NOT EQUAL"], *literal].concat();
-            says(&not_equal("1"), 0, "keep: 1 of 2 rows\nrows: 1");
-            says(&not_equal("2"), 1, "skip: no row of 2\nrows: none");
+            says(&not_equal("1"), 0, "keep: drawn from 1 of 2 rows (deletions not applied, 1 null)\nrows: 1");
+            says(&not_equal("2"), 1, "skip: drawn from 0 of 2 rows (deletions not applied, 1 null)\nrows: none");
         }
     }
 }

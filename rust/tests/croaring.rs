@@ -9,7 +9,7 @@ use std::fs::{self, File};
 use std::path::{Path, PathBuf};
 use std::process::{Command, Stdio};
 
-use poddurance::raw::{self, Fault};
+use poddurance::raw::{self, Fault, Record};
 use reference::random::{self, Random};
 use reference::types::{EQUAL, FIRST_EDITION, INT, IS_NULL, NOT_EQUAL, SECOND_EDITION};
 use reference::writer::{bitmap, deletion_file};
@@ -180,7 +180,7 @@ fn bitmaps_of_croaring_and_ours() {
             for version in [1, 2] {
                 let body = body_with(version, *count, &null, &value);
                 // The other rows are null's, which the second edition drops from NOT EQUAL.
-                for (edition, question, literals, expected, number) in [
+                for (edition, question, literals, expected, matched) in [
                     (FIRST_EDITION, EQUAL, &[0, 0, 0, 5][..], &expected, number),
                     (SECOND_EDITION, EQUAL, &[0, 0, 0, 5], &expected, number),
                     (FIRST_EDITION, NOT_EQUAL, &[0, 0, 0, 5], &expected_others, others_number),
@@ -191,7 +191,8 @@ fn bitmaps_of_croaring_and_ours() {
                     (SECOND_EDITION, IS_NULL, &[], &expected_others, others_number),
                 ] {
                     let field = field_lender.lend(&vec![0xA5; expected.len()]);
-                    assert_eq!(raw::ask(lender.lend(&body), INT, edition, question, literals, field), (0, number, Fault::NONE));
+                    let record = Record { rows: u64::from(*count), nulls: others_number, deleted: 0, matched };
+                    assert_eq!(raw::ask(lender.lend(&body), INT, edition, question, literals, field), (0, record, Fault::NONE));
                     assert!(field == *expected, "rows of CRoaring's bitmap read from an index differ");
                 }
             }

@@ -7,11 +7,13 @@ mod support;
 use std::collections::BTreeSet;
 use std::fs;
 use std::path::{Path, PathBuf};
+use std::process::Command;
 
 use demo_files::{alarm, day, files, state, DAY, DAY_STATES, DELETED, DELETED_ELSEWHERE, SAMPLES};
-use poddurance::raw::{self, Fault};
-use poddurance::{audit, Error, Refusal, RowField, Type};
-use reference::scan::scan;
+use poddurance::raw::{self, Fault, Record};
+use poddurance::{ask_file, audit, read_deletions, subtract_record};
+use poddurance::{Edition, Error, Literals, Question, Refusal, RowField, Type};
+use reference::scan::{scan, scan_without};
 use reference::types;
 use reference::writer::Column;
 use support::shown;
@@ -78,6 +80,12 @@ fn audited(name: &str, column: &str, ty: u32) -> (u8, u64, Fault) {
     raw::audit(&body(name, column), ty, &mut [0; 3])
 }
 
+/// The numbers that the library should answer where the reference has these.
+fn record(expected: reference::record::Record) -> Record {
+    let reference::record::Record { rows, nulls, deleted, matched } = expected;
+    Record { rows, nulls, deleted, matched }
+}
+
 /// Every question about one value, and about null, is answered in both editions as a scan of the samples answers it.
 #[test]
 fn sound_files_answer_as_a_scan() {
@@ -89,8 +97,8 @@ fn sound_files_answer_as_a_scan() {
         let questions = about_one.chain(about_null);
         for (edition, (question, values)) in questions.flat_map(|question| types::EDITIONS.map(|edition| (edition, question))) {
             let literals = types::literals(cells.ty, values);
-            let (expected, count) = scan(cells, edition, question, values);
-            let expected = ((raw::ACCEPTED, count, Fault::NONE), expected);
+            let (expected, counted) = scan(cells, edition, question, values);
+            let expected = ((raw::ACCEPTED, record(counted), Fault::NONE), expected);
             let mut field = [0xA5; 3];
             let answer = raw::ask(&body, cells.ty, edition, question, &literals, &mut field);
             assert_eq!((answer, field.to_vec()), expected, "{name} {column} {edition} {question} {values:?}");
@@ -116,8 +124,7 @@ fn damaged_files_are_refused() {
     for (name, refusal) in
         [("pumps-row-lost.index", Refusal::Missing { row: 16 }), ("pumps-row-doubled.index", Refusal::Twice { entry: 3 })]
     {
-        let refused = (refusal.number(), 0, refusal.fault());
-        assert_eq!(audited(name, "state", types::STRING), refused, "{name}");
+        assert_eq!(audited(name, "state", types::STRING), (refusal.number(), 0, refusal.fault()), "{name}");
         assert_eq!(audited(name, "alarm", types::BOOLEAN), (raw::ACCEPTED, 24, Fault::NONE), "{name}");
 
         let fault = types::literals(types::STRING, &["fault"]);
@@ -127,10 +134,10 @@ fn damaged_files_are_refused() {
         };
         // Whichever value is asked for, and with no row in the field; where there is no index the field is as it was.
         let mut field = [0xA5; 4];
-        assert_eq!(asked(b"state", &mut field), refused, "{name}");
+        assert_eq!(asked(b"state", &mut field), (refusal.number(), Record::NONE, refusal.fault()), "{name}");
         assert_eq!(field, [0, 0, 0, 0xA5], "{name}");
         let mut field = [0xA5; 4];
-        assert_eq!(asked(b"pressure", &mut field), (raw::ABSENT, 0, Fault::NONE), "{name}");
+        assert_eq!(asked(b"pressure", &mut field), (raw::ABSENT, Record::NONE, Fault::NONE), "{name}");
         assert_eq!(field, [0xA5; 4], "{name}");
     }
 }
@@ -158,11 +165,95 @@ fn the_broken_day_is_sound_but_for_one_bit() {
 fn deletions_are_as_described() {
     let deletions = |bin, rows| {
         let field = RowField::for_rows(rows)?;
-        poddurance::read_deletions(&demo("pumps.deletions"), bin, field).map(|deleted| deleted.field().iter().collect::<Vec<_>>())
+        read_deletions(&demo("pumps.deletions"), bin, field).map(|deleted| deleted.field().iter().collect::<Vec<_>>())
     };
     assert_eq!(deletions(0, 24), Ok(DELETED.map(u64::from).to_vec()));
     assert_eq!(deletions(1, 40), Ok(DELETED_ELSEWHERE.map(u64::from).to_vec()));
     // The other data file's bin is not taken for this one's.
     assert_eq!(deletions(1, 24), Err(Refusal::Range { entry: 0 }));
     assert_eq!(deletions(2, 24), Err(Refusal::NoBin));
+}
+
+/// What `ask` prints of the demo: its exit status and the line.
+fn line(name: &str, words: &[&str], more: &[&str]) -> (i32, String) {
+    let file = root().join("demo").join(name);
+    let mut command = Command::new(env!("CARGO_BIN_EXE_poddurance"));
+    let ran = command.arg("ask").arg(file).args(words).args(more).current_dir(root()).output().unwrap();
+    assert_eq!(String::from_utf8(ran.stderr).unwrap(), "");
+    (ran.status.code().unwrap(), String::from_utf8(ran.stdout).unwrap())
+}
+
+/// With deletions and without, the command line's line, its JSON and the record's own sentence have the numbers of the proved calls, and
+/// these are the scan's.
+#[test]
+fn lines_have_the_numbers_of_the_calls() {
+    let fault = Literals::of(Type::String, ["fault"]).unwrap();
+    let stopped = Literals::of(Type::String, ["stopped"]).unwrap();
+    let on = Literals::of(Type::Boolean, [true]).unwrap();
+    let none = Literals::none(Type::Boolean);
+    let scanned = |cells: &Column, deleted: &[u32], edition: Edition, question: Question, value: &[&[u8]]| {
+        record(scan_without(deleted, cells, edition.number(), question.number(), value).1)
+    };
+    for name in ["pumps-v1.index", "pumps-v2.index"] {
+        for (cells, column, edition, question, literals, values, words) in [
+            (state(), "state", Edition::Second, Question::Equal, &fault, &[&b"fault"[..]][..], "state string equal fault"),
+            (state(), "state", Edition::Second, Question::Equal, &stopped, &[b"stopped"], "state string equal stopped"),
+            (alarm(), "alarm", Edition::First, Question::NotEqual, &on, &[&[1]], "alarm boolean not-equal true --edition 1"),
+            (alarm(), "alarm", Edition::Second, Question::NotEqual, &on, &[&[1]], "alarm boolean not-equal true --edition 2"),
+            (alarm(), "alarm", Edition::Second, Question::IsNull, &none, &[], "alarm boolean is-null"),
+            (alarm(), "alarm", Edition::Second, Question::IsNotNull, &none, &[], "alarm boolean is-not-null"),
+        ] {
+            let words: Vec<&str> = words.split(' ').collect();
+            let (index, deletions) = (demo(name), demo("pumps.deletions"));
+
+            // The calls of the archive.
+            let (mut first, mut second) = ([0xA5; 3], [0xA5; 3]);
+            let (column_bytes, kind, ty) = (column.as_bytes(), b"bitmap", literals.ty().number());
+            let (edition_number, question_number, bytes) = (edition.number(), question.number(), literals.as_bytes());
+            let asked = raw::ask_file(&[], &index, column_bytes, kind, ty, edition_number, question_number, bytes, &mut first);
+            let expected = scanned(&cells, &[], edition, question, values);
+            assert_eq!(asked, (raw::ACCEPTED, expected, Fault::NONE), "{words:?}");
+            assert_eq!(raw::read_deletions(&deletions, 0, expected.rows, &mut second), (raw::ACCEPTED, 3, Fault::NONE));
+            let (answer, left, removed) = raw::subtract_record(&mut first, &second, expected);
+            assert_eq!((answer, left), (raw::ACCEPTED, scanned(&cells, &DELETED, edition, question, values)), "{words:?}");
+            assert_eq!(left.matched + removed, expected.matched, "{words:?}");
+
+            // The record as a type, and its sentence.
+            let field = || RowField::for_rows(24).unwrap();
+            let answer = ask_file(&[], &index, column, "bitmap", edition, question, literals, field()).unwrap().unwrap();
+            let (mut rows, before) = answer.into_parts();
+            let deleted = read_deletions(&deletions, 0, field()).unwrap();
+            let after = subtract_record(&mut rows, deleted.field(), before).unwrap();
+            assert_eq!((rows.as_bytes(), after.removed), (&first[..], removed), "{words:?}");
+
+            // The command line.
+            let with_deletions = ["--deletions", "demo/pumps.deletions", "--bin", "0"];
+            for (said, numbers, more, deleted, removed) in [
+                (before, expected, &[][..], None, None),
+                (after.record, left, &with_deletions, Some(left.deleted), Some(removed)),
+            ] {
+                let Record { rows, nulls, matched, .. } = numbers;
+                assert_eq!((said.rows(), said.nulls(), said.deleted(), said.matched()), (rows, nulls, numbers.deleted, matched));
+                assert_eq!(said.to_string(), format!("drawn from {matched} of {rows} rows"));
+
+                let (status, answer) = if matched == 0 { (1, "skip") } else { (0, "keep") };
+                let applied = deleted.map_or("deletions not applied".to_string(), |number| format!("{number} deleted"));
+                let expected = format!("{answer}: {said} ({applied}, {nulls} null)\n");
+                assert_eq!(line(name, &words, more), (status, expected), "{words:?} {more:?}");
+
+                let [deleted, removed] = [deleted, removed].map(|number| number.map_or("null".to_string(), |n| n.to_string()));
+                let expected = format!(
+                    "{{\"answer\":\"{answer}\",\"rows\":{rows},\"nulls\":{nulls},\"deleted\":{deleted},\"matched\":{matched},\
+                     \"removed\":{removed}}}\n"
+                );
+                assert_eq!(line(name, &words, &[more, &["--json"]].concat()), (status, expected), "{words:?} {more:?}");
+            }
+        }
+    }
+    // The two that README shows.
+    let words = ["state", "string", "equal", "fault"];
+    let (_, without) = line("pumps-v2.index", &words, &[]);
+    assert_eq!(without, "keep: drawn from 3 of 24 rows (deletions not applied, 0 null)\n");
+    let (_, with) = line("pumps-v2.index", &words, &["--deletions", "demo/pumps.deletions", "--bin", "0"]);
+    assert_eq!(with, "keep: drawn from 2 of 24 rows (3 deleted, 0 null)\n");
 }

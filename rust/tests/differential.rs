@@ -1,5 +1,5 @@
-//! The library and the reference reader answer alike: on sound files with the scan's answer in each edition, on damaged ones with the
-//! same refusal, what it carries, field and bytes behind the field.
+//! The library and the reference reader answer alike: on sound files with the scan's answer in each edition, less the deleted rows too,
+//! on damaged ones with the same refusal, what it carries, field and bytes behind the field.
 //!
 //! The environment variables PODDURANCE_SEED (where the seeds start) and PODDURANCE_CASES (how many calls at least) ask
 //! for other or more cases; PODDURANCE_HEAP lends buffers from the heap instead of between guards, so that valgrind sees
@@ -12,14 +12,19 @@ mod comparison;
 mod large;
 mod support;
 
+use std::fmt::Debug;
 use std::fs::File;
 use std::os::unix::fs::FileExt;
 
-use comparison::{said, Asked, Comparison, Found, Where, ASK, ASK_FILE, AUDIT, LOCATE, READ_DELETIONS, SUBTRACT};
+use comparison::{
+    answered, raw_record, record_of, said, Answered, Asked, Comparison, Where, ASK, ASK_FILE, AUDIT, LOCATE, READ_DELETIONS,
+    SUBTRACT, SUBTRACT_RECORD,
+};
 use poddurance::raw;
 use reference::random::{self, Random};
 use reference::reader::{self, Fault, NO_FAULT};
-use reference::scan::scan;
+use reference::record::Record;
+use reference::scan::{scan, scan_without};
 use reference::types::{
     self, BIGINT, BOOLEAN, EDITIONS, EQUAL, FIRST_EDITION, IN, INT, IS_NOT_NULL, IS_NULL, NOT_EQUAL, NOT_IN, SECOND_EDITION,
     STRING, TINYINT,
@@ -38,16 +43,18 @@ const POSSIBLE: [&[u8]; CALLS.len()] = [
     &[0, 1, 2, 3, 4, 5, 6, 7, 8, 9, 10, 11, 12, 255],
     &[0, 1, 2, 3, 6, 7, 10, 12, 13, 14],
     &[0, 10, 12],
+    &[0, 10, 12],
 ];
 
 const DEFAULT_SEED: u64 = 20_240_101;
 const DEFAULT_CASES: u64 = 300_000;
 /// How many fixed calls there are at least. With the random ones, and the calls of the test `faults`, they are the README's over
 /// 700,000.
-const FIXED_CALLS: u64 = 55_000;
+const FIXED_CALLS: u64 = 90_000;
 
 const MAX: u64 = 2_147_483_647;
 
+const ROOM: u8 = 10;
 const LITERAL: u8 = 11;
 const LIMIT: u8 = 12;
 
@@ -112,25 +119,25 @@ fn check_column(both: &mut Comparison, random: &mut Random, column: &Column, gro
 
     let (answer, _, nulls, _) = both.ask(part, column.ty, random::edition(random), IS_NULL, &[], &random::field(random, rows));
     both.demand(answer == 0, "IS NULL of a sound body", &[("body", body)]);
-    let mut last = after;
+    let mut last = None;
     for _ in 0..random.between(3, 8) {
         let (question, values) = random::question(random, groups);
         let literals = types::literals(column.ty, &values);
         let before = random::field(random, rows);
         let found = EDITIONS.map(|edition| {
-            let (expected, expected_count) = scan(column, edition, question, &values);
+            let (expected, record) = scan(column, edition, question, &values);
             let found = both.ask(part, column.ty, edition, question, &literals, &before);
             let expected = [&expected[..], &before[needed..]].concat();
             let what = format!("Ask {question} in edition {edition} of a sound body");
-            let sound = found == (0, expected_count, expected, NO_FAULT);
+            let sound = found == (0, record, expected, NO_FAULT);
             both.demand(sound, &what, &[("body", body), ("literals", &literals)]);
             let asked = Asked { ty: column.ty, edition, question, literals: &literals };
             let from_file = both.ask_file(at, asked, &before);
             both.demand(from_file == found, "Ask of a sound file", &[("file", &file)]);
             found
         });
-        check_editions(both, question, &found, &nulls, rows);
-        last = random.pick(&found).2.clone();
+        check_editions(both, question, &found, &nulls);
+        last = Some((question, values, found));
     }
     // Nothing but the edition is wrong.
     let (question, values) = random::question(random, groups);
@@ -138,42 +145,73 @@ fn check_column(both: &mut Comparison, random: &mut Random, column: &Column, gro
     let before = random::field(random, rows);
     let found = both.ask(part, column.ty, edition, question, &literals, &before);
     let from_file = both.ask_file(at, Asked { ty: column.ty, edition, question, literals: &literals }, &before);
-    let refused = (LITERAL, 0, before, NO_FAULT);
+    let refused = (LITERAL, Record::NONE, before, NO_FAULT);
     both.demand(found == refused && from_file == refused, "Ask in an unknown edition", &[("body", body)]);
 
-    // The question's rows less the deleted ones.
+    let (question, values, found) = last.expect("a question was asked");
+    let which = random.below(EDITIONS.len());
+    let asked = (EDITIONS[which], question, &values[..]);
+    less_deletions(both, random, column, asked, &found[which]);
+}
+
+/// The answer to edition, question and values less the rows of one bin, and then of another: the scan of the column without them.
+fn less_deletions(
+    both: &mut Comparison,
+    random: &mut Random,
+    column: &Column,
+    (edition, question, values): (u32, u32, &[Vec<u8>]),
+    (_, given, field, _): &Answered,
+) {
+    let rows = column.cells.len();
+    let needed = rows.div_ceil(8);
     let (file, bins) = random::deletion_file(random, rows as u32);
-    if let Some(bin) = bins.len().checked_sub(1) {
+    let (mut record, mut left, mut gone) = (*given, field.clone(), Vec::new());
+    for (bin, listed) in bins.iter().enumerate().rev().take(2) {
         let before = random::field(random, rows);
         let (answer, count, deleted, _) = both.read_deletions(&file.bytes, bin as u64, rows as u64, &before);
-        let expected = field_of(&bins[bin], needed);
+        let expected = field_of(listed, needed);
         let sound = answer == 0
-            && count == bins[bin].len() as u64
+            && count == listed.len() as u64
             && deleted[..needed] == expected[..]
             && deleted[needed..] == before[needed..];
         both.demand(sound, "Read deletions of a sound file", &[("file", &file.bytes)]);
 
-        let (answer, left, removed, after) = both.subtract(&last, &deleted, rows as u64);
-        let expected: Vec<u8> = last[..needed].iter().zip(&deleted).map(|(first, second)| first & !second).collect();
-        let ones = |bytes: &[u8]| bytes.iter().map(|byte| u64::from(byte.count_ones())).sum::<u64>();
+        let (answer, after, removed, field) = subtract_both(both, &left, &deleted, record);
+        let inputs = [("first", &left[..]), ("second", &deleted)];
+        gone.extend(listed);
+        let (expected, of_scan) = scan_without(&gone, column, edition, question, values);
+        // Deleted are the rows of this bin, and not those of an earlier one.
+        let expected_record = Record { deleted: count, ..of_scan };
         let sound = answer == 0
-            && after[..needed] == expected[..]
-            && after[needed..] == last[needed..]
-            && left == ones(&expected)
-            && left + removed == ones(&last[..needed]);
-        both.demand(sound, "Subtract", &[("first", &last), ("second", &deleted)]);
+            && after == expected_record
+            && field == [&expected[..], &left[needed..]].concat()
+            && after.matched + removed == record.matched;
+        both.demand(sound, &format!("question {question} in edition {edition} less deletions"), &inputs);
+        (record, left) = (after, field);
     }
+}
+
+/// Subtract of a record, which says what the other Subtract says: answer, record, rows removed and field.
+fn subtract_both(both: &mut Comparison, first: &[u8], second: &[u8], given: Record) -> (u8, Record, u64, Vec<u8>) {
+    let found = both.subtract_record(first, second, given);
+    let without = both.subtract(first, second, given.rows);
+    let same = (found.0, found.1.matched, found.2, &found.3) == (without.0, without.1, without.2, &without.3);
+    both.demand(same, "Subtract with a record and without", &[("first", first), ("second", second)]);
+    found
 }
 
 /// What a question is answered with in the first edition and in the second: the second's rows are the first's without those of
 /// IS NULL, as Subtract takes them away. IS NULL itself is the same in both.
-fn check_editions(both: &mut Comparison, question: u32, [first, second]: &[Found; 2], nulls: &[u8], rows: usize) {
+fn check_editions(both: &mut Comparison, question: u32, [first, second]: &[Answered; 2], nulls: &[u8]) {
     let inputs = [("first edition", &first.2[..]), ("second edition", &second.2), ("IS NULL", nulls)];
     if question == IS_NULL {
         return both.demand(first == second, "IS NULL in two editions", &inputs);
     }
-    let (answer, left, removed, after) = both.subtract(&first.2, nulls, rows as u64);
-    let same = answer == 0 && after == second.2 && left == second.1 && first.1 - removed == second.1;
+    let (answer, record, removed, after) = subtract_both(both, &first.2, nulls, first.1);
+    let same = answer == 0
+        && after == second.2
+        && record == Record { deleted: first.1.nulls, ..second.1 }
+        && first.1.matched - removed == second.1.matched;
     both.demand(same, &format!("question {question} in two editions"), &inputs);
 }
 
@@ -315,15 +353,49 @@ fn deletion_files(both: &mut Comparison, random: &mut Random) {
 fn subtractions(both: &mut Comparison, random: &mut Random) {
     for _ in 0..6 {
         let rows = random::row_count(random).min(9000);
-        let first = random::field_or_short(random, rows);
-        let second = random::field_or_short(random, rows);
+        let [first, second, third] = [(); 3].map(|()| random::shaped_field_or_short(random, rows));
+        let room = 8 * first.len().min(second.len()) as u64;
         let asked_rows = match random.below(20) {
             0 => random.number() >> random.below(64),
-            1 => *random.pick(&[MAX, MAX + 1, u64::MAX, u64::MAX - 6, 1 << 32]),
+            1..=2 => *random.pick(&[MAX, MAX + 1, u64::MAX, u64::MAX - 6, 1 << 32]),
+            3 => room + random.below(2) as u64,
+            4 => room.saturating_sub(random.below(8) as u64),
             _ => rows as u64,
         };
-        both.subtract(&first, &second, asked_rows);
+        let given = random::record(random, asked_rows);
+        let (answer, record, after) = subtract_rows(both, &first, &second, given);
+        if answer == 0 {
+            // What the first call counted is given to the second, which counts anew.
+            subtract_rows(both, &after, &third, record);
+        }
     }
+}
+
+/// Subtract of a record, compared with what is counted row by row: answer, record and field.
+fn subtract_rows(both: &mut Comparison, first: &[u8], second: &[u8], given: Record) -> (u8, Record, Vec<u8>) {
+    let (answer, record, removed, after) = subtract_both(both, first, second, given);
+    let inputs = [("first", first), ("second", second)];
+    if answer != 0 {
+        let sound = (record, removed, &after[..]) == (Record::NONE, 0, first);
+        both.demand(sound, "Subtract record that refuses", &inputs);
+        return (answer, record, after);
+    }
+    let mut expected = first.to_vec();
+    let mut counted = Record { deleted: 0, matched: 0, ..given };
+    let mut expected_removed = 0;
+    for row in 0..given.rows as usize {
+        let bit = 1 << (row % 8);
+        let [in_first, in_second] = [first, second].map(|field| field[row / 8] & bit != 0);
+        counted.deleted += u64::from(in_second);
+        counted.matched += u64::from(in_first && !in_second);
+        if in_first && in_second {
+            expected[row / 8] -= bit;
+            expected_removed += 1;
+        }
+    }
+    let sound = (record, removed, &after) == (counted, expected_removed, &expected);
+    both.demand(sound, "Subtract record", &inputs);
+    (answer, record, after)
 }
 
 // Fixed cases
@@ -554,16 +626,17 @@ fn edition_orders(both: &mut Comparison) {
             assert_eq!(answers(edition).0, answer, "type {ty}, question {question} in edition {edition}");
         }
         for edition in UNKNOWN_EDITIONS {
-            let refused = (LITERAL, 0, field.clone(), NO_FAULT);
+            let refused = (LITERAL, Record::NONE, field.clone(), NO_FAULT);
             assert_eq!(answers(edition), refused, "type {ty}, question {question} in edition {edition}");
         }
     }
 }
 
 /// Each column of up to four rows of 7, 9 and null, each question with each set of 7, 8 and 9 that fits it, in bodies of both versions: the scan's answer
-/// in each edition, and the second's from the first's.
+/// in each edition, and the second's from the first's. Of up to three rows, less each set of deleted rows.
 fn each_small_column(both: &mut Comparison) {
     const MOST_ROWS: u32 = 4;
+    const MOST_ROWS_DELETED: u32 = 3;
     let cells = [Some(vec![7]), Some(vec![9]), None];
     let values = [[7], [8], [9]];
     let sets: Vec<Vec<[u8; 1]>> =
@@ -588,15 +661,60 @@ fn each_small_column(both: &mut Comparison) {
                     let (question, literals) = (*question, types::literals(TINYINT, set));
                     let found = EDITIONS.map(|edition| {
                         let found = both.ask(&body, TINYINT, edition, question, &literals, &[0xA5; 2]);
-                        let (mut expected, count) = scan(&column, edition, question, set);
+                        let (mut expected, record) = scan(&column, edition, question, set);
                         // Without rows the field has no bytes.
                         expected.resize(2, 0xA5);
-                        let sound = found == (0, count, expected, NO_FAULT);
+                        let sound = found == (0, record, expected, NO_FAULT);
                         both.demand(sound, &format!("Ask {question} in edition {edition}"), &[("body", &body)]);
+                        for second in (0..1u8 << rows).filter(|_| rows <= MOST_ROWS_DELETED) {
+                            let deleted: Vec<u32> = (0..rows).filter(|row| second >> row & 1 == 1).collect();
+                            // The spare bits of the second field aren't rows.
+                            let subtracted = both.subtract_record(&found.2, &[second | 0xFF << rows], found.1);
+                            let (mut expected, left) = scan_without(&deleted, &column, edition, question, set);
+                            expected.resize(2, 0xA5);
+                            let sound = subtracted == (0, left, record.matched - left.matched, expected);
+                            let what = format!("Ask {question} in edition {edition} less deletions");
+                            both.demand(sound, &what, &[("body", &body), ("first", &found.2), ("second", &[second])]);
+                        }
                         found
                     });
-                    check_editions(both, question, &found, &nulls, rows as usize);
+                    check_editions(both, question, &found, &nulls);
                 }
+            }
+        }
+    }
+}
+
+/// Each two fields of a byte's lower half, for as many rows and for fewer: what is behind the row count stays and isn't counted.
+fn each_small_subtraction(both: &mut Comparison) {
+    let numbers = [0, 1, 3, u64::MAX];
+    for rows in 0..=4 {
+        for fields in 0..=255u8 {
+            let (first, second) = ([fields & 0x0F, 0xA5], [fields >> 4]);
+            let number = |i: u8| numbers[usize::from(fields >> i) % numbers.len()];
+            let given = Record { rows, nulls: number(0), deleted: number(2), matched: number(4) };
+            subtract_rows(both, &first, &second, given);
+        }
+    }
+}
+
+/// LIMIT, then ROOM of either field, whatever the other numbers are. At the limit it is ROOM.
+fn subtract_orders(both: &mut Comparison) {
+    let lengths = [0, 1, 2, 3, 8, 9];
+    for (first, second) in lengths.into_iter().flat_map(|first| lengths.map(|second| (first, second))) {
+        let room = 8 * first.min(second) as u64;
+        let near = [room.saturating_sub(8), room.saturating_sub(7), room.saturating_sub(1), room, room + 1, room + 8];
+        let limits = [MAX - 7, MAX - 6, MAX, MAX + 1, MAX + 2, 1 << 32, (1 << 32) + 1, 1 << 63, u64::MAX - 6, u64::MAX];
+        for rows in near.into_iter().chain(limits) {
+            let answer = match rows {
+                _ if rows > MAX => LIMIT,
+                _ if rows > room => ROOM,
+                _ => 0,
+            };
+            for number in [0, 1, rows, u64::MAX] {
+                let given = Record { rows, nulls: number, deleted: number, matched: number };
+                let found = subtract_rows(both, &vec![0xA5; first], &vec![0x66; second], given);
+                assert_eq!(found.0, answer, "{given:?}, fields of {first} and {second} bytes");
             }
         }
     }
@@ -609,6 +727,8 @@ fn ask_file_orders(both: &mut Comparison) {
     let none = index_file(&[]);
     let wrong_body = index_file(&[("s", "bitmap", &[3])]);
     let no_body = index_file(&[("s", "bitmap", &[])]);
+    // Three rows, one of them null.
+    let of_small = |matched: u64| Record { rows: 3, nulls: 1, deleted: 0, matched };
     let fits = Asked { ty: TINYINT, edition: SECOND_EDITION, question: EQUAL, literals: &[7] };
     let misfits = [
         Asked { ty: 12, ..fits },
@@ -631,22 +751,23 @@ fn ask_file_orders(both: &mut Comparison) {
     ] {
         let field = vec![0xA5; length];
         // A refusal up to ROOM, and ABSENT, leave the field alone.
-        let expected = if answer == 0 { (0, 1, vec![0b001, 0xA5], NO_FAULT) } else { (answer, 0, field.clone(), NO_FAULT) };
+        let accepted = (0, of_small(1), vec![0b001, 0xA5], NO_FAULT);
+        let expected = if answer == 0 { accepted } else { (answer, Record::NONE, field.clone(), NO_FAULT) };
         assert_eq!(both.ask_file(Where::small(file), fits, &field), expected, "Ask of {}", hex(file));
         for misfit in misfits {
-            let expected = (answer_to_misfit, 0, field.clone(), NO_FAULT);
+            let expected = (answer_to_misfit, Record::NONE, field.clone(), NO_FAULT);
             assert_eq!(both.ask_file(Where::small(file), misfit, &field), expected, "Ask of {}", hex(file));
         }
     }
     // Behind ROOM the field is zero: the value 9 at row 0, where 7 is.
     let mut twice = sound.clone();
     twice[70] = 0xFF;
-    assert_eq!(both.ask_file(Where::small(&twice), fits, &[0xA5; 2]), (8, 0, vec![0, 0xA5], [2, 0, 0]));
+    assert_eq!(both.ask_file(Where::small(&twice), fits, &[0xA5; 2]), (8, Record::NONE, vec![0, 0xA5], [2, 0, 0]));
     // What is embedded is looked at, and the file is not.
     let embedded = Where { embedded: &sound, ..Where::small(&[]) };
-    assert_eq!(both.ask_file(embedded, fits, &[0xA5]), (0, 1, vec![1], NO_FAULT));
+    assert_eq!(both.ask_file(embedded, fits, &[0xA5]), (0, of_small(1), vec![1], NO_FAULT));
     let embedded = Where { embedded: &none, ..Where::small(&sound) };
-    assert_eq!(both.ask_file(embedded, fits, &[0xA5]), (255, 0, vec![0xA5], NO_FAULT));
+    assert_eq!(both.ask_file(embedded, fits, &[0xA5]), (255, Record::NONE, vec![0xA5], NO_FAULT));
 }
 
 fn deletion_orders(both: &mut Comparison) {
@@ -735,9 +856,9 @@ fn limits(both: &mut Comparison, random: &mut Random) {
             let field = random::field(random, most as usize);
             for (edition, question) in EDITIONS.into_iter().flat_map(|edition| [(edition, EQUAL), (edition, NOT_EQUAL)]) {
                 let literal = &groups.values[most as usize - 1].0;
-                let (expected, count) = scan(&column, edition, question, &[literal]);
+                let (expected, record) = scan(&column, edition, question, &[literal]);
                 let found = both.ask(&body, INT, edition, question, literal, &field);
-                let sound = found.0 == 0 && found.1 == count && found.2[..expected.len()] == expected[..];
+                let sound = found.0 == 0 && found.1 == record && found.2[..expected.len()] == expected[..];
                 both.demand(sound, "Ask of the most values", &[("body", &body)]);
             }
             assert_eq!(both.audit(&body, INT, &field).0, 0);
@@ -881,30 +1002,46 @@ fn most_rows(both: &mut Comparison) {
     let mut field = Lender::guarded();
     let field = field.lend_anything(bytes);
     let mut reference_field = vec![0; bytes];
-    type Said = (u8, u64, Fault);
-    let compare = |tally: &mut Tally, call: usize, found: Said, expected: Said, sound: (u8, u64), same: bool| {
-        let sound = (sound.0, sound.1, NO_FAULT);
+    fn compare<C: Debug + PartialEq>(
+        tally: &mut Tally,
+        call: usize,
+        [found, expected]: [(u8, C, Fault); 2],
+        sound: C,
+        same: bool,
+    ) {
         assert_eq!(found, expected, "{} of the most rows", CALLS[call]);
-        assert_eq!(found, sound, "{} of the most rows", CALLS[call]);
+        assert_eq!(found, (0, sound, NO_FAULT), "{} of the most rows", CALLS[call]);
         assert!(same, "{} of the most rows leaves another field", CALLS[call]);
         tally.add(call, found.0);
-    };
+    }
     let found = said(raw::audit(&body, INT, field));
     let expected = reader::audit(&body, INT, &mut reference_field);
-    compare(&mut both.tally, AUDIT, found, expected, (0, MAX), *field == *reference_field);
+    compare(&mut both.tally, AUDIT, [found, expected], MAX, *field == *reference_field);
+    let all_but_one = Record { rows: MAX, nulls: 0, deleted: 0, matched: MAX - 1 };
     for edition in EDITIONS {
-        let found = said(raw::ask(&body, INT, edition, NOT_IN, &int(6), field));
+        let found = answered(raw::ask(&body, INT, edition, NOT_IN, &int(6), field));
         let expected = reader::ask(&body, INT, edition, NOT_IN, &int(6), &mut reference_field);
-        compare(&mut both.tally, ASK, found, expected, (0, MAX - 1), *field == *reference_field);
+        compare(&mut both.tally, ASK, [found, expected], all_but_one, *field == *reference_field);
     }
     let found = said(raw::read_deletions(&file, 0, MAX, field));
     let expected = reader::read_deletions(&file, 0, MAX, &mut reference_field);
-    compare(&mut both.tally, READ_DELETIONS, found, expected, (0, MAX - 1), *field == *reference_field);
+    compare(&mut both.tally, READ_DELETIONS, [found, expected], MAX - 1, *field == *reference_field);
     // The reference reader's field is the library's second field, so that a third of this size isn't needed.
     let found = raw::subtract(field, &reference_field, MAX);
     assert_eq!(found, (0, 0, MAX - 1));
     assert!(field.iter().all(|byte| *byte == 0));
     both.tally.add(SUBTRACT, found.0);
+    // All rows but row 0; of the deleted ones row 0 isn't there, and the last row isn't deleted.
+    field.fill(0xFF);
+    field[0] = 0xFE;
+    let (answer, record, removed) = raw::subtract_record(field, &reference_field, raw_record(all_but_one));
+    let left = Record { deleted: MAX - 1, matched: 1, ..all_but_one };
+    assert_eq!((answer, record_of(record), removed), (0, left, MAX - 2));
+    let (last, others) = field.split_last().expect("bytes");
+    // The last row of all, and the bit behind it, which stands for no row.
+    assert_eq!(*last, 0xC0);
+    assert!(others.iter().all(|byte| *byte == 0));
+    both.tally.add(SUBTRACT_RECORD, answer);
 }
 
 /// Buffers past the limit are refused before anything else; they are only mapped, not filled.
@@ -938,7 +1075,8 @@ fn buffers_past_the_limit(both: &mut Comparison) {
         both.tally.add(AUDIT, 12);
         for edition in EDITIONS.into_iter().chain(UNKNOWN_EDITIONS) {
             for (body, literals) in [(long, &[7][..]), (&small, long), (&[], long)] {
-                assert_eq!(said(raw::ask(body, ty, edition, 99, literals, &mut field)), refused);
+                let refused = (12, Record::NONE, NO_FAULT);
+                assert_eq!(answered(raw::ask(body, ty, edition, 99, literals, &mut field)), refused);
                 assert_eq!(reader::ask(body, ty, edition, 99, literals, &mut field), refused);
                 both.tally.add(ASK, 12);
             }
@@ -946,10 +1084,10 @@ fn buffers_past_the_limit(both: &mut Comparison) {
     }
     let none = index_file(&[]);
     let mut ask_file = |[embedded, file, column, kind]: [&[u8]; 4], literals: &[u8], answer: u8| {
-        let expected = (answer, 0, NO_FAULT);
+        let expected = (answer, Record::NONE, NO_FAULT);
         for edition in EDITIONS.into_iter().chain(UNKNOWN_EDITIONS) {
             let found = raw::ask_file(embedded, file, column, kind, TINYINT, edition, EQUAL, literals, &mut field);
-            assert_eq!(said(found), expected);
+            assert_eq!(answered(found), expected);
             let found = reader::ask_file(embedded, file, column, kind, TINYINT, edition, EQUAL, literals, &mut field);
             assert_eq!(found, expected);
             both.tally.add(ASK_FILE, answer);
@@ -971,6 +1109,11 @@ fn buffers_past_the_limit(both: &mut Comparison) {
     assert_eq!(raw::subtract(&mut field, long, 16), (0, 8, 0));
     assert_eq!(reader::subtract(&mut field, long, 16), (0, 8, 0));
     both.tally.add(SUBTRACT, 0);
+    let sixteen = Record { rows: 16, nulls: 3, deleted: 0, matched: 8 };
+    let (answer, record, removed) = raw::subtract_record(&mut field, long, raw_record(sixteen));
+    assert_eq!((answer, record_of(record), removed), (0, sixteen, 0));
+    assert_eq!(reader::subtract_record(&mut field, long, sixteen), (0, sixteen, 0));
+    both.tally.add(SUBTRACT_RECORD, 0);
 }
 
 /// The file with the seed of the round that runs. What is written to it stays there however the program ends.
@@ -1008,6 +1151,8 @@ fn library_and_reference_reader_agree() {
         every_cut_and_flip(&mut both);
         orders(&mut both);
         each_small_column(&mut both);
+        each_small_subtraction(&mut both);
+        subtract_orders(&mut both);
         bitmap_rules(&mut both);
         limits(&mut both, random);
         containers(&mut both, random);
@@ -1044,6 +1189,8 @@ fn library_and_reference_reader_agree() {
         100 * accepted / calls,
         both.tally.table()
     ));
+    let kinds: Vec<String> = both.kinds.all().into_iter().map(|(kind, count)| format!("{count:>8}  {kind}")).collect();
+    say(&kinds.join("\n"));
     for (call, possible) in POSSIBLE.iter().enumerate() {
         for answer in 0..=255 {
             let count = both.tally.of(call, answer);
@@ -1056,5 +1203,8 @@ fn library_and_reference_reader_agree() {
     }
     if cases >= DEFAULT_CASES {
         assert!(100 * accepted >= 30 * calls, "fewer than 30% accepted");
+        for (kind, count) in both.kinds.all() {
+            assert!(count > 0, "{kind}: never");
+        }
     }
 }

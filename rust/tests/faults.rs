@@ -7,8 +7,9 @@ mod support;
 
 use std::ops::Range;
 
-use comparison::{Asked, Comparison, Found, Where};
+use comparison::{Answered, Asked, Comparison, Found, Where};
 use reference::reader::{Fault, NO_FAULT};
+use reference::record::Record;
 use reference::types::{EQUAL, FIRST_EDITION, INT, NOT_EQUAL, SECOND_EDITION, TINYINT};
 use reference::writer::{
     bitmap, bitmap_traced, body, body_traced, deletion_file, index_file, BitmapForm, ContainerForm, Groups, Layout, Length, Place,
@@ -400,14 +401,13 @@ const QUESTIONS: [(u32, u32); 2] = [(FIRST_EDITION, EQUAL), (SECOND_EDITION, NOT
 /// Ask, and Ask of a file, say what Audit says.
 #[track_caller]
 fn asked_too(both: &mut Comparison, host: &Host, body: &[u8]) {
-    let audited = both.audit(body, TINYINT, &host.field);
-    assert!(audited.0 != ACCEPTED);
+    let refused = without_record(both.audit(body, TINYINT, &host.field));
     let file = index_file(&[("s", "bitmap", body)]);
     for (edition, question) in QUESTIONS {
         let asked = both.ask(body, TINYINT, edition, question, &[1], &host.field);
         let same = Asked { ty: TINYINT, edition, question, literals: &[1] };
         let asked_of_file = both.ask_file(Where::small(&file), same, &host.field);
-        assert!(asked == audited && asked_of_file == audited, "question {question} in edition {edition}");
+        assert!(asked == refused && asked_of_file == refused, "question {question} in edition {edition}");
     }
 }
 
@@ -422,6 +422,13 @@ fn broken_bin(both: &mut Comparison, sound: &Sound, bitmap: Vec<u8>, container: 
 
 fn refused(answer: u8, field: Vec<u8>, fault: Fault) -> Found {
     (answer, 0, field, fault)
+}
+
+/// An audit's refusal as that of a question, which has no counts either.
+#[track_caller]
+fn without_record((answer, rows, field, fault): Found) -> Answered {
+    assert!(answer != ACCEPTED && rows == 0, "Audit doesn't refuse");
+    (answer, Record::NONE, field, fault)
 }
 
 /// Checks with each of the sound bitmaps, and answers how many calls were compared.
@@ -821,9 +828,10 @@ fn entries(groups: &Groups) -> Vec<usize> {
 fn names(both: &mut Comparison, body: &[u8], answer: u8, fault: Fault) {
     let found = both.audit(body, TINYINT, &[0xA5; 10]);
     assert_eq!((found.0, found.3), (answer, fault));
+    let refused = without_record(found);
     for (edition, question) in QUESTIONS {
         let asked = both.ask(body, TINYINT, edition, question, &[1], &[0xA5; 10]);
-        assert_eq!(asked, found, "question {question} in edition {edition}");
+        assert_eq!(asked, refused, "question {question} in edition {edition}");
     }
 }
 

@@ -1,7 +1,7 @@
 //! The functions at the top of the crate: what a field holds after each call, and what they don't let happen.
 
-use poddurance::{ask, ask_file, audit, locate, raw, read_deletions, subtract};
-use poddurance::{Answer, Edition, Error, Literals, Question, Refusal, RowField, Subtracted, Type, Value};
+use poddurance::{ask, ask_file, audit, locate, raw, read_deletions, subtract, subtract_record};
+use poddurance::{Answer, Edition, Error, Literals, Question, Record, Refusal, RowField, Subtracted, Type, Value};
 
 /// TINYINT 7, 9, null.
 const SMALL: [u8; 24] = [1, 0, 0, 0, 3, 0, 0, 0, 2, 1, 255, 255, 255, 253, 7, 255, 255, 255, 255, 9, 255, 255, 255, 254];
@@ -61,6 +61,11 @@ fn none() -> Literals {
     Literals::none(Type::TinyInt)
 }
 
+/// The record's row count, null rows, deleted rows and matched rows.
+fn counts(record: Record) -> [u64; 4] {
+    [record.rows(), record.nulls(), record.deleted(), record.matched()]
+}
+
 /// A field for so many rows with rows of an earlier answer in it.
 fn used(rows: u64) -> RowField {
     RowField::all_of(rows).unwrap()
@@ -71,11 +76,11 @@ fn the_answers_that_document_01_writes_out() {
     for body in [&SMALL[..], &SMALL_2] {
         let field = |question, literals: &Literals| ask(body, Edition::First, question, literals, used(3)).unwrap();
         let answer = field(Question::Equal, &seven());
-        assert_eq!((answer.field().as_bytes(), answer.count(), answer.is_skip()), (&[0b001][..], 1, false));
+        assert_eq!((answer.field().as_bytes(), counts(answer.record()), answer.is_skip()), (&[0b001][..], [3, 1, 0, 1], false));
         let answer = field(Question::NotEqual, &seven());
-        assert_eq!((answer.field().as_bytes(), answer.count(), answer.is_skip()), (&[0b110][..], 2, false));
+        assert_eq!((answer.field().as_bytes(), counts(answer.record()), answer.is_skip()), (&[0b110][..], [3, 1, 0, 2], false));
         let answer = field(Question::Equal, &Literals::of(Type::TinyInt, [8]).unwrap());
-        assert_eq!((answer.field().as_bytes(), answer.count(), answer.is_skip()), (&[0][..], 0, true));
+        assert_eq!((answer.field().as_bytes(), counts(answer.record()), answer.is_skip()), (&[0][..], [3, 1, 0, 0], true));
         let audited = audit(body, Type::TinyInt, used(3)).unwrap();
         assert_eq!((audited.rows(), audited.into_field()), (3, RowField::for_rows(3).unwrap()));
     }
@@ -106,7 +111,9 @@ fn the_second_edition_drops_null_rows() {
             for (edition, rows) in [(Edition::First, first), (Edition::Second, second)] {
                 let answer = ask(body, edition, question, literals, used(3)).unwrap();
                 assert!(answer.field().iter().eq(rows.iter().copied()), "{question} {edition}: {:?}", answer.field());
-                assert_eq!((answer.count(), answer.is_skip()), (rows.len() as u64, rows.is_empty()), "{question} {edition}");
+                // The null row is counted whether it is chosen or not.
+                assert_eq!(counts(answer.record()), [3, 1, 0, rows.len() as u64], "{question} {edition}");
+                assert_eq!(answer.is_skip(), rows.is_empty(), "{question} {edition}");
                 // Of the file, and of its bytes embedded.
                 for (embedded, file) in [(&[][..], &file[..]), (&file, &[0])] {
                     let of_file = ask_file(embedded, file, "s", "bitmap", edition, question, literals, used(3));
@@ -122,17 +129,18 @@ fn the_second_edition_drops_null_rows() {
 fn null_rows_alone() {
     for rows in [1, 9, 65_537] {
         let body = nulls(rows);
-        let count = |edition, question, literals: &Literals| {
-            ask(&body, edition, question, literals, used(rows.into())).map(|answer| answer.count())
+        let asked = |edition, question, literals: &Literals| {
+            ask(&body, edition, question, literals, used(rows.into())).map(|answer| counts(answer.record()))
         };
+        let (all, no_row) = (Ok([rows.into(), rows.into(), 0, rows.into()]), Ok([rows.into(), rows.into(), 0, 0]));
         for (question, literals) in [(Question::NotEqual, seven()), (Question::NotIn, seven()), (Question::NotIn, none())] {
-            assert_eq!(count(Edition::First, question, &literals), Ok(rows.into()), "{question}");
-            assert_eq!(count(Edition::Second, question, &literals), Ok(0), "{question}");
+            assert_eq!(asked(Edition::First, question, &literals), all, "{question}");
+            assert_eq!(asked(Edition::Second, question, &literals), no_row, "{question}");
         }
         for edition in Edition::ALL {
-            assert_eq!(count(edition, Question::IsNull, &none()), Ok(rows.into()));
-            assert_eq!(count(edition, Question::IsNotNull, &none()), Ok(0));
-            assert_eq!(count(edition, Question::In, &seven()), Ok(0));
+            assert_eq!(asked(edition, Question::IsNull, &none()), all);
+            assert_eq!(asked(edition, Question::IsNotNull, &none()), no_row);
+            assert_eq!(asked(edition, Question::In, &seven()), no_row);
         }
     }
 }
@@ -140,7 +148,7 @@ fn null_rows_alone() {
 /// Any other number is no edition, for every question, and is found behind the length limits and before the literals are read.
 #[test]
 fn an_unknown_edition_is_refused_before_the_literals_are_read() {
-    let literal = (Refusal::Literal.number(), 0, raw::Fault::NONE);
+    let literal = (Refusal::Literal.number(), raw::Record::NONE, raw::Fault::NONE);
     let file = small_file(&SMALL);
     // As many as are over the limit of literals: LIMIT, once they are read.
     let too_many = vec![7; 1_025];
@@ -158,13 +166,13 @@ fn an_unknown_edition_is_refused_before_the_literals_are_read() {
                 assert_eq!((asked, field), (literal, [0xAA; 2]), "{edition} {question}");
                 // What Locate says comes first.
                 let asked = raw::ask_file(&[], &file, b"t", b"bitmap", 0, edition, question, literals, &mut field);
-                assert_eq!(asked, (raw::ABSENT, 0, raw::Fault::NONE), "{edition} {question}");
+                assert_eq!(asked, (raw::ABSENT, raw::Record::NONE, raw::Fault::NONE), "{edition} {question}");
                 let asked = raw::ask_file(&[], &file[..70], b"s", b"bitmap", 0, edition, question, literals, &mut field);
-                assert_eq!(asked, (Refusal::Head.number(), 0, raw::Fault::NONE), "{edition} {question}");
+                assert_eq!(asked, (Refusal::Head.number(), raw::Record::NONE, raw::Fault::NONE), "{edition} {question}");
             }
         }
     }
-    let limit = (Refusal::Limit.number(), 0, raw::Fault::NONE);
+    let limit = (Refusal::Limit.number(), raw::Record::NONE, raw::Fault::NONE);
     for edition in Edition::ALL.map(Edition::number) {
         assert_eq!(raw::ask(&SMALL, 0, edition, Question::NotIn.number(), &too_many, &mut [0; 2]), limit);
     }
@@ -214,6 +222,175 @@ fn subtracts() {
     assert_eq!(subtract(&mut empty, &used(0)), Ok(Subtracted { left: 0, removed: 0 }));
 }
 
+/// The rows of a column that are not null, of TINYINT 7 in each row but the last ones, which are null, in version 1.
+fn not_null(rows: u16, null: u16) -> Answer {
+    let run = |first: u16, rows: u16| {
+        let [card, first, last] = [rows - 1, first, rows - 1].map(u16::to_le_bytes);
+        [&[0x3B, 0x30, 0, 0, 1, 0, 0][..], &card, &[1, 0], &first, &last].concat()
+    };
+    let [high, low] = rows.to_be_bytes();
+    let head = [1, 0, 0, high, low, 0, 0, 0, 1, 1, 0, 0, 0, 0, 7, 0, 0, 0, 15];
+    let body = [&head[..], &run(rows - null, null), &run(0, rows - null)].concat();
+    ask(&body, Edition::Second, Question::IsNotNull, &none(), used(rows.into())).unwrap()
+}
+
+#[test]
+fn subtracts_and_brings_the_record_up_to_date() {
+    let (mut rows, record) = not_null(6, 1).into_parts();
+    assert_eq!(counts(record), [6, 1, 0, 5]);
+    // Rows 0, 2 and 5 are deleted, and row 5 is null and was not chosen.
+    let deleted = read_deletions(&DELETIONS, 0, RowField::for_rows(6).unwrap()).unwrap().into_field();
+    let subtracted = subtract_record(&mut rows, &deleted, record).unwrap();
+    assert_eq!((counts(subtracted.record), subtracted.removed), ([6, 1, 3, 3], 2));
+    assert!(rows.iter().eq([1, 3, 4]));
+    assert_eq!(subtracted.record.to_string(), "drawn from 3 of 6 rows");
+    assert!(!subtracted.record.is_skip());
+
+    // Again: nothing is left to remove, and the deleted rows are counted anew and not added.
+    let again = subtract_record(&mut rows, &deleted, subtracted.record).unwrap();
+    assert_eq!((again.record, again.removed), (subtracted.record, 0));
+    // Other deletions take the place of the first ones in the count.
+    let others = field_of(6, &[1, 5]);
+    let subtracted = subtract_record(&mut rows, &others, subtracted.record).unwrap();
+    assert_eq!((counts(subtracted.record), subtracted.removed), ([6, 1, 2, 2], 1));
+    // All rows are deleted, and none is left.
+    let subtracted = subtract_record(&mut rows, &used(6), subtracted.record).unwrap();
+    assert_eq!((counts(subtracted.record), subtracted.removed), ([6, 1, 6, 0], 2));
+    assert!(subtracted.record.is_skip());
+    assert_eq!(rows, RowField::for_rows(6).unwrap());
+
+    // No rows at all.
+    let body = [1, 0, 0, 0, 0, 0, 0, 0, 0, 0];
+    let (mut rows, record) = ask(&body, Edition::Second, Question::IsNull, &none(), used(0)).unwrap().into_parts();
+    let subtracted = subtract_record(&mut rows, &used(0), record).unwrap();
+    assert_eq!((counts(subtracted.record), subtracted.removed), ([0; 4], 0));
+}
+
+/// The sentence of document 02.
+#[test]
+fn a_record_says_what_the_graph_is_drawn_from() {
+    let (mut rows, record) = not_null(1_000, 10).into_parts();
+    assert_eq!(record.to_string(), "drawn from 990 of 1,000 rows");
+    let deleted: Vec<u64> = (0..20).chain(990..1_000).collect();
+    let subtracted = subtract_record(&mut rows, &field_of(1_000, &deleted), record).unwrap();
+    assert_eq!(subtracted.record.to_string(), "drawn from 970 of 1,000 rows");
+    assert_eq!((counts(subtracted.record), subtracted.removed), ([1_000, 10, 30, 970], 20));
+}
+
+/// The two fields and the record are of one data file, or nothing is subtracted.
+#[test]
+fn a_record_of_another_row_count_is_not_subtracted() {
+    let (answered, record) = not_null(6, 1).into_parts();
+    for others in [0, 1, 5, 7, 8, 9, 1_000] {
+        let differs = |expected, found| Err(Error::RowsDiffer { expected, found });
+        let mut rows = answered.clone();
+        assert_eq!(subtract_record(&mut rows, &used(others), record), differs(6, others));
+        assert_eq!(rows, answered);
+        // Both fields fit each other, and the record is of another answer.
+        let mut rows = used(others);
+        assert_eq!(subtract_record(&mut rows, &used(others), record), differs(others, 6));
+        assert_eq!(rows, used(others));
+        assert_eq!(subtract_record(&mut rows, &used(6), record), differs(others, 6));
+        assert_eq!(rows, used(others));
+    }
+}
+
+/// Whatever numbers a record comes with, the row count alone is taken from it; deleted and matched rows are counted anew.
+#[test]
+fn the_raw_call_replaces_counts() {
+    for (nulls, deleted, matched) in [(0, 0, 0), (1, 2, 3), (7, 0, 6), (u64::MAX, u64::MAX, u64::MAX), (0, 1 << 63, 1 << 32)] {
+        let record = raw::Record { rows: 6, nulls, deleted, matched };
+        let mut first = [0b110110];
+        let left = raw::Record { rows: 6, nulls, deleted: 3, matched: 2 };
+        assert_eq!(raw::subtract_record(&mut first, &[0b100101], record), (raw::ACCEPTED, left, 2));
+        assert_eq!(first, [0b010010]);
+        assert_eq!(raw::subtract_record(&mut first, &[0b100101], left), (raw::ACCEPTED, left, 0));
+    }
+}
+
+/// For each row count, bits and bytes of the first field that stand for no row below it stay, and those of the second count for nothing.
+#[test]
+fn the_raw_call_leaves_what_stands_for_no_row() {
+    let (before, second) = ([0b1011_0111, 0b1101_1011, 0b1110_1101, 0xA5], [0b0110_1100, 0b1011_0001, 0b0101_1111, 0x5A, 0xFF]);
+    let is_set = |field: &[u8], row: u64| field[(row / 8) as usize] >> (row % 8) & 1 == 1;
+    for rows in 0..=32 {
+        let mut first = before;
+        let record = raw::Record { rows, nulls: 9, deleted: 8, matched: 7 };
+        let (answer, after, removed) = raw::subtract_record(&mut first, &second, record);
+        let number = |chosen: &dyn Fn(u64) -> bool| (0..rows).filter(|row| chosen(*row)).count() as u64;
+        let deleted = number(&|row| is_set(&second, row));
+        let matched = number(&|row| is_set(&before, row) && !is_set(&second, row));
+        assert_eq!((answer, after), (raw::ACCEPTED, raw::Record { rows, nulls: 9, deleted, matched }));
+        assert_eq!(matched + removed, number(&|row| is_set(&before, row)));
+        for row in 0..32 {
+            let expected = is_set(&before, row) && !(row < rows && is_set(&second, row));
+            assert_eq!(is_set(&first, row), expected, "row {row} of {rows}");
+        }
+    }
+}
+
+/// LIMIT, then ROOM for either field; the record is all 0, the first field as it was, nothing removed.
+#[test]
+fn the_raw_call_refuses_with_an_empty_record() {
+    let limit = poddurance::LIMIT;
+    for (rows, first, second, refusal) in [
+        (limit + 1, 1, 1, Refusal::Limit),
+        // No field has room either, and LIMIT goes first.
+        (limit + 1, 0, 0, Refusal::Limit),
+        (1 << 63, 1, 1, Refusal::Limit),
+        (u64::MAX, 0, 1, Refusal::Limit),
+        (limit, 1, 1, Refusal::Room),
+        (9, 1, 2, Refusal::Room),
+        (9, 2, 1, Refusal::Room),
+        (9, 1, 1, Refusal::Room),
+        (1, 0, 1, Refusal::Room),
+        (1, 1, 0, Refusal::Room),
+    ] {
+        let (mut field, other) = (vec![0xA5; first], vec![0xFF; second]);
+        let record = raw::Record { rows, nulls: 3, deleted: 2, matched: 1 };
+        let refused = (refusal.number(), raw::Record::NONE, 0);
+        assert_eq!(raw::subtract_record(&mut field, &other, record), refused, "{rows} {first} {second}");
+        assert_eq!(field, vec![0xA5; first], "{rows} {first} {second}");
+    }
+    // A refusal's record is that of no rows, and is accepted: the type at the top of the crate is there so that none is handed on.
+    let mut field = [0xA5];
+    assert_eq!(raw::subtract_record(&mut field, &[0xFF], raw::Record::NONE), (raw::ACCEPTED, raw::Record::NONE, 0));
+    assert_eq!(field, [0xA5]);
+}
+
+/// With every refusal of Ask, and where there is no index, the record is all 0.
+#[test]
+fn a_refused_question_has_an_empty_record() {
+    let file = small_file(&SMALL);
+    let changed = |at: usize, byte: u8| {
+        let mut bytes = file.clone();
+        bytes[at] = byte;
+        bytes
+    };
+    let asked = |file: &[u8], column: &[u8], literals: &[u8], field: &mut [u8]| {
+        raw::ask_file(&[], file, column, b"bitmap", 0, 2, Question::Equal.number(), literals, field)
+    };
+    for (bytes, column, literals, room, number) in [
+        (file.clone(), b"t", &[7][..], 1, raw::ABSENT),
+        (file[..70].to_vec(), b"s", &[7], 1, Refusal::Head.number()),
+        (file.clone(), b"s", &[], 1, Refusal::Literal.number()),
+        (changed(54, 0x11), b"s", &[7], 1, Refusal::Limit.number()),
+        (changed(66, 7), b"s", &[7], 1, Refusal::Dict.number()),
+        (file.clone(), b"s", &[7], 0, Refusal::Room.number()),
+        (changed(57, 0), b"s", &[7], 1, 6),
+        (changed(65, 0xFC), b"s", &[7], 1, 7),
+        (changed(70, 0xFF), b"s", &[7], 1, 8),
+        (changed(51, 4), b"s", &[7], 1, 9),
+    ] {
+        let (answer, record, _) = asked(&bytes, column, literals, &mut vec![0xA5; room]);
+        assert_eq!((answer, record), (number, raw::Record::NONE));
+        if answer != raw::ABSENT && answer != Refusal::Head.number() {
+            let (answer, record, _) = raw::ask(&bytes[47..], 0, 2, Question::Equal.number(), literals, &mut vec![0xA5; room]);
+            assert_eq!((answer, record), (number, raw::Record::NONE));
+        }
+    }
+}
+
 #[test]
 fn fields_sized_by_the_claim_of_a_body() {
     for rows in [1, 7, 8, 9, 65_536, 65_537, 300_000] {
@@ -223,7 +400,7 @@ fn fields_sized_by_the_claim_of_a_body() {
         let field = audited.into_field();
         assert_eq!((field.rows(), field.count()), (rows.into(), 0));
         let answer = ask(&body, Edition::Second, Question::IsNull, &Literals::none(Type::Int), field).unwrap();
-        assert_eq!(answer.count(), rows.into());
+        assert_eq!(counts(answer.record()), [rows.into(), rows.into(), 0, rows.into()]);
         assert_eq!(answer.field(), &used(rows.into()));
     }
     // A claim that is wrong is refused, by the bitmaps or, where it is negative or cut off, before them.
@@ -281,7 +458,8 @@ fn the_file_that_document_01_writes_out_is_asked() {
             (Question::IsNotNull, &none(), 0b011, 2),
         ] {
             let answer = ask_file(&[], &file, "s", "bitmap", edition, question, literals, used(3)).unwrap().unwrap();
-            assert_eq!((answer.field().as_bytes(), answer.count(), answer.is_skip()), (&[field][..], count, count == 0));
+            assert_eq!((answer.field().as_bytes(), counts(answer.record())), (&[field][..], [3, 1, 0, count]));
+            assert_eq!(answer.is_skip(), count == 0);
             assert_eq!(Ok(answer.clone()), ask(body, edition, question, literals, used(3)));
             // Embedded, it is looked at alone.
             let embedded = ask_file(&file, &[0], "s", "bitmap", edition, question, literals, used(3));

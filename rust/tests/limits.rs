@@ -1,7 +1,7 @@
 //! Buffers over document 01's limit are LIMIT before anything else is looked at. The memory is zeroed by the system when it is
 //! first touched, which none of these calls does, so that it takes no room.
 
-use poddurance::raw::{self, Fault};
+use poddurance::raw::{self, Fault, Record};
 use poddurance::{ask, ask_file, Edition, Error, Literals, Question, Refusal, RowField, Type, LIMIT};
 
 const LITERAL: u8 = 11;
@@ -54,10 +54,10 @@ fn locate_does_not_test_the_buffer_it_does_not_look_at() {
 fn audit_and_ask_refuse_body_and_literals() {
     let long = too_long();
     let mut field = [0xAA; 1];
-    let refused = (LIMIT_PASSED, 0, Fault::NONE);
+    let refused = (LIMIT_PASSED, Record::NONE, Fault::NONE);
     // 99 is no type and no question; LIMIT goes before that, and before an unknown edition, too.
     for ty in [0, 11, 99] {
-        assert_eq!(raw::audit(&long, ty, &mut field), refused);
+        assert_eq!(raw::audit(&long, ty, &mut field), (LIMIT_PASSED, 0, Fault::NONE));
         for edition in [1, 2].into_iter().chain(UNKNOWN_EDITIONS) {
             for question in [0, 4, 99] {
                 assert_eq!(raw::ask(&long, ty, edition, question, &[7], &mut field), refused);
@@ -93,12 +93,37 @@ fn subtract_refuses_rows() {
     assert_eq!(first, [0xAA]);
 }
 
+/// The record's row count is limited, and no other number of it.
+#[test]
+fn subtract_record_refuses_rows() {
+    let (mut first, second) = ([0xAA], [0xFF]);
+    for number in [0, LIMIT, LIMIT + 1, u64::MAX] {
+        let of = |rows: u64| Record { rows, nulls: number, deleted: number, matched: number };
+        for rows in [LIMIT + 1, LIMIT + 2, 1 << 32, u64::MAX] {
+            assert_eq!(raw::subtract_record(&mut first, &second, of(rows)), (LIMIT_PASSED, Record::NONE, 0));
+            // LIMIT goes before ROOM.
+            assert_eq!(raw::subtract_record(&mut [], &[], of(rows)), (LIMIT_PASSED, Record::NONE, 0));
+        }
+        for rows in [9, LIMIT - 1, LIMIT] {
+            assert_eq!(raw::subtract_record(&mut first, &second, of(rows)), (10, Record::NONE, 0));
+        }
+        assert_eq!(first, [0xAA]);
+        let left = Record { rows: 0, nulls: number, deleted: 0, matched: 0 };
+        assert_eq!(raw::subtract_record(&mut first, &second, of(0)), (0, left, 0));
+        assert_eq!(first, [0xAA]);
+    }
+}
+
 #[test]
 fn row_fields_may_be_longer() {
     let mut long = too_long();
     assert_eq!(raw::audit(&BODY, 0, &mut long), (0, 3, Fault::NONE));
-    assert_eq!(raw::ask(&BODY, 0, 1, 0, &[7], &mut long), (0, 1, Fault::NONE));
+    let record = Record { rows: 3, nulls: 1, deleted: 0, matched: 1 };
+    assert_eq!(raw::ask(&BODY, 0, 1, 0, &[7], &mut long), (0, record, Fault::NONE));
     assert_eq!(long[..9], [1, 0, 0, 0, 0, 0, 0, 0, 0]);
+    let left = Record { deleted: 1, ..record };
+    assert_eq!(raw::subtract_record(&mut long, &[2], record), (0, left, 0));
+    assert_eq!(raw::subtract_record(&mut [0b111], &long, record), (0, Record { matched: 2, ..left }, 1));
     assert_eq!(raw::subtract(&mut long, &[1], 3), (0, 0, 1));
     assert_eq!(raw::subtract(&mut [0b111], &long, 3), (0, 3, 0));
 }
@@ -118,7 +143,8 @@ fn ask_file_refuses_what_locate_and_ask_refuse() {
         // 99 is no type, no edition and no question; LIMIT goes before that too.
         raw::ask_file(embedded, file, column, kind, 99, 99, 99, literals, &mut field)
     };
-    let refused = (LIMIT_PASSED, 0, Fault::NONE);
+    let refused = (LIMIT_PASSED, Record::NONE, Fault::NONE);
+    let absent = (raw::ABSENT, Record::NONE, Fault::NONE);
     assert_eq!(asked(&long, &[], b"s", b"bitmap", &[7]), refused);
     assert_eq!(asked(&[], &long, b"s", b"bitmap", &[7]), refused);
     assert_eq!(asked(&HEAD, &[], &long, b"bitmap", &[7]), refused);
@@ -126,11 +152,11 @@ fn ask_file_refuses_what_locate_and_ask_refuse() {
     assert_eq!(asked(&[], &[], &long, b"bitmap", &[7]), refused);
     assert_eq!(asked(&[], &index_file(), b"s", b"bitmap", &long), refused);
     // The buffer that isn't looked at may be too long, and without a body the literals aren't looked at.
-    assert_eq!(asked(&HEAD, &long, b"s", b"bitmap", &[7]), (raw::ABSENT, 0, Fault::NONE));
-    assert_eq!(asked(&HEAD, &long, b"s", b"bitmap", &long), (raw::ABSENT, 0, Fault::NONE));
-    assert_eq!(asked(&[], &[], b"s", b"bitmap", &long), (1, 0, Fault::NONE));
+    assert_eq!(asked(&HEAD, &long, b"s", b"bitmap", &[7]), absent);
+    assert_eq!(asked(&HEAD, &long, b"s", b"bitmap", &long), absent);
+    assert_eq!(asked(&[], &[], b"s", b"bitmap", &long), (1, Record::NONE, Fault::NONE));
     // Neither is found for a name within the limit that no head can hold.
-    assert_eq!(asked(&[], &index_file(), &vec![b's'; 65_536], b"bitmap", &[7]), (raw::ABSENT, 0, Fault::NONE));
+    assert_eq!(asked(&[], &index_file(), &vec![b's'; 65_536], b"bitmap", &[7]), absent);
     assert_eq!(field, [0xAA]);
     let (none, field) = (Literals::none(Type::TinyInt), RowField::for_rows(3).unwrap());
     let found = ask_file(&[], &long, "s", "bitmap", Edition::Second, Question::IsNull, &none, field);
@@ -170,7 +196,7 @@ fn limits_of_literals_are_the_library_s() {
 /// The edition stands between the limit of the literals' buffer and the limits that are met in reading them.
 #[test]
 fn an_unknown_edition_goes_before_limits_of_literals() {
-    let refused = (LITERAL, 0, Fault::NONE);
+    let refused = (LITERAL, Record::NONE, Fault::NONE);
     let mut field = [0xAA];
     let many = [7; 1_025];
     // A string over 65,535 whose bytes aren't there.

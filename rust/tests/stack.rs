@@ -3,7 +3,7 @@
 
 use std::thread;
 
-use poddurance::raw::{self, Fault};
+use poddurance::raw::{self, Fault, Record};
 use reference::types;
 use reference::writer::{bitmap, body, deletion_file, index_file, BitmapForm, Groups, Layout};
 
@@ -31,16 +31,21 @@ fn every_call_on_a_small_stack() {
         let mut field = [0; VALUES as usize / 8];
         for (body, file) in bodies.iter().zip(&files) {
             assert_eq!(raw::audit(body, types::INT, &mut field), (raw::ACCEPTED, VALUES.into(), Fault::NONE));
-            let answer = (raw::ACCEPTED, LITERALS.into(), Fault::NONE);
+            let record = Record { rows: VALUES.into(), nulls: 0, deleted: 0, matched: LITERALS.into() };
+            let answer = (raw::ACCEPTED, record, Fault::NONE);
             assert_eq!(raw::ask(body, types::INT, types::SECOND_EDITION, types::IN, &literals, &mut field), answer);
             assert_eq!(raw::locate(&[], file, b"number", b"bitmap").0, raw::ACCEPTED);
             let (edition, question) = (types::SECOND_EDITION, types::IN);
             let asked = raw::ask_file(&[], file, b"number", b"bitmap", types::INT, edition, question, &literals, &mut field);
             assert_eq!(asked, answer);
         }
+        let mut left = field;
         let mut deleted = [0; VALUES as usize / 8];
         assert_eq!(raw::read_deletions(&deletions, 0, VALUES.into(), &mut deleted), (raw::ACCEPTED, VALUES.into(), Fault::NONE));
         assert_eq!(raw::subtract(&mut field, &deleted, VALUES.into()), (raw::ACCEPTED, 0, LITERALS.into()));
+        let given = Record { rows: VALUES.into(), nulls: 0, deleted: 0, matched: LITERALS.into() };
+        let record = Record { deleted: VALUES.into(), matched: 0, ..given };
+        assert_eq!(raw::subtract_record(&mut left, &deleted, given), (raw::ACCEPTED, record, LITERALS.into()));
     };
     thread::Builder::new().stack_size(STACK).spawn(calls).expect("a thread").join().expect("every call answers");
 }

@@ -2,11 +2,13 @@
 //!
 //! It is written from the rules of the formats alone and shares no code with the proved library, so that the two can
 //! be compared: `reader` has the library's calls, `writer` makes files in every permitted layout, `scan` answers
-//! questions from the column itself, and `random` draws columns, questions, layouts and damage.
+//! questions from the column itself, and `random` draws columns, questions, layouts and damage. Reader and scan say
+//! what they found as a `record`.
 //!
 //! ```
 //! use reference::reader;
-//! use reference::scan::scan;
+//! use reference::record::Record;
+//! use reference::scan::{scan, scan_without};
 //! use reference::types::{literals, FIRST_EDITION, NOT_EQUAL, SECOND_EDITION, STRING};
 //! use reference::writer::{bitmap, body_of, deletion_file, index_file, BitmapForm, Column, Layout};
 //!
@@ -16,17 +18,21 @@
 //!
 //! let mut field = [0];
 //! let asked = literals(STRING, &["off"]);
-//! for (edition, count) in [(FIRST_EDITION, 3), (SECOND_EDITION, 2)] {
+//! for (edition, matched) in [(FIRST_EDITION, 3), (SECOND_EDITION, 2)] {
 //!     let found = reader::ask_file(&[], &file, b"state", b"bitmap", STRING, edition, NOT_EQUAL, &asked, &mut field);
-//!     assert_eq!(found, (0, count, reader::NO_FAULT));
-//!     assert_eq!((field.to_vec(), count), scan(&column, edition, NOT_EQUAL, &["off"]));
+//!     let record = Record { rows: 4, nulls: 1, deleted: 0, matched };
+//!     assert_eq!(found, (0, record, reader::NO_FAULT));
+//!     assert_eq!((field.to_vec(), record), scan(&column, edition, NOT_EQUAL, &["off"]));
 //! }
 //!
-//! let deletions = deletion_file(&[bitmap(&[3], &BitmapForm::Smallest)]);
+//! let deletions = deletion_file(&[bitmap(&[2, 3], &BitmapForm::Smallest)]);
 //! let mut deleted = [0];
-//! assert_eq!(reader::read_deletions(&deletions, 0, 4, &mut deleted), (0, 1, reader::NO_FAULT));
-//! assert_eq!(reader::subtract(&mut field, &deleted, 4), (0, 1, 1));
+//! assert_eq!(reader::read_deletions(&deletions, 0, 4, &mut deleted), (0, 2, reader::NO_FAULT));
+//! let given = Record { rows: 4, nulls: 1, deleted: 0, matched: 2 };
+//! let record = Record { deleted: 2, matched: 1, ..given };
+//! assert_eq!(reader::subtract_record(&mut field, &deleted, given), (0, record, 1));
 //! assert_eq!(field, [0b0001]);
+//! assert_eq!((field.to_vec(), record), scan_without(&[2, 3], &column, SECOND_EDITION, NOT_EQUAL, &["off"]));
 //! ```
 
 #![forbid(unsafe_code)]
@@ -34,6 +40,7 @@
 pub mod crc32;
 pub mod random;
 pub mod reader;
+pub mod record;
 pub mod roaring;
 pub mod scan;
 pub mod types;

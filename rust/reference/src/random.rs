@@ -2,6 +2,7 @@
 
 use std::collections::HashSet;
 
+use crate::record::Record;
 use crate::types::{self, Width};
 use crate::writer::{
     bitmap_traced, deletion_file_traced, BitmapForm, ByteOrder, Column, ContainerForm, Content, Field, FileLayout, Groups, Index,
@@ -893,4 +894,38 @@ pub fn field_or_short(random: &mut Random, rows: usize) -> Vec<u8> {
         field.truncate(length);
     }
     field
+}
+
+/// As [`field_or_short`], its rows mostly in one of many shapes.
+pub fn shaped_field_or_short(random: &mut Random, rows: usize) -> Vec<u8> {
+    let mut field = field_or_short(random, rows);
+    if random.percent(60) {
+        let mut shape = vec![false; rows];
+        for row in row_set(random, rows as u32) {
+            shape[row as usize] = true;
+        }
+        for (row, is_set) in shape.into_iter().enumerate().take(8 * field.len()) {
+            let bit = 1 << (row % 8);
+            field[row / 8] = if is_set { field[row / 8] | bit } else { field[row / 8] & !bit };
+        }
+    }
+    field
+}
+
+// Records
+
+/// A record of that many rows, which needs to be no answer's: its other numbers are 0, the highest, the row count, or any.
+pub fn record(random: &mut Random, rows: u64) -> Record {
+    let mut number = || match random.below(8) {
+        0..=1 => 0,
+        2 => u64::MAX,
+        3 => rows,
+        4..=6 => random.number() >> random.below(64),
+        _ => random.number(),
+    };
+    let [nulls, deleted, matched] = [(); 3].map(|()| number());
+    match random.below(10) {
+        0 => Record { rows, nulls, deleted: nulls, matched: nulls },
+        _ => Record { rows, nulls, deleted, matched },
+    }
 }

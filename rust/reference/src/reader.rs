@@ -1,12 +1,13 @@
-//! The calls: Locate, Audit, Ask, Ask of a file, Read deletions and Subtract.
+//! The calls: Locate, Audit, Ask, Ask of a file, Read deletions, Subtract and Subtract of a record.
 //!
 //! Each answers a number first: 0 accepted, 255 ABSENT (Locate and Ask of a file alone), otherwise a refusal's number.
-//! Counts, start and length are 0 with any answer but 0. The calls that read bitmaps end with where a refusal's cause is.
+//! Counts, records, start and length are 0 with any answer but 0. The calls that read bitmaps end with where a refusal's cause is.
 
 use std::cmp::Ordering;
 use std::collections::HashSet;
 
 use crate::crc32::crc32;
+use crate::record::Record;
 use crate::roaring::{count_ones, Bitmap, Broken};
 use crate::types::{self, Width};
 
@@ -89,15 +90,15 @@ pub fn locate(embedded: &[u8], file: &[u8], column: &[u8], kind: &[u8]) -> (u8, 
 
 /// Whether the body gives every row exactly one place: answer, row count and fault. The field is left zero from ROOM on.
 pub fn audit(body: &[u8], ty: u32, field: &mut [u8]) -> (u8, u64, Fault) {
-    counted(try_audit(body, ty, field))
+    said(try_audit(body, ty, field), 0)
 }
 
-/// Audits the body and sets the rows that the question chooses by its edition's rule: answer, their count, and fault.
-pub fn ask(body: &[u8], ty: u32, edition: u32, question: u32, literals: &[u8], field: &mut [u8]) -> (u8, u64, Fault) {
-    counted(try_ask(body, ty, edition, question, literals, field))
+/// Audits the body and sets the rows that the question chooses by its edition's rule: answer, record and fault.
+pub fn ask(body: &[u8], ty: u32, edition: u32, question: u32, literals: &[u8], field: &mut [u8]) -> (u8, Record, Fault) {
+    said(try_ask(body, ty, edition, question, literals, field), Record::NONE)
 }
 
-/// Locates the index, then asks its body: answer, count and fault. Without a body the field is left alone.
+/// Locates the index, then asks its body: answer, record and fault. Without a body the field is left alone.
 #[allow(clippy::too_many_arguments)]
 pub fn ask_file(
     embedded: &[u8],
@@ -109,19 +110,19 @@ pub fn ask_file(
     question: u32,
     literals: &[u8],
     field: &mut [u8],
-) -> (u8, u64, Fault) {
+) -> (u8, Record, Fault) {
     match locate(embedded, file, column, kind) {
         (ACCEPTED, start, length) => {
             let looked_at = if embedded.is_empty() { file } else { embedded };
             ask(&looked_at[start as usize..][..length as usize], ty, edition, question, literals, field)
         }
-        (answer, ..) => (answer, 0, NO_FAULT),
+        (answer, ..) => (answer, Record::NONE, NO_FAULT),
     }
 }
 
 /// Sets the rows of one bin of a deletion file: answer, their count, and fault.
 pub fn read_deletions(file: &[u8], bin: u64, rows: u64, field: &mut [u8]) -> (u8, u64, Fault) {
-    counted(try_read_deletions(file, bin, rows, field))
+    said(try_read_deletions(file, bin, rows, field), 0)
 }
 
 /// Clears in `first` each row below `rows` set in `second`: answer, rows left and rows removed.
@@ -132,12 +133,22 @@ pub fn subtract(first: &mut [u8], second: &[u8], rows: u64) -> (u8, u64, u64) {
     }
 }
 
-fn counted(result: Result<u64, Refusal>) -> (u8, u64, Fault) {
+/// Clears in `first` each row below the record's row count set in `second`: answer, the record with the deleted rows and the
+/// rows left, and rows removed. What the record said of deleted and matched rows before isn't looked at.
+pub fn subtract_record(first: &mut [u8], second: &[u8], record: Record) -> (u8, Record, u64) {
+    match try_subtract_record(first, second, record) {
+        Ok((record, removed)) => (ACCEPTED, record, removed),
+        Err(refusal) => (refusal.said().0, Record::NONE, 0),
+    }
+}
+
+/// The answer, what it counts, and the fault; `none` is what a refusal counts.
+fn said<C>(result: Result<C, Refusal>, none: C) -> (u8, C, Fault) {
     match result {
-        Ok(count) => (ACCEPTED, count, NO_FAULT),
+        Ok(counted) => (ACCEPTED, counted, NO_FAULT),
         Err(refusal) => {
             let (number, fault) = refusal.said();
-            (number, 0, fault)
+            (number, none, fault)
         }
     }
 }
@@ -235,7 +246,7 @@ fn try_audit(body: &[u8], ty: u32, buffer: &mut [u8]) -> Result<u64, Refusal> {
     result.map(|_| dictionary.rows)
 }
 
-fn try_ask(body: &[u8], ty: u32, edition: u32, question: u32, literals: &[u8], buffer: &mut [u8]) -> Result<u64, Refusal> {
+fn try_ask(body: &[u8], ty: u32, edition: u32, question: u32, literals: &[u8], buffer: &mut [u8]) -> Result<Record, Refusal> {
     within_limit(body)?;
     within_limit(literals)?;
     let width = types::width(ty).ok_or(Refusal::Literal)?;
@@ -262,18 +273,19 @@ fn try_ask(body: &[u8], ty: u32, edition: u32, question: u32, literals: &[u8], b
         _ => true,
     };
     let literals: HashSet<&[u8]> = literals.into_iter().collect();
-    let about = dictionary.place_all(field, |entry| match entry.value {
+    let placed = dictionary.place_all(field, |entry| match entry.value {
         None => about_null,
         Some(value) => literals.contains(value),
     });
     field.fill(0);
-    for rows in about? {
+    let Placed { nulls, wanted } = placed?;
+    for rows in wanted {
         rows.place(field);
     }
     if matches!(question, types::NOT_EQUAL | types::NOT_IN | types::IS_NOT_NULL) {
         flip(field, rows);
     }
-    Ok(count_ones(field))
+    Ok(Record { rows, nulls, deleted: 0, matched: count_ones(field) })
 }
 
 /// Flips every row and leaves the spare bits of the last byte 0.
@@ -356,10 +368,11 @@ impl<'a> Dictionary<'a> {
         self.null.iter().map(|null| (0, null)).chain((1..).zip(&self.values))
     }
 
-    /// Gives every row its place in the field, and hands back the rows of the entries that were asked for.
-    fn place_all(&self, field: &mut [u8], wanted: impl Fn(&Entry) -> bool) -> Result<Vec<EntryRows<'a>>, Refusal> {
+    /// Gives every row its place in the field.
+    fn place_all(&self, field: &mut [u8], is_wanted: impl Fn(&Entry) -> bool) -> Result<Placed<'a>, Refusal> {
         field.fill(0);
-        let mut kept = Vec::new();
+        let mut wanted = Vec::new();
+        let mut nulls = 0;
         let mut placed = 0;
         for (number, entry) in self.numbered() {
             let rows = self.entry_rows(entry).map_err(|broken| bitmap_refusal(number, broken))?;
@@ -370,15 +383,18 @@ impl<'a> Dictionary<'a> {
                 return Err(Refusal::Twice { entry: number });
             }
             placed += rows.count();
-            if wanted(entry) {
-                kept.push(rows);
+            if entry.value.is_none() {
+                nulls = rows.count();
+            }
+            if is_wanted(entry) {
+                wanted.push(rows);
             }
         }
         // No row is outside the field and none is there twice, so the number tells whether one is missing.
         if placed != self.rows {
             return Err(Refusal::Missing { row: first_clear(field) });
         }
-        Ok(kept)
+        Ok(Placed { nulls, wanted })
     }
 
     /// The rows of an entry, or the container that is broken in its bitmap.
@@ -395,6 +411,14 @@ impl<'a> Dictionary<'a> {
         };
         Ok(EntryRows::Many(bitmap))
     }
+}
+
+/// What is known once every row has its place.
+struct Placed<'a> {
+    /// How many rows are null's.
+    nulls: u64,
+    /// The rows of the entries that were asked for.
+    wanted: Vec<EntryRows<'a>>,
 }
 
 fn bitmap_refusal(entry: u64, Broken(container): Broken) -> Refusal {
@@ -583,6 +607,12 @@ fn try_subtract(first: &mut [u8], second: &[u8], rows: u64) -> Result<(u64, u64)
         clear(first, *second, 0xFF >> (8 - rows % 8));
     }
     Ok((left, removed))
+}
+
+fn try_subtract_record(first: &mut [u8], second: &[u8], record: Record) -> Result<(Record, u64), Refusal> {
+    let (matched, removed) = try_subtract(first, second, record.rows)?;
+    let deleted = (0..record.rows).filter(|row| second[(row / 8) as usize] >> (row % 8) & 1 == 1).count() as u64;
+    Ok((Record { deleted, matched, ..record }, removed))
 }
 
 /// Bytes read from the front; every read past the end is SHORT.

@@ -1,7 +1,8 @@
 //! The files that document 01 writes out, and what document 02 says of them.
 
-use reference::reader::{ask, ask_file, audit, locate, read_deletions, subtract, NO_FAULT};
-use reference::scan::scan;
+use reference::reader::{ask, ask_file, audit, locate, read_deletions, subtract, subtract_record, NO_FAULT};
+use reference::record::Record;
+use reference::scan::{scan, scan_without};
 use reference::types::*;
 use reference::writer::{bitmap, body_of, deletion_file, index_file, BitmapForm, Column, ContainerForm, Layout};
 
@@ -14,6 +15,11 @@ const HEAD: &str = "00 05 4E 4E D0 1A 35 AE 00 00 00 01 00 00 00 2F 00 00 00 01 
 const VERSION_1: &str = "01 00 00 00 03 00 00 00 02 01 FF FF FF FD 07 FF FF FF FF 09 FF FF FF FE";
 const VERSION_2: &str = "02 00 00 00 03 00 00 00 02 01 FF FF FF FD FF FF FF FF 00 00 00 02 07 00 00 00 00 09 00 00 00 \
     0D 00 00 00 1A 00 00 00 01 07 FF FF FF FF FF FF FF FF 00 00 00 01 09 FF FF FF FE FF FF FF FF";
+
+/// What a question is answered with before deletions are subtracted.
+fn asked(rows: u64, nulls: u64, matched: u64) -> Record {
+    Record { rows, nulls, deleted: 0, matched }
+}
 
 /// TINYINT column s = 7, 9, null.
 fn small_column() -> Column {
@@ -47,7 +53,7 @@ fn small_questions() {
         let mut field = [0xAA, 0xBB];
         assert_eq!(audit(&body, TINYINT, &mut field), (0, 3, NO_FAULT));
         assert_eq!(field, [0x00, 0xBB]);
-        // The question, its literals, and the field's byte and the count in either edition.
+        // The question, its literals, and the field's byte and the matched rows in either edition.
         type Case<'a> = (u32, &'a [u8], [(u8, u64); 2]);
         let cases: [Case; 10] = [
             (EQUAL, &[7], [(0x01, 1), (0x01, 1)]),
@@ -63,15 +69,18 @@ fn small_questions() {
         ];
         for (question, literals, chosen) in cases {
             let values: Vec<[u8; 1]> = literals.iter().map(|value| [*value]).collect();
-            for (edition, (bits, count)) in EDITIONS.into_iter().zip(chosen) {
+            for (edition, (bits, matched)) in EDITIONS.into_iter().zip(chosen) {
+                // Row 2 is null whatever is asked.
+                let record = asked(3, 1, matched);
                 let mut field = [0xAA, 0xBB];
-                assert_eq!(ask(&body, TINYINT, edition, question, literals, &mut field), (0, count, NO_FAULT));
+                assert_eq!(ask(&body, TINYINT, edition, question, literals, &mut field), (0, record, NO_FAULT));
                 assert_eq!(field, [bits, 0xBB], "question {question} of {literals:?} in edition {edition}");
-                assert_eq!(scan(&small_column(), edition, question, &values), (vec![bits], count));
+                assert_eq!(scan(&small_column(), edition, question, &values), (vec![bits], record));
             }
         }
         let mut none = [];
         assert_eq!(audit(&body, TINYINT, &mut none), (10, 0, NO_FAULT));
+        assert_eq!(ask(&body, TINYINT, FIRST_EDITION, EQUAL, &[7], &mut none), (10, Record::NONE, NO_FAULT));
     }
 }
 
@@ -89,12 +98,13 @@ fn nulls_alone() {
             (IS_NULL, &[], [(0x07, 3), (0x07, 3)]),
             (IS_NOT_NULL, &[], [(0x00, 0), (0x00, 0)]),
         ] {
-            for (edition, (bits, count)) in EDITIONS.into_iter().zip(chosen) {
+            for (edition, (bits, matched)) in EDITIONS.into_iter().zip(chosen) {
+                let record = asked(3, 3, matched);
                 let mut field = [0xAA];
                 let found = ask(&body, TINYINT, edition, question, &literals(TINYINT, values), &mut field);
-                assert_eq!(found, (0, count, NO_FAULT));
+                assert_eq!(found, (0, record, NO_FAULT));
                 assert_eq!(field, [bits], "question {question} of {values:?} in edition {edition}");
-                assert_eq!(scan(&column, edition, question, values), (vec![bits], count));
+                assert_eq!(scan(&column, edition, question, values), (vec![bits], record));
             }
         }
     }
@@ -113,14 +123,14 @@ fn unknown_editions() {
                 for body in [&body[..], &[], &[3]] {
                     for field in [&mut field[..], &mut []] {
                         let found = ask(body, TINYINT, edition, question, &literals, field);
-                        assert_eq!(found, (11, 0, NO_FAULT), "question {question} in edition {edition}");
+                        assert_eq!(found, (11, Record::NONE, NO_FAULT), "question {question} in edition {edition}");
                     }
                 }
                 let mut of_file =
                     |file: &[u8]| ask_file(&[], file, b"s", b"bitmap", TINYINT, edition, question, &literals, &mut field);
-                assert_eq!(of_file(&file), (11, 0, NO_FAULT));
+                assert_eq!(of_file(&file), (11, Record::NONE, NO_FAULT));
                 // Without a body the question isn't looked at.
-                assert_eq!(of_file(&[]), (1, 0, NO_FAULT));
+                assert_eq!(of_file(&[]), (1, Record::NONE, NO_FAULT));
             }
         }
     }
@@ -153,7 +163,7 @@ fn small_bitmaps() {
 fn single_rows() {
     let body = hex("01 00 00 00 01 00 00 00 01 00 07 FF FF FF FF");
     let mut field = [0xFF];
-    assert_eq!(ask(&body, TINYINT, FIRST_EDITION, EQUAL, &[7], &mut field), (0, 1, NO_FAULT));
+    assert_eq!(ask(&body, TINYINT, FIRST_EDITION, EQUAL, &[7], &mut field), (0, asked(1, 0, 1), NO_FAULT));
     assert_eq!(field, [0x01]);
     let body = hex("01 00 00 00 01 00 00 00 01 00 07 80 00 00 00");
     assert_eq!(audit(&body, TINYINT, &mut field), (7, 0, [1, 0, 0]));
@@ -169,11 +179,11 @@ fn events() {
         // Without null rows the editions agree.
         for edition in EDITIONS {
             let mut field = [0xFF];
-            let asked = literals(STRING, &["login", "purchase"]);
-            assert_eq!(ask(&body, STRING, edition, IN, &asked, &mut field), (0, 4, NO_FAULT));
+            let listed = literals(STRING, &["login", "purchase"]);
+            assert_eq!(ask(&body, STRING, edition, IN, &listed, &mut field), (0, asked(6, 0, 4), NO_FAULT));
             assert_eq!(field, [0b10_1101]);
-            let asked = literals(STRING, &["login"]);
-            assert_eq!(ask(&body, STRING, edition, NOT_IN, &asked, &mut field), (0, 3, NO_FAULT));
+            let listed = literals(STRING, &["login"]);
+            assert_eq!(ask(&body, STRING, edition, NOT_IN, &listed, &mut field), (0, asked(6, 0, 3), NO_FAULT));
             assert_eq!(field, [0b01_1010]);
         }
     }
@@ -186,7 +196,7 @@ fn zero_rows() {
         let mut field = [0x5A];
         assert_eq!(audit(&body, INT, &mut field), (0, 0, NO_FAULT));
         for edition in EDITIONS {
-            assert_eq!(ask(&body, INT, edition, NOT_IN, &[], &mut field), (0, 0, NO_FAULT));
+            assert_eq!(ask(&body, INT, edition, NOT_IN, &[], &mut field), (0, asked(0, 0, 0), NO_FAULT));
         }
         assert_eq!(field, [0x5A]);
     }
@@ -224,6 +234,93 @@ fn subtraction() {
     assert_eq!(first, [0xF0, 0xF0, 0x77]);
 }
 
+/// ABSENT and a refusal of Locate have no counts.
+#[test]
+fn records_of_the_small_file() {
+    let file = [hex(HEAD), hex(VERSION_1)].concat();
+    let of_file = |file: &[u8], column: &[u8], field: &mut [u8]| {
+        ask_file(&[], file, column, b"bitmap", TINYINT, SECOND_EDITION, NOT_EQUAL, &[7], field)
+    };
+    let mut field = [0xAA];
+    assert_eq!(of_file(&file, b"t", &mut field), (255, Record::NONE, NO_FAULT));
+    assert_eq!(of_file(&file[..70], b"s", &mut field), (4, Record::NONE, NO_FAULT));
+    assert_eq!(of_file(&file, b"s", &mut []), (10, Record::NONE, NO_FAULT));
+    assert_eq!(field, [0xAA]);
+    assert_eq!(of_file(&file, b"s", &mut field), (0, asked(3, 1, 1), NO_FAULT));
+    assert_eq!(field, [0x02]);
+}
+
+/// The events without the rows of the small bitmap, which are login's.
+#[test]
+fn deletions_of_the_events() {
+    let cells = ["login", "click", "login", "purchase", "click", "login"];
+    let column = Column::strings(&cells.map(Some));
+    let body = body_of(&column, &Layout::version(1));
+    let bin = hex("3A 30 00 00 01 00 00 00 00 00 02 00 10 00 00 00 00 00 02 00 05 00");
+    let file = deletion_file(&[bin]);
+    let mut deleted = [0xFF];
+    assert_eq!(read_deletions(&file, 0, 6, &mut deleted), (0, 3, NO_FAULT));
+    for (question, values, left, matched, removed) in [
+        (EQUAL, &["login"][..], 0x00, 0, 3),
+        (NOT_EQUAL, &["login"], 0b01_1010, 3, 0),
+        (IN, &["login", "purchase"], 0b00_1000, 1, 3),
+        (IS_NULL, &[], 0x00, 0, 0),
+        (IS_NOT_NULL, &[], 0b01_1010, 3, 3),
+    ] {
+        let mut field = [0xFF];
+        let (answer, given, _) = ask(&body, STRING, SECOND_EDITION, question, &literals(STRING, values), &mut field);
+        assert_eq!((answer, given), (0, asked(6, 0, matched + removed)));
+        let record = Record { rows: 6, nulls: 0, deleted: 3, matched };
+        assert_eq!(subtract_record(&mut field, &deleted, given), (0, record, removed));
+        assert_eq!(field, [left]);
+        assert_eq!(scan_without(&[0, 2, 5], &column, SECOND_EDITION, question, values), (vec![left], record));
+        // Once more: nothing is left to remove, and deleted counts the same rows.
+        assert_eq!(subtract_record(&mut field, &deleted, record), (0, record, 0));
+    }
+}
+
+#[test]
+fn subtraction_with_a_record() {
+    // Twelve rows: the upper half of the second byte, and the third, stand for none.
+    let given = Record { rows: 12, nulls: 5, deleted: 0, matched: 6 };
+    let mut first = [0x3C, 0x53, 0x77];
+    let second = [0x0F, 0xFA, 0xFF];
+    // Of the second field's rows 0 to 3, 9 and 11 the first has 2, 3 and 9.
+    let record = Record { deleted: 6, matched: 3, ..given };
+    assert_eq!(subtract_record(&mut first, &second, given), (0, record, 3));
+    assert_eq!(first, [0x30, 0x51, 0x77]);
+    // Row 8 alone: deleted counts this field's rows and not those of the one before.
+    let after = Record { deleted: 1, matched: 2, ..given };
+    assert_eq!(subtract_record(&mut first, &[0x00, 0x01], record), (0, after, 1));
+    assert_eq!(first, [0x30, 0x50, 0x77]);
+    // Row count and null rows come back, the others are counted, whatever they were.
+    for number in [0, 1, 7, u64::MAX] {
+        let given = Record { rows: 12, nulls: number, deleted: number, matched: number };
+        let record = Record { rows: 12, nulls: number, deleted: 0, matched: 2 };
+        assert_eq!(subtract_record(&mut first, &[0x00, 0xF0], given), (0, record, 0));
+        assert_eq!(first, [0x30, 0x50, 0x77]);
+    }
+    let none = Record { rows: 0, ..given };
+    assert_eq!(subtract_record(&mut [], &[], none), (0, Record { deleted: 0, matched: 0, ..none }, 0));
+}
+
+/// LIMIT, then ROOM of either field: no record, and the field as it was.
+#[test]
+fn refused_subtraction_with_a_record() {
+    let mut field = [0xF0, 0xF0];
+    let of = |rows: u64| Record { rows, nulls: 1, deleted: 2, matched: 3 };
+    for rows in [1 << 31, 1 << 32, u64::MAX] {
+        assert_eq!(subtract_record(&mut field, &[0xFF; 2], of(rows)), (12, Record::NONE, 0));
+        assert_eq!(subtract_record(&mut [], &[], of(rows)), (12, Record::NONE, 0));
+    }
+    for rows in [17, 24, (1 << 31) - 1] {
+        assert_eq!(subtract_record(&mut field, &[0xFF; 2], of(rows)), (10, Record::NONE, 0));
+    }
+    assert_eq!(subtract_record(&mut field, &[0xFF], of(9)), (10, Record::NONE, 0));
+    assert_eq!(subtract_record(&mut field[..1], &[0xFF; 2], of(9)), (10, Record::NONE, 0));
+    assert_eq!(field, [0xF0, 0xF0]);
+}
+
 /// The small body with one byte changed: the entry, the container, the row.
 #[test]
 fn faults_of_the_small_body() {
@@ -243,7 +340,8 @@ fn faults_of_the_small_body() {
         body[at] = byte;
         assert_eq!(audit(&body, TINYINT, &mut [0]), (answer, 0, fault), "byte {at}");
         for edition in EDITIONS {
-            assert_eq!(ask(&body, TINYINT, edition, NOT_EQUAL, &[7], &mut [0]), (answer, 0, fault), "byte {at}");
+            let found = ask(&body, TINYINT, edition, NOT_EQUAL, &[7], &mut [0]);
+            assert_eq!(found, (answer, Record::NONE, fault), "byte {at}");
         }
     }
 }

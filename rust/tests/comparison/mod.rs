@@ -1,10 +1,15 @@
-//! Each call made of the library and of the reference reader, the answers compared: number, counts, fault, and what is left in lent memory.
+//! Each call made of the library and of the reference reader, the answers compared: number, counts or record, fault, and what is left in
+//! lent memory.
 
 // Each test file takes what it needs.
 #![allow(dead_code)]
 
+pub mod kinds;
+
+use kinds::{Kinds, Subtracted};
 use poddurance::raw;
-use reference::reader::{self, Fault};
+use reference::reader::{self, Fault, ACCEPTED};
+use reference::record::Record;
 
 use crate::support::{hex, say, Lender, Tally};
 
@@ -14,13 +19,30 @@ pub const ASK: usize = 2;
 pub const ASK_FILE: usize = 3;
 pub const READ_DELETIONS: usize = 4;
 pub const SUBTRACT: usize = 5;
+pub const SUBTRACT_RECORD: usize = 6;
 
 /// What both say of a call: answer, count, the field as they leave it, and where a refusal's cause is.
 pub type Found = (u8, u64, Vec<u8>, Fault);
 
+/// What both say of a question: the same with a record for the count.
+pub type Answered = (u8, Record, Vec<u8>, Fault);
+
 /// The library's answer, its fault in the reference reader's form: entry, container, row.
 pub fn said((answer, count, fault): (u8, u64, raw::Fault)) -> (u8, u64, Fault) {
     (answer, count, [fault.entry, fault.container, fault.row])
+}
+
+/// The library's answer to a question, record and fault in the reference reader's form.
+pub fn answered((answer, record, fault): (u8, raw::Record, raw::Fault)) -> (u8, Record, Fault) {
+    (answer, record_of(record), [fault.entry, fault.container, fault.row])
+}
+
+pub fn record_of(raw::Record { rows, nulls, deleted, matched }: raw::Record) -> Record {
+    Record { rows, nulls, deleted, matched }
+}
+
+pub fn raw_record(Record { rows, nulls, deleted, matched }: Record) -> raw::Record {
+    raw::Record { rows, nulls, deleted, matched }
 }
 
 /// Makes each call of both, compares, and counts the answers.
@@ -28,6 +50,7 @@ pub struct Comparison {
     /// The seed of the round, or nothing for a fixed case.
     pub seed: Option<u64>,
     pub tally: Tally,
+    pub kinds: Kinds,
     pub first: Lender,
     pub second: Lender,
     pub third: Lender,
@@ -68,7 +91,7 @@ pub struct Asked<'a> {
 impl Comparison {
     pub fn new() -> Comparison {
         let [first, second, third, fourth, fifth, sixth] = [(); 6].map(|()| Lender::new());
-        Comparison { seed: None, tally: Tally::new(), first, second, third, fourth, fifth, sixth }
+        Comparison { seed: None, tally: Tally::new(), kinds: Kinds::new(), first, second, third, fourth, fifth, sixth }
     }
 
     pub fn locate(&mut self, embedded: &[u8], file: &[u8], column: &[u8], kind: &[u8]) -> (u8, u64, u64) {
@@ -104,11 +127,11 @@ impl Comparison {
         (found.0, found.1, expected_field, found.2)
     }
 
-    pub fn ask(&mut self, body: &[u8], ty: u32, edition: u32, question: u32, literals: &[u8], field: &[u8]) -> Found {
+    pub fn ask(&mut self, body: &[u8], ty: u32, edition: u32, question: u32, literals: &[u8], field: &[u8]) -> Answered {
         let mut expected_field = field.to_vec();
         let expected = reader::ask(body, ty, edition, question, literals, &mut expected_field);
         let (lent_body, lent_literals, lent_field) = (self.first.lend(body), self.second.lend(literals), self.third.lend(field));
-        let found = said(raw::ask(lent_body, ty, edition, question, lent_literals, lent_field));
+        let found = answered(raw::ask(lent_body, ty, edition, question, lent_literals, lent_field));
         let same = found == expected && lent_field == expected_field && lent_body == body && lent_literals == literals;
         if !same {
             let found_field = lent_field.to_vec();
@@ -124,17 +147,20 @@ impl Comparison {
             self.fail("Ask", &inputs, &answers);
         }
         self.tally.add(ASK, found.0);
+        if found.0 == ACCEPTED {
+            self.kinds.add_asked(&kinds::Asked { edition, question, record: found.1 });
+        }
         (found.0, found.1, expected_field, found.2)
     }
 
-    pub fn ask_file(&mut self, at: Where, asked: Asked, field: &[u8]) -> Found {
+    pub fn ask_file(&mut self, at: Where, asked: Asked, field: &[u8]) -> Answered {
         let Where { embedded, file, column, kind } = at;
         let Asked { ty, edition, question, literals } = asked;
         let mut expected_field = field.to_vec();
         let expected = reader::ask_file(embedded, file, column, kind, ty, edition, question, literals, &mut expected_field);
         let lent = (self.first.lend(embedded), self.second.lend(file), self.third.lend(column), self.fourth.lend(kind));
         let (lent_literals, lent_field) = (self.fifth.lend(literals), self.sixth.lend(field));
-        let found = said(raw::ask_file(lent.0, lent.1, lent.2, lent.3, ty, edition, question, lent_literals, lent_field));
+        let found = answered(raw::ask_file(lent.0, lent.1, lent.2, lent.3, ty, edition, question, lent_literals, lent_field));
         let kept = lent.0 == embedded && lent.1 == file && lent.2 == column && lent.3 == kind && lent_literals == literals;
         if !(found == expected && lent_field == expected_field && kept) {
             let found_field = lent_field.to_vec();
@@ -153,6 +179,9 @@ impl Comparison {
             self.fail("Ask file", &inputs, &answers);
         }
         self.tally.add(ASK_FILE, found.0);
+        if found.0 == ACCEPTED {
+            self.kinds.add_asked(&kinds::Asked { edition, question, record: found.1 });
+        }
         (found.0, found.1, expected_field, found.2)
     }
 
@@ -195,6 +224,30 @@ impl Comparison {
         }
         self.tally.add(SUBTRACT, found.0);
         (found.0, found.1, found.2, expected_first)
+    }
+
+    /// Answer, record, rows removed, and the first field.
+    pub fn subtract_record(&mut self, first: &[u8], second: &[u8], given: Record) -> (u8, Record, u64, Vec<u8>) {
+        let mut expected_first = first.to_vec();
+        let expected = reader::subtract_record(&mut expected_first, second, given);
+        let (lent_first, lent_second) = (self.first.lend(first), self.second.lend(second));
+        let (answer, record, removed) = raw::subtract_record(lent_first, lent_second, raw_record(given));
+        let found = (answer, record_of(record), removed);
+        let same = found == expected && lent_first == expected_first && lent_second == second;
+        if !same {
+            let found_first = lent_first.to_vec();
+            let inputs = [
+                ("first before", first),
+                ("second", second),
+                ("first after, library", &found_first),
+                ("first after, reference reader", &expected_first),
+            ];
+            self.fail("Subtract record", &inputs, &format!("{given:?}: library {found:?}, reference reader {expected:?}"));
+        }
+        self.tally.add(SUBTRACT_RECORD, answer);
+        let (_, record, _) = found;
+        self.kinds.add_subtracted(&Subtracted { first, second, given, answer, record, removed });
+        (answer, record, removed, expected_first)
     }
 
     /// Prints the inputs and how to repeat them, and ends the test.

@@ -237,9 +237,9 @@ pub fn many_literals(both: &mut Comparison) {
                     let asked = types::literals(ty, &literals);
                     let distinct: Vec<&Vec<u8>> = HashSet::<&Vec<u8>>::from_iter(&literals).into_iter().collect();
                     for (edition, question) in EDITIONS.into_iter().flat_map(|edition| [(edition, IN), (edition, NOT_IN)]) {
-                        let (expected, count) = scan(&column, edition, question, &distinct);
+                        let (expected, record) = scan(&column, edition, question, &distinct);
                         let found = both.ask(&body, ty, edition, question, &asked, &vec![0xA5; rows.div_ceil(8)]);
-                        let sound = found == (0, count, expected, NO_FAULT);
+                        let sound = found == (0, record, expected, NO_FAULT);
                         both.demand(sound, &format!("Ask of {number} literals"), &[("body", &body), ("literals", &asked)]);
                     }
                 }
@@ -268,9 +268,11 @@ pub fn one_byte_apart(both: &mut Comparison) {
             for body in &bodies {
                 let (alone, with_text) =
                     (types::literals(STRING, &[&other]), types::literals(STRING, &[&other[..], text.as_bytes()]));
+                // Two rows, one of them null.
+                let record = |matched: u64| Record { rows: 2, nulls: 1, deleted: 0, matched };
                 for edition in EDITIONS {
-                    assert_eq!(both.ask(body, STRING, edition, EQUAL, &alone, &[0xA5]), (0, 0, vec![0], NO_FAULT));
-                    assert_eq!(both.ask(body, STRING, edition, IN, &with_text, &[0xA5]), (0, 1, vec![1], NO_FAULT));
+                    assert_eq!(both.ask(body, STRING, edition, EQUAL, &alone, &[0xA5]), (0, record(0), vec![0], NO_FAULT));
+                    assert_eq!(both.ask(body, STRING, edition, IN, &with_text, &[0xA5]), (0, record(1), vec![1], NO_FAULT));
                 }
             }
         }

@@ -128,7 +128,7 @@ impl Lender {
 }
 
 /// The names of the calls, in the order of the table.
-pub const CALLS: [&str; 6] = ["Locate", "Audit", "Ask", "Ask file", "Read deletions", "Subtract"];
+pub const CALLS: [&str; 7] = ["Locate", "Audit", "Ask", "Ask file", "Read deletions", "Subtract", "Subtract record"];
 
 /// The names of the answers by their number.
 pub const ANSWERS: [&str; 15] = [

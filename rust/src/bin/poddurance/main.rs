@@ -6,6 +6,8 @@
 mod args;
 mod calendar;
 mod columns;
+#[path = "../../commas.rs"]
+mod commas;
 mod literal;
 mod output;
 
@@ -14,8 +16,8 @@ use std::io::{self, BufWriter, Read, Write};
 use std::process::ExitCode;
 
 use poddurance::raw::{self, Fault};
-use poddurance::{ask, ask_file, audit, locate, read_deletions, subtract};
-use poddurance::{Edition, Error, Literals, Question, Refusal, RowField, LIMIT};
+use poddurance::{ask, ask_file, audit, locate, read_deletions, subtract_record};
+use poddurance::{Edition, Error, Literals, Question, Record, Refusal, RowField, LIMIT};
 
 use args::{Command, Deletions, IndexBytes, IndexOf, Job, Source, BITMAP};
 use literal::Literal;
@@ -64,7 +66,7 @@ fn carry_out(command: Command) -> Result<Outcome, String> {
         Command::Audit { index } => audited(&Buffers::read(&index.bytes)?, &index),
         Command::Ask { index, edition, question, literals, deletions } => {
             match (asked(&Buffers::read(&index.bytes)?, &index, edition, question, &literals), deletions) {
-                (Outcome::Answered { rows, field, .. }, Some(deletions)) => without(field, rows, &deletions)?,
+                (Outcome::Answered { record, field, .. }, Some(deletions)) => without(field, record, &deletions)?,
                 (outcome, _) => outcome,
             }
         }
@@ -149,17 +151,11 @@ fn asked(buffers: &Buffers, index: &IndexOf, edition: Edition, question: Questio
     // The call wants a field of the index's row count, and who asks needn't know it. So the index is located beforehand, only to
     // make the field for the rows that its body claims. Whether it is there, and whether the claim is true, the call itself says.
     let located = buffers.locate(&index.column);
-    let body = located.ok().flatten().unwrap_or_default();
-    let field = RowField::for_body(body);
+    let field = RowField::for_body(located.ok().flatten().unwrap_or_default());
     match ask_file(&buffers.embedded, &buffers.file, &index.column, BITMAP, edition, question, &literals, field) {
         Ok(Some(answer)) => {
-            // The row count that is said is the library's too, and Audit is the call that answers it.
-            let rows = match audit(body, index.ty, RowField::for_body(body)) {
-                Ok(audited) => audited.rows(),
-                Err(error) => return Outcome::Refused { refusal: refusal_of(error), part: Part::Index },
-            };
-            let answered = Outcome::Answered { count: answer.count(), rows, removed: None, field: answer.into_field() };
-            differing(rows, index.data_rows).unwrap_or(answered)
+            let (field, record) = answer.into_parts();
+            differing(record.rows(), index.data_rows).unwrap_or(Outcome::Answered { record, removed: None, field })
         }
         Ok(None) => absent(index),
         Err(error) => {
@@ -190,14 +186,14 @@ fn differing(index_rows: u64, data_rows: Option<u64>) -> Option<Outcome> {
 
 /// The rows that are left when those of the bin are taken away. The deletion file is read where nothing is left to take away too:
 /// a refused one is never an answer.
-fn without(mut field: RowField, rows: u64, deletions: &Deletions) -> Result<Outcome, String> {
+fn without(mut field: RowField, record: Record, deletions: &Deletions) -> Result<Outcome, String> {
     let bytes = read(&deletions.file)?;
-    let counts = RowField::for_rows(rows)
+    let subtracted = RowField::for_rows(record.rows())
         .and_then(|room| read_deletions(&bytes, deletions.bin, room))
         .map_err(Error::from)
-        .and_then(|deleted| subtract(&mut field, deleted.field()));
-    Ok(match counts {
-        Ok(counts) => Outcome::Answered { count: counts.left, rows, removed: Some(counts.removed), field },
+        .and_then(|deleted| subtract_record(&mut field, deleted.field(), record));
+    Ok(match subtracted {
+        Ok(subtracted) => Outcome::Answered { record: subtracted.record, removed: Some(subtracted.removed), field },
         Err(error) => Outcome::Refused { refusal: refusal_of(error), part: Part::DeletionsBesideIndex },
     })
 }

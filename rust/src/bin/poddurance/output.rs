@@ -2,9 +2,10 @@
 
 use std::io::{self, Write};
 
-use poddurance::{Refusal, RowField};
+use poddurance::{Record, Refusal, RowField};
 
 use crate::columns::Column;
+use crate::commas::with_commas;
 
 /// What came out. Its numbers are the library's answers, but for those of `columns`; a field is for the list of its rows alone.
 #[derive(Debug)]
@@ -19,8 +20,9 @@ pub enum Outcome {
     Absent { column: String, kind: String },
     /// Audit accepted.
     Accepted { rows: u64 },
-    /// Ask answered: how many rows are left, of how many, and how many deleted ones were removed if there was a deletion file.
-    Answered { count: u64, rows: u64, removed: Option<u64>, field: RowField },
+    /// Ask answered, and Subtract removed so many rows if there was a deletion file. Without one the record's deleted rows are 0 and say
+    /// nothing of the data file's.
+    Answered { record: Record, removed: Option<u64>, field: RowField },
     /// The deletions were read: how many rows, of how many.
     Deleted { count: u64, rows: u64, field: RowField },
     /// The library refused something.
@@ -44,7 +46,7 @@ impl Outcome {
     pub fn exit_status(&self) -> u8 {
         match self {
             Outcome::Listed { .. } | Outcome::Found { .. } | Outcome::Accepted { .. } | Outcome::Deleted { .. } => 0,
-            Outcome::Answered { count, .. } => u8::from(*count == 0),
+            Outcome::Answered { record, .. } => u8::from(record.is_skip()),
             Outcome::Refused { .. } | Outcome::RowsDiffer { .. } | Outcome::NotListed { .. } => 3,
             // Not that of skip: with skip no row is to be read, and without an index all are.
             Outcome::Absent { .. } => 4,
@@ -64,15 +66,12 @@ impl Outcome {
                 writeln!(out, "absent: no {} index on column {column:?}", kind.escape_debug())
             }
             Outcome::Accepted { rows } => writeln!(out, "accepted: {}, each in exactly one place", counted(*rows, "row")),
-            Outcome::Answered { count, rows, removed, field } => {
-                match count {
-                    0 => write!(out, "skip: no row of {rows}")?,
-                    count => write!(out, "keep: {count} of {}", counted(*rows, "row"))?,
-                }
-                if let Some(removed) = removed {
-                    write!(out, ", {} removed", counted(*removed, "deleted row"))?;
-                }
-                writeln!(out)?;
+            Outcome::Answered { record, removed, field } => {
+                let deleted = match removed {
+                    Some(_) => format!("{} deleted", with_commas(record.deleted())),
+                    None => "deletions not applied".to_string(),
+                };
+                writeln!(out, "{}: {record} ({deleted}, {} null)", answer(record), with_commas(record.nulls()))?;
                 list_rows(field, list, out)
             }
             Outcome::Deleted { count, rows, field } => {
@@ -111,13 +110,14 @@ impl Outcome {
                 write!(out, r#"{{"answer":"absent","column":{},"kind":{}"#, quoted(column), quoted(kind))?;
             }
             Outcome::Accepted { rows } => write!(out, r#"{{"answer":"accepted","rows":{rows}"#)?,
-            Outcome::Answered { count, rows, removed, field } => {
-                let answer = if *count == 0 { "skip" } else { "keep" };
-                write!(out, r#"{{"answer":"{answer}","count":{count},"rows":{rows},"removed":"#)?;
-                match removed {
-                    Some(removed) => write!(out, "{removed}")?,
-                    None => write!(out, "null")?,
-                }
+            Outcome::Answered { record, removed, field } => {
+                let (answer, rows, nulls, matched) = (answer(record), record.rows(), record.nulls(), record.matched());
+                let (deleted, removed) = match removed {
+                    Some(removed) => (record.deleted().to_string(), removed.to_string()),
+                    None => ("null".to_string(), "null".to_string()),
+                };
+                write!(out, r#"{{"answer":"{answer}","rows":{rows},"nulls":{nulls},"deleted":{deleted}"#)?;
+                write!(out, r#","matched":{matched},"removed":{removed}"#)?;
                 json_rows(field, list, out)?;
             }
             Outcome::Deleted { count, rows, field } => {
@@ -140,6 +140,14 @@ impl Outcome {
             Outcome::RowsDiffer { index_rows, data_rows } => json_refused(&difference(*index_rows, *data_rows), out)?,
         }
         writeln!(out, "}}")
+    }
+}
+
+fn answer(record: &Record) -> &'static str {
+    if record.is_skip() {
+        "skip"
+    } else {
+        "keep"
     }
 }
 
@@ -266,6 +274,7 @@ fn quoted(text: &str) -> String {
 mod tests {
     use super::*;
     use crate::columns::Index;
+    use poddurance::{ask, subtract_record, Edition, Literals, Question, Type};
 
     fn text(outcome: &Outcome, rows: bool) -> String {
         let mut out = Vec::new();
@@ -288,31 +297,67 @@ mod tests {
         poddurance::read_deletions(&file, 0, RowField::for_rows(6).unwrap()).unwrap().into_field()
     }
 
-    /// Rows 1, 3 and 4 of 6.
-    fn others() -> RowField {
-        let mut field = RowField::all_of(6).unwrap();
-        poddurance::subtract(&mut field, &three()).unwrap();
-        field
+    /// The answer of a column of 6 rows, 0 to 4 and null, to the question which of them are these values, without the deleted rows if
+    /// there are any.
+    fn answered(values: &[i8], deleted: Option<RowField>) -> Outcome {
+        let mut body = vec![1, 0, 0, 0, 6, 0, 0, 0, 5, 1, 255, 255, 255, 250];
+        body.extend((0..5).flat_map(|row| [row, 255, 255, 255, 255 - row]));
+        let values = Literals::of(Type::TinyInt, values).unwrap();
+        let answer = ask(&body, Edition::Second, Question::In, &values, RowField::for_rows(6).unwrap()).unwrap();
+        let (mut field, record) = answer.into_parts();
+        match deleted.map(|deleted| subtract_record(&mut field, &deleted, record).unwrap()) {
+            Some(subtracted) => Outcome::Answered { record: subtracted.record, removed: Some(subtracted.removed), field },
+            None => Outcome::Answered { record, removed: None, field },
+        }
     }
 
     #[test]
     fn answers() {
-        let keep = |removed| Outcome::Answered { count: 3, rows: 6, removed, field: others() };
-        assert_eq!(keep(None).exit_status(), 0);
-        assert_eq!(text(&keep(None), false), "keep: 3 of 6 rows\n");
-        assert_eq!(text(&keep(None), true), "keep: 3 of 6 rows\nrows: 1, 3-4\n");
-        assert_eq!(text(&keep(Some(1)), false), "keep: 3 of 6 rows, 1 deleted row removed\n");
-        assert_eq!(json(&keep(None), false), "{\"answer\":\"keep\",\"count\":3,\"rows\":6,\"removed\":null}\n");
+        let keep = answered(&[1, 3, 4], None);
+        assert_eq!(keep.exit_status(), 0);
+        assert_eq!(text(&keep, false), "keep: drawn from 3 of 6 rows (deletions not applied, 1 null)\n");
+        assert_eq!(text(&keep, true), "keep: drawn from 3 of 6 rows (deletions not applied, 1 null)\nrows: 1, 3-4\n");
         assert_eq!(
-            json(&keep(Some(2)), true),
-            "{\"answer\":\"keep\",\"count\":3,\"rows\":6,\"removed\":2,\"ranges\":[[1,1],[3,4]]}\n"
+            json(&keep, false),
+            "{\"answer\":\"keep\",\"rows\":6,\"nulls\":1,\"deleted\":null,\"matched\":3,\"removed\":null}\n"
         );
 
-        let skip = |removed| Outcome::Answered { count: 0, rows: 6, removed, field: RowField::for_rows(6).unwrap() };
-        assert_eq!(skip(None).exit_status(), 1);
-        assert_eq!(text(&skip(None), false), "skip: no row of 6\n");
-        assert_eq!(text(&skip(Some(2)), true), "skip: no row of 6, 2 deleted rows removed\nrows: none\n");
-        assert_eq!(json(&skip(None), true), "{\"answer\":\"skip\",\"count\":0,\"rows\":6,\"removed\":null,\"ranges\":[]}\n");
+        // Of the deleted rows 0, 2 and 5 the first is chosen.
+        let keep = answered(&[0, 1, 3, 4], Some(three()));
+        assert_eq!(keep.exit_status(), 0);
+        assert_eq!(text(&keep, true), "keep: drawn from 3 of 6 rows (3 deleted, 1 null)\nrows: 1, 3-4\n");
+        assert_eq!(
+            json(&keep, true),
+            "{\"answer\":\"keep\",\"rows\":6,\"nulls\":1,\"deleted\":3,\"matched\":3,\"removed\":1,\"ranges\":[[1,1],[3,4]]}\n"
+        );
+
+        let skip = answered(&[], None);
+        assert_eq!(skip.exit_status(), 1);
+        assert_eq!(text(&skip, false), "skip: drawn from 0 of 6 rows (deletions not applied, 1 null)\n");
+        assert_eq!(
+            json(&skip, true),
+            "{\"answer\":\"skip\",\"rows\":6,\"nulls\":1,\"deleted\":null,\"matched\":0,\"removed\":null,\"ranges\":[]}\n"
+        );
+
+        // Only what deletions leave decides.
+        let skip = answered(&[0, 2], Some(three()));
+        assert_eq!(skip.exit_status(), 1);
+        assert_eq!(text(&skip, true), "skip: drawn from 0 of 6 rows (3 deleted, 1 null)\nrows: none\n");
+        assert_eq!(
+            json(&skip, false),
+            "{\"answer\":\"skip\",\"rows\":6,\"nulls\":1,\"deleted\":3,\"matched\":0,\"removed\":2}\n"
+        );
+    }
+
+    /// Deletions that list no row were applied all the same, and without any nothing is said of how many rows are deleted.
+    #[test]
+    fn no_deletions_are_not_0_deleted_rows() {
+        let applied = answered(&[1], Some(RowField::for_rows(6).unwrap()));
+        assert_eq!(text(&applied, false), "keep: drawn from 1 of 6 rows (0 deleted, 1 null)\n");
+        assert!(json(&applied, false).contains(r#","deleted":0,"matched":1,"removed":0}"#));
+        let not_applied = answered(&[1], None);
+        assert_eq!(text(&not_applied, false), "keep: drawn from 1 of 6 rows (deletions not applied, 1 null)\n");
+        assert!(json(&not_applied, false).contains(r#","deleted":null,"matched":1,"removed":null}"#));
     }
 
     #[test]
@@ -482,8 +527,11 @@ mod tests {
             Outcome::Found { column: name(), kind: name(), start: 47, length: 1 },
             Outcome::Absent { column: name(), kind: name() },
             Outcome::Accepted { rows: 3 },
-            Outcome::Answered { count: 3, rows: 6, removed: None, field: others() },
-            Outcome::Answered { count: 0, rows: 6, removed: Some(1), field: RowField::for_rows(6).unwrap() },
+            answered(&[1], None),
+            answered(&[1], Some(three())),
+            answered(&[0], None),
+            answered(&[0], Some(three())),
+            answered(&[], None),
             Outcome::Listed { columns: vec![Column { name: b"s".to_vec(), indexes: vec![] }] },
             Outcome::NotListed { reason: "no".to_string() },
             Outcome::Deleted { count: 3, rows: 6, field: three() },
