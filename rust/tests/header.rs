@@ -152,7 +152,7 @@ static void delete_rows(const uint8_t *deletions, size_t length, uint64_t rows) 
     printf("\n");
 }
 
-/* The rows 1, 2, 4 and 5, and one that is none of so many rows, without the rows 0, 2 and 5: in two calls, the record of the first handed to the second. */
+/* Of 6 rows 1, 2, 4 and 5 without 0, 2 and 5, bits behind the rows set in both fields: twice, the record of the first call handed to the second. */
 static void subtract_record(uint64_t rows, size_t first_length, size_t second_length) {
     uint8_t first[2] = {0xF6, 0xAA};
     const uint8_t second[2] = {0xE5, 0xFF};
