@@ -325,7 +325,7 @@ impl Answer {
         self.record.is_skip()
     }
 
-    /// How many rows are chosen, of how many, and how many are null. No row of it is deleted yet.
+    /// How many rows are chosen, of how many, and how many are null. Its deleted rows are 0: none has been subtracted.
     ///
     /// ```
     /// # use poddurance::{ask, Edition, Literals, Question, RowField, Type};

@@ -38,7 +38,7 @@
 //!         rows
 //!     }
 //!     None => {
-//!         // Without an index all rows are to be read, but for the deleted ones.
+//!         // Without an index all rows but the deleted ones are to be read.
 //!         let mut rows = RowField::all_of(row_count)?;
 //!         subtract(&mut rows, deleted.field())?;
 //!         rows

@@ -117,7 +117,7 @@ impl RowField {
         self.rows
     }
 
-    /// How many rows are set. They are counted here, in Rust; an answer has the count that the library gave with it.
+    /// How many rows are set. They are counted here, in Rust; the record of an answer has the count that the library gave.
     ///
     /// ```
     /// assert_eq!(poddurance::RowField::all_of(6)?.count(), 6);

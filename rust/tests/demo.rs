@@ -48,7 +48,7 @@ fn commands_answer_as_shown() {
     assert_eq!(others, [""; 0], "output without a command");
     let statuses: Vec<i32> = shown.iter().map(|one| one.check(&root())).collect();
     // A reader of the README that finds nothing would pass too.
-    assert_eq!(statuses, [0, 0, 0, 0, 0, 0, 0, 1, 4, 3, 3, 3, 3, 0]);
+    assert_eq!(statuses, [0, 0, 0, 0, 0, 0, 0, 0, 1, 4, 3, 3, 3, 3, 0]);
     // Where none is shown it is 0.
     assert!(shown.iter().zip(statuses).all(|(one, status)| one.status.unwrap_or(0) == status));
 }

@@ -53,45 +53,62 @@ static const char *named(uint8_t answer) {
     case PODDURANCE_REFUSED_TWICE: return "TWICE";
     case PODDURANCE_REFUSED_MISSING: return "MISSING";
     case PODDURANCE_REFUSED_LITERAL: return "LITERAL";
+    case PODDURANCE_REFUSED_ROOM: return "ROOM";
+    case PODDURANCE_REFUSED_LIMIT: return "LIMIT";
     default: return "?";
     }
 }
 
-/* A fault between two numbers that no call may write. */
+/* A fault and a record between numbers that no call may write. */
 typedef struct {
     uint64_t before;
     poddurance_fault fault;
+    uint64_t between;
+    poddurance_record record;
     uint64_t behind;
 } guarded;
 
 /* Everything that a call writes begins as something else. */
-static const guarded other = {77, {99, 99, 99}, 78};
+static const guarded other = {77, {99, 99, 99}, 78, {99, 99, 99, 99}, 79};
+
+static void say_guards(guarded at) {
+    if (at.before != other.before || at.between != other.between || at.behind != other.behind) printf(", and a number beside fault or record is another");
+}
+
+static void say_fault(guarded at) {
+    printf(", entry %u, container %u, row %u", (unsigned)at.fault.entry, (unsigned)at.fault.container, (unsigned)at.fault.row);
+    say_guards(at);
+}
 
 static void say(uint8_t answer, uint64_t count, guarded at) {
-    printf("%s, %u, entry %u, container %u, row %u", named(answer), (unsigned)count, (unsigned)at.fault.entry, (unsigned)at.fault.container,
-           (unsigned)at.fault.row);
-    if (at.before != other.before || at.behind != other.behind) printf(", and a number beside the fault is another");
+    printf("%s, %u", named(answer), (unsigned)count);
+    say_fault(at);
+}
+
+static void say_record(uint8_t answer, guarded at) {
+    printf("%s, %u of %u rows, %u null, %u deleted", named(answer), (unsigned)at.record.matched, (unsigned)at.record.rows, (unsigned)at.record.nulls,
+           (unsigned)at.record.deleted);
 }
 
 static void ask(const char *column, uint32_t type, uint32_t edition, uint32_t question, const uint8_t *literals, size_t length) {
     uint8_t field[2] = {0xAA, 0xAA};
-    uint64_t matched = 99;
     guarded at = other;
     uint8_t answer = poddurance_ask_file(file, 0, file, sizeof file, (const uint8_t *)column, 1, (const uint8_t *)"bitmap", 6,
-                                         type, edition, question, literals, length, field, sizeof field, &matched, &at.fault);
-    say(answer, matched, at);
+                                         type, edition, question, literals, length, field, sizeof field, &at.record, &at.fault);
+    say_record(answer, at);
+    say_fault(at);
     printf(", %02X %02X\n", field[0], field[1]);
 }
 
 /* TINYINT in an edition, of the body and of the file. */
 static void ask_in(uint32_t edition, uint32_t question, const uint8_t *literals, size_t length) {
     uint8_t field[2] = {0xAA, 0xAA};
-    uint64_t matched = 99;
     guarded at = other;
     uint8_t answer = poddurance_ask(file + 47, 24, PODDURANCE_TYPE_TINYINT, edition, question, literals, length, field, sizeof field,
-                                    &matched, &at.fault);
-    say(answer, matched, at);
-    printf(", %02X %02X; ", field[0], field[1]);
+                                    &at.record, &at.fault);
+    say_record(answer, at);
+    say_fault(at);
+    printf(", %02X %02X\n", field[0], field[1]);
     ask("s", PODDURANCE_TYPE_TINYINT, edition, question, literals, length);
 }
 
@@ -104,7 +121,7 @@ static void ask_both(uint32_t question, const uint8_t *literals, size_t length) 
 static void change(size_t place, uint8_t byte) {
     uint8_t bytes[sizeof file], field[1];
     size_t i;
-    uint64_t rows = 99, matched = 99;
+    uint64_t rows = 99;
     guarded at = other;
     uint8_t answer;
     for (i = 0; i < sizeof file; i++) bytes[i] = i == place ? byte : file[i];
@@ -112,15 +129,16 @@ static void change(size_t place, uint8_t byte) {
     say(answer, rows, at);
     at = other;
     answer = poddurance_ask(bytes + 47, 24, PODDURANCE_TYPE_TINYINT, PODDURANCE_EDITION_2, PODDURANCE_QUESTION_IS_NULL, bytes, 0, field, sizeof field,
-                            &matched, &at.fault);
+                            &at.record, &at.fault);
     printf("; ");
-    say(answer, matched, at);
+    say_record(answer, at);
+    say_fault(at);
     at = other;
-    matched = 99;
     answer = poddurance_ask_file(bytes, 0, bytes, sizeof bytes, (const uint8_t *)"s", 1, (const uint8_t *)"bitmap", 6, PODDURANCE_TYPE_TINYINT,
-                                 PODDURANCE_EDITION_2, PODDURANCE_QUESTION_IS_NULL, bytes, 0, field, sizeof field, &matched, &at.fault);
+                                 PODDURANCE_EDITION_2, PODDURANCE_QUESTION_IS_NULL, bytes, 0, field, sizeof field, &at.record, &at.fault);
     printf("; ");
-    say(answer, matched, at);
+    say_record(answer, at);
+    say_fault(at);
     printf("\n");
 }
 
@@ -132,6 +150,25 @@ static void delete_rows(const uint8_t *deletions, size_t length, uint64_t rows) 
     uint8_t answer = poddurance_read_deletions(deletions, length, 0, rows, field, sizeof field, &deleted, &at.fault);
     say(answer, deleted, at);
     printf("\n");
+}
+
+/* Of 6 rows 1, 2, 4 and 5 without 0, 2 and 5, bits behind the rows set in both fields: twice, the record of the first call handed to the second. */
+static void subtract_record(uint64_t rows, size_t first_length, size_t second_length) {
+    uint8_t first[2] = {0xF6, 0xAA};
+    const uint8_t second[2] = {0xE5, 0xFF};
+    uint64_t removed = 99;
+    int times;
+    guarded at = other;
+    at.record.rows = rows;
+    at.record.nulls = 1;
+    for (times = 0; times < 2; times++) {
+        uint8_t answer = poddurance_subtract_record(first, first_length, second, second_length, &at.record, &removed);
+        say_record(answer, at);
+        say_guards(at);
+        printf(", %u removed, %02X %02X\n", (unsigned)removed, first[0], first[1]);
+        removed = 99;
+        if (answer != PODDURANCE_ACCEPTED) return;
+    }
 }
 
 int main(void) {
@@ -152,33 +189,57 @@ int main(void) {
     delete_rows(whole, sizeof whole, 65543);
     delete_rows(whole, sizeof whole, 65542);
     delete_rows(cut, sizeof cut, 65543);
+    subtract_record(6, 2, 2);
+    subtract_record(6, 0, 2);
+    subtract_record(6, 2, 0);
+    subtract_record(2147483647, 2, 2);
+    subtract_record(2147483648, 0, 0);
     return 0;
 }
 "#;
 
 const PRINTED: &str = "\
-accepted, 1, entry 0, container 0, row 0, 01 AA; accepted, 1, entry 0, container 0, row 0, 01 AA
-accepted, 1, entry 0, container 0, row 0, 01 AA; accepted, 1, entry 0, container 0, row 0, 01 AA
-accepted, 2, entry 0, container 0, row 0, 06 AA; accepted, 2, entry 0, container 0, row 0, 06 AA
-accepted, 1, entry 0, container 0, row 0, 02 AA; accepted, 1, entry 0, container 0, row 0, 02 AA
-accepted, 0, entry 0, container 0, row 0, 00 AA; accepted, 0, entry 0, container 0, row 0, 00 AA
-accepted, 0, entry 0, container 0, row 0, 00 AA; accepted, 0, entry 0, container 0, row 0, 00 AA
-accepted, 3, entry 0, container 0, row 0, 07 AA; accepted, 3, entry 0, container 0, row 0, 07 AA
-accepted, 2, entry 0, container 0, row 0, 03 AA; accepted, 2, entry 0, container 0, row 0, 03 AA
-accepted, 1, entry 0, container 0, row 0, 04 AA; accepted, 1, entry 0, container 0, row 0, 04 AA
-accepted, 1, entry 0, container 0, row 0, 04 AA; accepted, 1, entry 0, container 0, row 0, 04 AA
-accepted, 2, entry 0, container 0, row 0, 03 AA; accepted, 2, entry 0, container 0, row 0, 03 AA
-accepted, 2, entry 0, container 0, row 0, 03 AA; accepted, 2, entry 0, container 0, row 0, 03 AA
-LITERAL, 0, entry 0, container 0, row 0, AA AA
-LITERAL, 0, entry 0, container 0, row 0, AA AA; LITERAL, 0, entry 0, container 0, row 0, AA AA
-absent, 0, entry 0, container 0, row 0, AA AA
-BITMAP, 0, entry 2, container 0, row 0; BITMAP, 0, entry 2, container 0, row 0; BITMAP, 0, entry 2, container 0, row 0
-RANGE, 0, entry 2, container 0, row 0; RANGE, 0, entry 2, container 0, row 0; RANGE, 0, entry 2, container 0, row 0
-TWICE, 0, entry 2, container 0, row 0; TWICE, 0, entry 2, container 0, row 0; TWICE, 0, entry 2, container 0, row 0
-MISSING, 0, entry 0, container 0, row 3; MISSING, 0, entry 0, container 0, row 3; MISSING, 0, entry 0, container 0, row 3
+accepted, 1 of 3 rows, 1 null, 0 deleted, entry 0, container 0, row 0, 01 AA
+accepted, 1 of 3 rows, 1 null, 0 deleted, entry 0, container 0, row 0, 01 AA
+accepted, 1 of 3 rows, 1 null, 0 deleted, entry 0, container 0, row 0, 01 AA
+accepted, 1 of 3 rows, 1 null, 0 deleted, entry 0, container 0, row 0, 01 AA
+accepted, 2 of 3 rows, 1 null, 0 deleted, entry 0, container 0, row 0, 06 AA
+accepted, 2 of 3 rows, 1 null, 0 deleted, entry 0, container 0, row 0, 06 AA
+accepted, 1 of 3 rows, 1 null, 0 deleted, entry 0, container 0, row 0, 02 AA
+accepted, 1 of 3 rows, 1 null, 0 deleted, entry 0, container 0, row 0, 02 AA
+accepted, 0 of 3 rows, 1 null, 0 deleted, entry 0, container 0, row 0, 00 AA
+accepted, 0 of 3 rows, 1 null, 0 deleted, entry 0, container 0, row 0, 00 AA
+accepted, 0 of 3 rows, 1 null, 0 deleted, entry 0, container 0, row 0, 00 AA
+accepted, 0 of 3 rows, 1 null, 0 deleted, entry 0, container 0, row 0, 00 AA
+accepted, 3 of 3 rows, 1 null, 0 deleted, entry 0, container 0, row 0, 07 AA
+accepted, 3 of 3 rows, 1 null, 0 deleted, entry 0, container 0, row 0, 07 AA
+accepted, 2 of 3 rows, 1 null, 0 deleted, entry 0, container 0, row 0, 03 AA
+accepted, 2 of 3 rows, 1 null, 0 deleted, entry 0, container 0, row 0, 03 AA
+accepted, 1 of 3 rows, 1 null, 0 deleted, entry 0, container 0, row 0, 04 AA
+accepted, 1 of 3 rows, 1 null, 0 deleted, entry 0, container 0, row 0, 04 AA
+accepted, 1 of 3 rows, 1 null, 0 deleted, entry 0, container 0, row 0, 04 AA
+accepted, 1 of 3 rows, 1 null, 0 deleted, entry 0, container 0, row 0, 04 AA
+accepted, 2 of 3 rows, 1 null, 0 deleted, entry 0, container 0, row 0, 03 AA
+accepted, 2 of 3 rows, 1 null, 0 deleted, entry 0, container 0, row 0, 03 AA
+accepted, 2 of 3 rows, 1 null, 0 deleted, entry 0, container 0, row 0, 03 AA
+accepted, 2 of 3 rows, 1 null, 0 deleted, entry 0, container 0, row 0, 03 AA
+LITERAL, 0 of 0 rows, 0 null, 0 deleted, entry 0, container 0, row 0, AA AA
+LITERAL, 0 of 0 rows, 0 null, 0 deleted, entry 0, container 0, row 0, AA AA
+LITERAL, 0 of 0 rows, 0 null, 0 deleted, entry 0, container 0, row 0, AA AA
+absent, 0 of 0 rows, 0 null, 0 deleted, entry 0, container 0, row 0, AA AA
+BITMAP, 0, entry 2, container 0, row 0; BITMAP, 0 of 0 rows, 0 null, 0 deleted, entry 2, container 0, row 0; BITMAP, 0 of 0 rows, 0 null, 0 deleted, entry 2, container 0, row 0
+RANGE, 0, entry 2, container 0, row 0; RANGE, 0 of 0 rows, 0 null, 0 deleted, entry 2, container 0, row 0; RANGE, 0 of 0 rows, 0 null, 0 deleted, entry 2, container 0, row 0
+TWICE, 0, entry 2, container 0, row 0; TWICE, 0 of 0 rows, 0 null, 0 deleted, entry 2, container 0, row 0; TWICE, 0 of 0 rows, 0 null, 0 deleted, entry 2, container 0, row 0
+MISSING, 0, entry 0, container 0, row 3; MISSING, 0 of 0 rows, 0 null, 0 deleted, entry 0, container 0, row 3; MISSING, 0 of 0 rows, 0 null, 0 deleted, entry 0, container 0, row 3
 accepted, 2, entry 0, container 0, row 0
 RANGE, 0, entry 0, container 0, row 0
 BITMAP, 0, entry 0, container 1, row 0
+accepted, 2 of 6 rows, 1 null, 3 deleted, 2 removed, D2 AA
+accepted, 2 of 6 rows, 1 null, 3 deleted, 0 removed, D2 AA
+ROOM, 0 of 0 rows, 0 null, 0 deleted, 0 removed, F6 AA
+ROOM, 0 of 0 rows, 0 null, 0 deleted, 0 removed, F6 AA
+ROOM, 0 of 0 rows, 0 null, 0 deleted, 0 removed, F6 AA
+LIMIT, 0 of 0 rows, 0 null, 0 deleted, 0 removed, F6 AA
 ";
 
 /// Rows 5 and 65,542 as two arrays in a deletion file, and the same without the last byte, as arrays in C.
