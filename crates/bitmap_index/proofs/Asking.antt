@@ -28,7 +28,7 @@ use Rattle.dictionary.specs.declared.Checked.the-variants.{Found}
 use Rattle.dictionary.specs.declared.Summary.{Summary}
 use Rattle.dictionary.specs.Reading.{Dictionary}
 use Rattle.bitmap_index.specs.declared.Question.{Question}
-use Rattle.bitmap_index.specs.Meaning.{isIn, notIn, isNull, questions, firstEdition, secondEdition, knownEdition, takes, nullRows}
+use Rattle.bitmap_index.specs.Meaning.{isIn, notIn, isNull, questions, firstEdition, secondEdition, knownEdition, takes, nullQuestion}
 use Rattle.bitmap_index.specs.Reading.{prepared, audited, zeroedFrom, chosenOf, markEntries, markedFor, matchedFor, Answer, answered, auditedAnswer, wellFormed, ask, answerBuffer, askBuffer, answeredBy, askOut, askNumbers, askFault}
 use Rattle.bitmap_index.specs.declared.BitmapsAudited.{BitmapsAudited}
 use Rattle.bitmap_index.specs.declared.BitmapsAudited.the-variants.{Nulls}
@@ -36,7 +36,7 @@ use Rattle.bitmap_index.specs.declared.Answered.{Answered}
 use Rattle.bitmap_index.specs.declared.Answered.the-variants.{Skip, Keep}
 use Rattle.bitmap_index.specs.declared.Outcome.{Outcome}
 use Rattle.bitmap_index.specs.declared.Outcome.the-variants.{Done}
-use Rattle.bitmap_index.specs.Promises.{AskPromise, ForDictionary, Prepares, Asked, TestsQuestion, Lookup, FindsNulls, AuditsField, Answers, AnswersField}
+use Rattle.bitmap_index.specs.Promises.{AskPromise, ForDictionary, Prepares, Asked, TestsQuestion, Lookup, AuditComesTo, AuditsField, Answers, AnswersField}
 use Rattle.bitmap_index.proofs.AcceptedStages.{asked-back}
 use Rattle.bitmap_index.proofs.Auditing.{zeroed-again}
 
@@ -155,7 +155,7 @@ may-enter t q s body w =
 -- ---- the chosen entries
 
 module _ (q : Question) (ls : List (List ℕ)) (d : Dictionary) (f : List ℕ) {after : List ℕ} (m : after ≡ markEntries (d .region) (chosenOf q ls (d .entries)) f)
-    {k nulls : ℕ} (o : k ≡ count after (d .rows)) (z : nulls ≡ matchedFor nullRows [] d f) where
+    {k nulls : ℕ} (o : k ≡ count after (d .rows)) (z : nulls ≡ matchedFor nullQuestion [] d f) where
   abbrev its-record : Record
   its-record = record { rows = d .rows; nulls = nulls; deleted = 0; matched = k }
 
@@ -177,7 +177,7 @@ module _ (q : Question) (ls : List (List ℕ)) (d : Dictionary) (f : List ℕ) {
 
 -- ---- after the audit
 
-pub then-accepted : (d : Dictionary) (f : List ℕ) {a : BitmapsAudited} {mid : List ℕ} → AuditsField d f mid a → {n : ℕ} → a ≡ Nulls n → FindsNulls d mid (Nulls n)
+pub then-accepted : (d : Dictionary) (f : List ℕ) {a : BitmapsAudited} {mid : List ℕ} → AuditsField d f mid a → {n : ℕ} → a ≡ Nulls n → AuditComesTo d mid (Nulls n)
 then-accepted d f w e = rw (w .buffer) (rw e at (w .outcome))
 
 module _ (q : Question) (ls : List (List ℕ)) (d : Dictionary) (f : List ℕ) {a : BitmapsAudited} {mid : List ℕ} (w : AuditsField d f mid a) where

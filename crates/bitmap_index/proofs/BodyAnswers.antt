@@ -22,7 +22,8 @@ use Rattle.bitmap_index.specs.declared.Question.{Question}
 use Rattle.bitmap_index.specs.Meaning.{questions, WellFormed}
 use Rattle.bitmap_index.specs.Layout.{EntryRows, single, bitmap, ExactRows}
 use Rattle.bitmap_index.specs.Reading.{audited, roomFor, prepared, audit, zeroedFrom, auditBuffer, wellFormed, ask, answerBuffer, askBuffer, auditedAnswer}
-use Rattle.bitmap_index.specs.Claims.{scanAnswer, AnswersAsScan}
+use Rattle.bitmap_index.specs.Promises.{scanAnswer}
+use Rattle.bitmap_index.specs.Claims.{AnswersAsScan}
 use Rattle.bitmap_index.proofs.ScanAnswers.{HasColumn, column-audited, column-answered}
 
 -- ---- a well-formed question's literals fit an input buffer

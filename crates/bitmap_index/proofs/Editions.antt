@@ -7,7 +7,7 @@ use mathlib.Core.Bool.{Bool, true, false, not, _&&_, _||_, cond, and-true}
 use mathlib.Core.List.{List, [], _∷_}
 use native.Mathlib.Decide.{decLt}
 use native.Mathlib.Omega.{arith}
-use borrow.Author.Tests.{eq-eqb, ne-eqb, eqb-true, lt-ltb, le-ltb, le-leb, not-false}
+use borrow.Author.Tests.{ne-eqb, lt-ltb, le-ltb, le-leb}
 use lib.Dec.{eqb, ltb}
 use lib.ListN.{length, replicate}
 use Rattle.numbers.specs.Meaning.{Bytes}
@@ -17,18 +17,18 @@ use Rattle.refusal.specs.declared.Refusal.the-variants.{Literal}
 use Rattle.refusal.specs.Reading.{Out, refuse, ok, check, andThen}
 use Rattle.row_field.specs.Meaning.{size, bit, count, cleared}
 use Rattle.row_field.proofs.Laws.{bytes-zeros, field-ext}
-use Rattle.row_field.proofs.Marks.{bytes-markAll, none-set}
-use Rattle.row_field.proofs.Counts.{count-field, none-counted}
+use Rattle.row_field.proofs.Marks.{bytes-markAll}
+use Rattle.row_field.proofs.Counts.{count-field}
 use Rattle.subtract.specs.Meaning.{subtracted, removed, keeps}
 use Rattle.subtract.proofs.Laws.{bytes-without}
-use Rattle.subtract.proofs.Restating.{none-left}
+use Rattle.subtract.proofs.WithRecord.{none-left}
 use Rattle.subtract.proofs.Theorems.{clears-just-the-rows, keeps-the-length, left-and-removed}
 use Rattle.stored_value.specs.Meaning.{types, mostLiterals, Cell, null, value}
 use Rattle.stored_value.specs.Reading.{literals}
 use Rattle.dictionary.specs.Layout.{Entry}
 use Rattle.dictionary.specs.Reading.{Dictionary}
 use Rattle.bitmap_index.specs.declared.Question.{Question}
-use Rattle.bitmap_index.specs.Meaning.{notEqual, notIn, isNull, firstEdition, secondEdition, knownEdition, question, chosen, takes, scan, nullRows}
+use Rattle.bitmap_index.specs.Meaning.{notEqual, notIn, isNull, firstEdition, secondEdition, knownEdition, question, chosen, takes, scan, nullQuestion}
 use Rattle.bitmap_index.specs.Reading.{prepared, zeroedFrom, chosenOf, markedFor, matchedFor, answered, auditedAnswer, wellFormed, ask, answerBuffer, askBuffer}
 use Rattle.bitmap_index.specs.Claims.{IsWithout}
 use Rattle.bitmap_index.proofs.Rows.{rowsWhere, passes, all-cells, rows-ext, rows-rising}
@@ -43,7 +43,7 @@ module _ (q : Question) (ls : List (List ℕ)) (cells : List Cell) where
       rw (scanned q ls cells)
       (bytes-markAll (replicate (size (length cells)) 0) (rowsWhere (chosen q ls) 0 cells) (bytes-zeros (size (length cells))))
 
-  scan-count : count (scan q ls cells .field) (length cells) ≡ scan q ls cells .matched
+  pub scan-count : count (scan q ls cells .field) (length cells) ≡ scan q ls cells .matched
   scan-count = rw (scanned q ls cells) (count-field (length cells) (rowsWhere (chosen q ls) 0 cells) (rows-rising (chosen q ls) cells))
 
 passes-past : (p : Cell → Bool) (r : ℕ) (cells : List Cell) → length cells ≤ r → passes p r cells ≡ false
@@ -73,7 +73,7 @@ module _ (name : ℕ) where
   second = question secondEdition name
 
   module _ (ls : List (List ℕ)) (other : name ≡ isNull → ⊥) where
-    cell-without : (c : Cell) → chosen second ls c ≡ chosen first ls c && not (chosen nullRows [] c)
+    cell-without : (c : Cell) → chosen second ls c ≡ chosen first ls c && not (chosen nullQuestion [] c)
     unfolding chosen
     cell-without null = rw (ne-eqb name isNull other) (go (eqb name notEqual || eqb name notIn))
       where
@@ -82,7 +82,7 @@ module _ (name : ℕ) where
         go false = refl
     cell-without (value v) = sym (and-true _)
 
-    passes-without : (r : ℕ) (cells : List Cell) → passes (chosen second ls) r cells ≡ passes (chosen first ls) r cells && not (passes (chosen nullRows []) r cells)
+    passes-without : (r : ℕ) (cells : List Cell) → passes (chosen second ls) r cells ≡ passes (chosen first ls) r cells && not (passes (chosen nullQuestion []) r cells)
     passes-without r [] = refl
     passes-without zero (c ∷ cells) = cell-without c
     passes-without (suc r) (c ∷ cells) = passes-without r cells
@@ -95,12 +95,12 @@ module _ (name : ℕ) where
       f = scan first ls cells .field
 
       abbrev g : List ℕ
-      g = scan nullRows [] cells .field
+      g = scan nullQuestion [] cells .field
 
       bit-without : (r : ℕ) → r / 8 < size n → bit (scan second ls cells .field) r ≡ bit (subtracted n f g) r
       bit-without r h =
-          rw (clears-just-the-rows n f g r, scan-bit second ls cells r h, scan-bit first ls cells r h, scan-bit nullRows [] cells r h)
-          (row-without n r _ (passes (chosen first ls) r cells) (passes (chosen nullRows []) r cells) (passes-without r cells) (λ l. passes-past (chosen nullRows []) r cells l))
+          rw (clears-just-the-rows n f g r, scan-bit second ls cells r h, scan-bit first ls cells r h, scan-bit nullQuestion [] cells r h)
+          (row-without n r _ (passes (chosen first ls) r cells) (passes (chosen nullQuestion []) r cells) (passes-without r cells) (λ l. passes-past (chosen nullQuestion []) r cells l))
 
       field-without : scan second ls cells .field ≡ subtracted n f g
       field-without =
@@ -118,7 +118,7 @@ module _ (name : ℕ) where
       skip-without : (keeps (scan second ls cells .matched) ≡ false) ↔ ((r : ℕ) → r < n → bit f r ≡ true → bit g r ≡ true)
       skip-without = rw left-is (none-left n f g)
 
-      pub is-without : IsWithout n (scan second ls cells) (scan first ls cells) (scan nullRows [] cells)
+      pub is-without : IsWithout n (scan second ls cells) (scan first ls cells) (scan nullQuestion [] cells)
       is-without = record { field = field-without; count = count-without; skip = skip-without }
 
   -- ---- the questions that choose null in both editions or in neither

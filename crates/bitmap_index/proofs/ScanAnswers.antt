@@ -21,7 +21,7 @@ use Rattle.stored_value.proofs.Laws.{sameCell→eq, sameCell-sym}
 use Rattle.dictionary.specs.Layout.{Entry, someHas}
 use Rattle.dictionary.specs.Claims.{Once}
 use Rattle.bitmap_index.specs.declared.Question.{Question}
-use Rattle.bitmap_index.specs.Meaning.{chosen, scan, scanFrom, nullRows, scanRecord}
+use Rattle.bitmap_index.specs.Meaning.{chosen, scan, scanFrom, nullQuestion, scanRecord}
 use Rattle.bitmap_index.specs.Layout.{rowsWith, EntryRows, ExactRows, Covers}
 use Rattle.bitmap_index.specs.Reading.{nextNumber, firstNumber, placeEntry, placeEntries, audited, chosenOf, rowsAt, markEntries, markedFor, matchedFor, answered}
 use Rattle.bitmap_index.proofs.LaidRows.{rows-at, place-one}
@@ -191,4 +191,4 @@ module _ (q : Question) (ls : List (List ℕ)) (cells : List Cell) (es : List En
   pub column-answered : answered q ls (record { rows = length cells; entries = es; region = region }) (cleared (length cells) field)
       ≡ record { buffer = scan q ls cells .field ++ drop (size (length cells)) field; said = scanRecord q ls cells }
   unfolding answered scanRecord
-  column-answered = rw (column-marked q ls cells es region field w b h, column-matched q ls cells es region field w b h, column-matched nullRows [] cells es region field w b h)
+  column-answered = rw (column-marked q ls cells es region field w b h, column-matched q ls cells es region field w b h, column-matched nullQuestion [] cells es region field w b h)

@@ -21,7 +21,7 @@ use Rattle.dictionary.specs.Reading.{Dictionary}
 use Rattle.bitmap_index.specs.Meaning.{Column, WellFormed}
 use Rattle.bitmap_index.specs.Layout.{ColumnBody, version1, version2}
 use Rattle.bitmap_index.specs.Reading.{roomFor, prepared, audited, audit, Answer, answered, auditedAnswer, ask}
-use Rattle.bitmap_index.specs.Claims.{ColumnIsAnswered, AcceptedIsAColumn, OneColumn, EachRowHasOnePlace, AcceptedIsAnswered, AnsweredAsTheScan, SecondIsFirstWithoutNulls, OthersStay, OthersAreAnsweredAlike, OtherEditionIsLiteral, ShortOfRoom, RefusedForRoom, RefusedIsNoColumn, AcceptedAreTheColumns, UnknownVersionIsRefused, UnknownVersionYieldsNothing, FaultIs, AuditNamesTheFault, AskNamesTheFault, OutsideIsContainer0, NothingBeforeBitmaps}
+use Rattle.bitmap_index.specs.Claims.{ColumnIsAnswered, AcceptedIsAColumn, OneColumn, EachRowHasOnePlace, AcceptedIsAnswered, AnsweredAsTheScan, RecordIsOfItsField, GraphIsDrawnFromTheScan, SecondIsFirstWithoutNulls, OthersStay, OthersAreAnsweredAlike, OtherEditionIsLiteral, ShortOfRoom, RefusedForRoom, RefusedIsNoColumn, AcceptedAreTheColumns, UnknownVersionIsRefused, UnknownVersionYieldsNothing, FaultIs, AuditNamesTheFault, AskNamesTheFault, OutsideIsContainer0, NothingBeforeBitmaps}
 use Rattle.bitmap_index.proofs.ScanAnswers.{HasColumn}
 use Rattle.bitmap_index.proofs.BodyAnswers.{answers-as-scan, all-patterns, region1, region2}
 use Rattle.dictionary.specs.Layout.{body1, body2}
@@ -29,6 +29,7 @@ use Rattle.dictionary.proofs.LaidOut.{one-laid, two-laid}
 use Rattle.dictionary.specs.Claims.{LaidOut, in-one, in-two}
 use Rattle.dictionary.proofs.Theorems.{read-is-laid-out, one-has-each-once, two-has-each-once, region-is-bytes}
 use Rattle.bitmap_index.proofs.SameColumn.{same-column}
+use Rattle.bitmap_index.proofs.Graphs.{of-its-field, drawn-from}
 use Rattle.bitmap_index.proofs.Editions.{is-without, same-scan, same-ask, same-buffer, no-edition}
 use Rattle.refusal.proofs.Laws.{not-ok, ok-same, then-ok, check-ok}
 use Rattle.bitmap_index.proofs.AcceptedStages.{prepared-back, audit-passed, asked-back, ask-parts}
@@ -97,6 +98,14 @@ answered-as-the-scan t q literal body field a bl b bf e =
       column = column;
       answer = ok-same a _ (sym e ∙ ap (λ (x : List ℕ). ask t q x body field) spelled ∙ answers .asked q ls g);
     }
+
+-- ---- what the graph may claim
+
+pub record-is-of-its-field : RecordIsOfItsField
+record-is-of-its-field = of-its-field
+
+pub graph-is-drawn-from-the-scan : GraphIsDrawnFromTheScan
+graph-is-drawn-from-the-scan = drawn-from
 
 -- ---- the editions
 

@@ -14,8 +14,9 @@ use Rattle.refusal.specs.declared.Refusal.{Refusal}
 use Rattle.refusal.specs.declared.Refusal.the-variants.{Short, Magic, Version, Head, Dict, Bitmap, Range, Twice, Missing, Room, Literal, Limit, Checksum, NoBin}
 use Rattle.refusal.specs.Reading.{refuse, ok, check, andThen}
 use Rattle.refusal.specs.Claims.{CarriesNothing}
-use Rattle.row_field.specs.Meaning.{size, bit, cleared, Below}
+use Rattle.row_field.specs.Meaning.{size, bit, count, cleared, Below}
 use Rattle.subtract.specs.Meaning.{subtracted, removed, keeps}
+use Rattle.subtract.specs.Reading.{RecordCounts, recordSubtraction}
 use Rattle.roaring.specs.declared.Extent.{Extent}
 use Rattle.roaring.specs.declared.Extent.the-variants.{AsLong, Exactly}
 use Rattle.roaring.specs.Faults.{Broken}
@@ -24,15 +25,12 @@ use Rattle.dictionary.specs.Layout.{Entry}
 use Rattle.dictionary.specs.Reading.{Dictionary, dictionary}
 use Rattle.dictionary.specs.Claims.{Once}
 use Rattle.bitmap_index.specs.declared.Question.{Question}
-use Rattle.bitmap_index.specs.Meaning.{notEqual, notIn, isNull, firstEdition, secondEdition, knownEdition, question, WellFormed, Scanned, scan, nullRows, scanRecord}
+use Rattle.bitmap_index.specs.Meaning.{notEqual, notIn, isNull, firstEdition, secondEdition, knownEdition, question, WellFormed, Scanned, scan, nullQuestion}
 use Rattle.bitmap_index.specs.Layout.{EntryRows, ColumnBody}
 use Rattle.bitmap_index.specs.Reading.{prepared, audit, auditBuffer, wellFormed, Answer, ask, askBuffer}
+use Rattle.bitmap_index.specs.Promises.{scanAnswer}
 
 -- ---- Demand 3, from a body to its answers. A reading that refuses everything does not have it
-
--- the answer of a column's scan in a lent buffer: the scan's field, what lies behind it as it was, and the scan's record
-abbrev pub scanAnswer : Question → List (List ℕ) → List Cell → List ℕ → Answer
-scanAnswer q ls cells buffer = record { buffer = scan q ls cells .field ++ drop (size (length cells)) buffer; said = scanRecord q ls cells }
 
 -- Audit finds all rows and leaves the field zero, and Ask answers every well-formed question, of either edition, as the scan does (02, Ticket 4: "Demands 2 and 3
 -- hold for each edition, whose rule the scan then follows")
@@ -110,6 +108,33 @@ AnsweredAsTheScan =
     (t : ℕ) (q : Question) (literal body field : List ℕ) (a : Answer) → Bytes literal → Bytes body → Bytes field → ask t q literal body field ≡ ok a
     → AsTheScan t q literal body field a
 
+-- ---- 02, Ticket 7: what the graph may claim
+
+-- for any bytes: matched are the ones in the field, null rows are rows, and nothing is deleted yet
+pub record OfItsField (a : Answer) : Type 0 where
+  pub matched : a .said .matched ≡ count (a .buffer) (a .said .rows)
+  pub nulls : a .said .nulls ≤ a .said .rows
+  pub deleted : a .said .deleted ≡ 0
+
+abbrev pub RecordIsOfItsField : Type 0
+RecordIsOfItsField = (t : ℕ) (q : Question) (literal body field : List ℕ) (a : Answer) → ask t q literal body field ≡ ok a → OfItsField a
+
+-- what is said once the rows of a field g were subtracted from the scan's answer: the column's rows and null rows, all rows of g, and the rows that the scan
+-- chooses and g has not; with the removed ones they are all that the scan chooses
+pub record DrawnFrom (q : Question) (ls : List (List ℕ)) (cells : List Cell) (g : List ℕ) (a : RecordCounts) : Type 0 where
+  pub rows : a .said .rows ≡ length cells
+  pub nulls : a .said .nulls ≡ scan nullQuestion [] cells .matched
+  pub deleted : a .said .deleted ≡ count g (length cells)
+  pub matched : a .said .matched ≡ count (subtracted (length cells) (scan q ls cells .field) g) (length cells)
+  pub with-removed : a .said .matched + a .removed ≡ scan q ls cells .matched
+
+-- Ask's answer to a column's body, and to its file, is the scan's (demand 3): so from it a graph is drawn
+abbrev pub GraphIsDrawnFromTheScan : Type 0
+GraphIsDrawnFromTheScan =
+    (q : Question) (ls : List (List ℕ)) (cells : List Cell) (field g : List ℕ) → length cells ≤ limit → size (length cells) ≤ length field → size (length cells) ≤ length g
+    → (a : RecordCounts)
+    × (recordSubtraction (scanAnswer q ls cells field .said) (scanAnswer q ls cells field .buffer) g ≡ ok a) × DrawnFrom q ls cells g a
+
 -- ---- 02, Ticket 4: "for every question but IS NULL, which stays, edition 2 is edition 1 without the rows of IS NULL". Said of the scan; demands 2 and 3 carry
 -- it to Ask
 
@@ -123,7 +148,7 @@ pub record IsWithout (n : ℕ) (second first nulls : Scanned) : Type 0 where
 abbrev pub SecondIsFirstWithoutNulls : Type 0
 SecondIsFirstWithoutNulls =
     (name : ℕ) (ls : List (List ℕ)) (cells : List Cell) → (name ≡ isNull → ⊥)
-    → IsWithout (length cells) (scan (question secondEdition name) ls cells) (scan (question firstEdition name) ls cells) (scan nullRows [] cells)
+    → IsWithout (length cells) (scan (question secondEdition name) ls cells) (scan (question firstEdition name) ls cells) (scan nullQuestion [] cells)
 
 -- "2 drops null rows from NOT EQUAL and NOT IN", and from no other: IS NULL "stays", and so do EQUAL, IN and IS NOT NULL
 abbrev pub OthersStay : Type 0

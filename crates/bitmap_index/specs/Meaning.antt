@@ -81,7 +81,8 @@ pub record WellFormed (t : ℕ) (q : Question) (ls : List (List ℕ)) : Type 0 w
   pub form : Literals t ls
   pub number : takes (q .name) (length ls) ≡ true
 
--- ---- the scan: "It starts with a zero field and count 0 and takes the rows in order .. A chosen row sets its bit and adds 1"
+-- ---- the scan: "It starts with a zero field and count 0 and takes the rows in order .. A chosen row sets its bit and adds 1. In the end a count of 0 says skip, any
+-- other keep" (subtract's `keeps`)
 
 pub record Scanned : Type 0 where
   pub field : List ℕ
@@ -95,12 +96,10 @@ scanFrom q ls r field matched (c ∷ cells) =
 unfoldable pub scan : Question → List (List ℕ) → List Cell → Scanned
 scan q ls cells = scanFrom q ls 0 (replicate (size (length cells)) 0) 0 cells
 
--- "In the end a count of 0 says skip, any other keep": subtract's `keeps`
-
 -- the question whose rows are the null rows. It chooses the same in both editions
-abbrev pub nullRows : Question
-nullRows = question firstEdition isNull
+abbrev pub nullQuestion : Question
+nullQuestion = question firstEdition isNull
 
 -- what the scan says of the column in numbers: its row count, its null rows, whatever is asked, no deleted rows, and the rows that match
 unfoldable pub scanRecord : Question → List (List ℕ) → List Cell → Record
-scanRecord q ls cells = record { rows = length cells; nulls = scan nullRows [] cells .matched; deleted = 0; matched = scan q ls cells .matched }
+scanRecord q ls cells = record { rows = length cells; nulls = scan nullQuestion [] cells .matched; deleted = 0; matched = scan q ls cells .matched }

@@ -10,7 +10,7 @@ use Rattle.refusal.specs.Reading.{Out, refuse, ok, numbersOf, faultIn}
 use Rattle.row_field.specs.Meaning.{size, count, cleared}
 use Rattle.subtract.specs.Meaning.{noRecord}
 use Rattle.roaring.specs.Promises.{SoundBelow}
-use Rattle.stored_value.specs.Meaning.{listed}
+use Rattle.stored_value.specs.Meaning.{Cell, listed}
 use Rattle.stored_value.specs.Promises.{Entered}
 use Rattle.dictionary.specs.declared.Checked.{Checked}
 use Rattle.dictionary.specs.declared.Checked.the-variants.{Found}
@@ -28,7 +28,7 @@ use Rattle.bitmap_index.specs.declared.Outcome.{Outcome}
 use Rattle.bitmap_index.specs.declared.Outcome.the-variants.{Done}
 use Rattle.bitmap_index.specs.declared.Placing.{Placing}
 use Rattle.bitmap_index.specs.declared.Placing.the-variants.{Placed}
-use Rattle.bitmap_index.specs.Meaning.{isIn, isNull, nullRows}
+use Rattle.bitmap_index.specs.Meaning.{isIn, isNull, scan, nullQuestion, scanRecord}
 use Rattle.bitmap_index.specs.Reading.{firstNumber, placeEntries, prepared, audited, audit, auditBuffer, chosenOf, markEntries, matchedFor, Answer, answered, auditedAnswer, wellFormed, ask, answerBuffer, askBuffer, auditedBy, auditOut, auditNumbers, auditFault, answeredBy, askOut, askNumbers, askFault}
 
 -- ---- Audit and Ask (01), for any bytes: the answer, what the lent buffer then holds, the answer's number with its count or record, and where its fault is
@@ -44,6 +44,11 @@ pub record AskPromise (t : ℕ) (q : Question) (literal body before after : List
   pub buffer : after ≡ askBuffer t q literal body before
   pub numbers : askOut r ≡ numbersOf noRecord askNumbers (ask t q literal body before)
   pub fault : askFault r ≡ faultIn (ask t q literal body before)
+
+-- the answer of a column's scan in a lent buffer: the scan's field, what lies behind it as it was, and the scan's record. Demands 2 and 3 say that Ask's answer is
+-- this one
+abbrev pub scanAnswer : Question → List (List ℕ) → List Cell → List ℕ → Answer
+scanAnswer q ls cells buffer = record { buffer = scan q ls cells .field ++ drop (size (length cells)) buffer; said = scanRecord q ls cells }
 
 -- ---- what comes before a byte of the field is written
 
@@ -148,19 +153,19 @@ MarksAsked t body h q literal before after =
 
 -- ---- what is said once rows are placed or marked
 
--- what an audit of the dictionary d comes to in a field that is zero: a refusal; or it is accepted, and null has so many rows
-abbrev pub FindsNulls : Dictionary → List ℕ → BitmapsAudited → Type 0
-FindsNulls d zero (BitmapsAudited.Refused r) = audited d zero ≡ refuse r
-FindsNulls d zero (Nulls k) = (audited d zero ≡ ok (d .rows)) × (k ≡ matchedFor nullRows [] d zero)
+-- what an audit of the dictionary d comes to: a refusal; or it is accepted, and null has so many rows
+abbrev pub AuditComesTo : Dictionary → List ℕ → BitmapsAudited → Type 0
+AuditComesTo d zero (BitmapsAudited.Refused r) = audited d zero ≡ refuse r
+AuditComesTo d zero (Nulls k) = (audited d zero ≡ ok (d .rows)) × (k ≡ matchedFor nullQuestion [] d zero)
 
--- no byte behind the field has changed
+-- an audit in a field that is zero, after which no byte behind the field has changed
 pub record AuditsZero (d : Dictionary) (zero after : List ℕ) (r : BitmapsAudited) : Type 0 where
-  pub outcome : FindsNulls d zero r
+  pub outcome : AuditComesTo d zero r
   pub behind : cleared (d .rows) after ≡ cleared (d .rows) zero
 
 -- an audit in any field, which it leaves zero
 pub record AuditsField (d : Dictionary) (before after : List ℕ) (r : BitmapsAudited) : Type 0 where
-  pub outcome : FindsNulls d (cleared (d .rows) before) r
+  pub outcome : AuditComesTo d (cleared (d .rows) before) r
   pub buffer : after ≡ cleared (d .rows) before
 
 -- what was answered, and what the buffer then holds: `otherwise` where it was refused
@@ -171,7 +176,7 @@ pub record Answers (o : Out Refusal Answer) (otherwise after : List ℕ) (r : An
 -- an audit in this field accepted the dictionary and found so many null rows
 pub record AuditAccepts (t : ℕ) (body : List ℕ) (h : Summary) (zero : List ℕ) (nulls : ℕ) : Type 0 where
   pub is-read : IsRead t body h
-  pub accepts : ForDictionary t body h (λ d. FindsNulls d zero (Nulls nulls))
+  pub accepts : ForDictionary t body h (λ d. AuditComesTo d zero (Nulls nulls))
 
 -- an answer in a field that is zero, and one in any field, which is audited first: with a refusal the field is zero
 abbrev pub AnswersZero : ℕ → Question → List ℕ → List ℕ → Dictionary → List ℕ → List ℕ → Answered → Type 0

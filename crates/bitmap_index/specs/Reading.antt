@@ -26,7 +26,7 @@ use Rattle.bitmap_index.specs.declared.Audited.the-variants.{Rows}
 use Rattle.bitmap_index.specs.declared.Answered.{Answered}
 use Rattle.bitmap_index.specs.declared.Answered.the-variants.{Skip, Keep}
 use Rattle.bitmap_index.specs.declared.Question.{Question}
-use Rattle.bitmap_index.specs.Meaning.{questions, knownEdition, chosen, takes, nullRows}
+use Rattle.bitmap_index.specs.Meaning.{questions, knownEdition, chosen, takes, nullQuestion}
 
 -- ---- the bitmaps
 
@@ -136,7 +136,7 @@ pub record Answer : Type 0 where
 -- rows of null's entry, whatever is asked
 unfoldable pub answered : Question → List (List ℕ) → Dictionary → List ℕ → Answer
 answered q ls d zero =
-    record { buffer = markedFor q ls d zero; said = record { rows = d .rows; nulls = matchedFor nullRows [] d zero; deleted = 0; matched = matchedFor q ls d zero } }
+    record { buffer = markedFor q ls d zero; said = record { rows = d .rows; nulls = matchedFor nullQuestion [] d zero; deleted = 0; matched = matchedFor q ls d zero } }
 
 -- "audits the whole body, then answers"
 unfoldable pub auditedAnswer : Question → List (List ℕ) → Dictionary → List ℕ → Out Refusal Answer
@@ -184,7 +184,7 @@ unfoldable pub auditFault : Audited → List ℕ
 auditFault (Audited.Refused r) = faultOf r
 auditFault (Rows n) = noFault
 
--- Ask: a refusal, or the record: skip where no row is chosen, else keep; both have the number 0, and a count of 0 is skip
+-- Ask: a refusal, or the record: skip where no row matches, else keep; both have the number 0, and matched 0 is skip
 unfoldable pub answeredBy : Out Refusal Answer → Answered
 answeredBy (refuse r) = Answered.Refused r
 answeredBy (ok a) = cond (keeps (a .said .matched)) (Keep (a .said)) (Skip (a .said))

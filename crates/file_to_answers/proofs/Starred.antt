@@ -124,17 +124,17 @@ starred = (
     (
       (refl, two-is-its-body),
       (
-        (refl, refl, refl, refl, refl, refl),
+        (refl, refl, refl, refl, refl),
         (
-          (refl, refl, refl, refl, refl, refl),
+          (refl, refl, refl, refl, refl),
           (
-            (refl, refl, refl, refl, refl, refl),
+            (refl, refl, refl, refl, refl),
             (
-              (refl, refl, refl, refl, refl, refl),
+              (refl, refl, refl, refl, refl),
               (
-                (refl, refl, refl, refl, refl, refl),
+                (refl, refl, refl, refl, refl),
                 (
-                  (refl, refl, refl, refl, refl, refl),
+                  (refl, refl, refl, refl, refl),
                   ((refl, array-bitmap), ((refl, run-bitmap), (named-0, (named-last, (always, tt))))),
                 ),
               ),

@@ -13,7 +13,8 @@ use Rattle.index_file.specs.Reading.{Part, found, find}
 use Rattle.bitmap_index.specs.declared.Question.{Question}
 use Rattle.bitmap_index.specs.Meaning.{WellFormed}
 use Rattle.bitmap_index.specs.Reading.{Answer}
-use Rattle.bitmap_index.specs.Claims.{scanAnswer, AnswersAsScan}
+use Rattle.bitmap_index.specs.Promises.{scanAnswer}
+use Rattle.bitmap_index.specs.Claims.{AnswersAsScan}
 use Rattle.file_to_answers.specs.Layout.{ColumnFile}
 use Rattle.file_to_answers.specs.Reading.{lookedAt, partOf, askFile, askFileBuffer}
 

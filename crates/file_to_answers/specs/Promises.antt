@@ -12,7 +12,7 @@ use Rattle.index_file.specs.Reading.{find, locateNumbers}
 use Rattle.bitmap_index.specs.declared.Question.{Question}
 use Rattle.bitmap_index.specs.Meaning.{WellFormed}
 use Rattle.bitmap_index.specs.Reading.{Answer}
-use Rattle.bitmap_index.specs.Claims.{scanAnswer}
+use Rattle.bitmap_index.specs.Promises.{scanAnswer}
 use Rattle.file_to_answers.specs.declared.FileAnswer.{FileAnswer}
 use Rattle.file_to_answers.specs.Layout.{ColumnFile}
 use Rattle.file_to_answers.specs.Reading.{partOf, HandedBack, askFile, askFileBuffer, fileAnswerBy, askFileOut, askFileNumbers, askFileFault}

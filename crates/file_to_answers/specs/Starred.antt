@@ -19,10 +19,11 @@ use Rattle.stored_value.specs.Meaning.{Cell, null, value}
 use Rattle.index_file.specs.Reading.{found, find, locateNumbers}
 use Rattle.bitmap_index.specs.declared.Answered.{Answered}
 use Rattle.bitmap_index.specs.declared.Answered.the-variants.{Skip, Keep}
-use Rattle.bitmap_index.specs.Meaning.{equal, notEqual, firstEdition, secondEdition, question, scan, scanRecord}
+use Rattle.bitmap_index.specs.Meaning.{equal, notEqual, firstEdition, secondEdition, question}
 use Rattle.bitmap_index.specs.declared.Question.{Question}
 use Rattle.bitmap_index.specs.Layout.{EntryRows, ColumnBody}
 use Rattle.bitmap_index.specs.Reading.{placeAt, audit, ask, answeredBy}
+use Rattle.bitmap_index.specs.Promises.{scanAnswer}
 use Rattle.file_to_answers.specs.Layout.{ColumnFile}
 use Rattle.file_to_answers.specs.Reading.{lookedAt, partOf, askFile}
 
@@ -78,8 +79,7 @@ Holds (answers q v field matched answer) =
     (ask 0 q (v ∷ []) one (0xFF ∷ []) ≡ ok (record { buffer = field ∷ []; said = ofThree matched }))
     × (ask 0 q (v ∷ []) two (0xFF ∷ []) ≡ ok (record { buffer = field ∷ []; said = ofThree matched }))
     × (askFile file s bitmap 0 q (v ∷ []) (0xFF ∷ []) ≡ ok (found (record { buffer = field ∷ []; said = ofThree matched })))
-    × (scan q ((v ∷ []) ∷ []) cells ≡ record { field = field ∷ []; matched = matched })
-    × (scanRecord q ((v ∷ []) ∷ []) cells ≡ ofThree matched)
+    × (scanAnswer q ((v ∷ []) ∷ []) cells (0xFF ∷ []) ≡ record { buffer = field ∷ []; said = ofThree matched })
     × (answeredBy (ok (record { buffer = field ∷ []; said = ofThree matched })) ≡ answer)
 Holds (reads bytes rows) = (read bytes ≡ ok (parsed rows (length bytes) [])) × Bitmap rows bytes
 Holds (names offset row) =

@@ -5,7 +5,7 @@ use mathlib.Core.Path.{_≡_}
 use mathlib.Core.List.{List}
 use Rattle.refusal.specs.Reading.{numbersOf, faultIn}
 use Rattle.subtract.specs.Meaning.{recordOf, noRecord}
-use Rattle.subtract.specs.Reading.{subtraction, subtractBuffer, subtractNumbers, restating, restateNumbers}
+use Rattle.subtract.specs.Reading.{subtraction, subtractBuffer, subtractNumbers, recordSubtraction, recordSubtractNumbers}
 use Rattle.deletion_file.specs.Reading.{deletions, deletionsBuffer, deletionsNumbers}
 use Rattle.index_file.specs.Reading.{find, locateNumbers}
 use Rattle.bitmap_index.specs.declared.Question.{Question}
@@ -24,7 +24,7 @@ pub record Subtract (second : List ℕ) (rows : ℕ) (before after : List ℕ) (
 
 -- `given` and `said` are the record's four numbers before and after the call
 pub record SubtractRecord (second given : List ℕ) (before after : List ℕ) (number : ℕ) (said : List ℕ) (removed : ℕ) : Type 0 where
-  pub numbers : (number, (said, removed)) ≡ numbersOf (noRecord, 0) restateNumbers (restating (recordOf given) before second)
+  pub numbers : (number, (said, removed)) ≡ numbersOf (noRecord, 0) recordSubtractNumbers (recordSubtraction (recordOf given) before second)
   pub buffer : after ≡ subtractBuffer (recordOf given .rows) before second
 
 -- `bytes` are those of the buffer that is looked at

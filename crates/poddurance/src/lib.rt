@@ -4,7 +4,7 @@
 // four counts: rows, nulls, deleted, matched.
 ghost use mathlib.Core.Path.{_≡_};
 ghost use Rattle.subtract.specs.Meaning.{recordNumbers};
-ghost use Rattle.subtract.specs.Reading.{restateOut};
+ghost use Rattle.subtract.specs.Reading.{recordSubtractOut};
 ghost use Rattle.bitmap_index.specs.Meaning.{question};
 ghost use Rattle.bitmap_index.specs.Reading.{askOut, askFault};
 ghost use Rattle.file_to_answers.specs.Reading.{lookedAt};
@@ -76,12 +76,12 @@ pub extern "C" fn poddurance_subtract(
 }
 
 // What Subtract with a record answers, in numbers: the answer's, and through pointers the record's and rows removed.
-fn subtracted(answer: RecordSubtracted, said: &mut [u64; 4], removed: &mut u64) -> u8
-    ensures { λ r. ⌜ (r, (now (said .exit), now (removed .exit))) ≡ restateOut answer ⌝ }
+fn record_subtracted(answer: RecordSubtracted, said: &mut [u64; 4], removed: &mut u64) -> u8
+    ensures { λ r. ⌜ (r, (now (said .exit), now (removed .exit))) ≡ recordSubtractOut answer ⌝ }
 {
     match answer {
         RecordSubtracted::Refused(r) => {
-            *said = subtract::NO_RECORD;
+            *said = subtract::NO_RECORD; // what was given is no answer
             *removed = 0;
             refusal::number(r)
         }
@@ -115,7 +115,7 @@ pub extern "C" fn poddurance_subtract_record(
         r (now (said .exit)) (now (removed .exit)) ⌝ }
 {
     let given = subtract::record_of(*said);
-    subtracted(
+    record_subtracted(
         subtract::subtract_record(first, second, given),
         said,
         removed,
@@ -188,7 +188,7 @@ fn answered(answer: Answered, said: &mut [u64; 4], fault: &mut [u64; 3]) -> u8
 {
     match answer {
         Answered::Refused(r) => {
-            *said = subtract::NO_RECORD;
+            *said = subtract::NO_RECORD; // a refusal carries no count
             *fault = refusal::fault(r);
             refusal::number(r)
         }

@@ -1,4 +1,4 @@
 -- Laws of a field less the rows of another, Subtract with a record, and the proofs of the claims.
 pub mod Laws
-pub mod Restating
+pub mod WithRecord
 pub mod Theorems

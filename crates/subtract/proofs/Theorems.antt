@@ -1,8 +1,9 @@
 -- The claims of specs/Claims.
 use mathlib.Core.Path.{refl}
-use Rattle.subtract.specs.Claims.{ClearsJustTheRows, KeepsTheLength, LeftAndRemoved, NumbersAreTheRecord, RecordIsRestated}
+use Rattle.subtract.specs.Claims.{ClearsJustTheRows, KeepsTheLength, LeftAndRemoved, NumbersAreTheRecord, RecordIsCountedAfresh, RecordIsRefusedAlike}
+use Rattle.subtract.specs.Reading.{bufferBy}
 use Rattle.subtract.proofs.Laws.{bit-subtracted, length-subtracted, left-removed}
-use Rattle.subtract.proofs.Restating.{restates-it}
+use Rattle.subtract.proofs.WithRecord.{counted-afresh, refused-alike, refused-for}
 
 pub clears-just-the-rows : ClearsJustTheRows
 clears-just-the-rows = bit-subtracted
@@ -16,5 +17,11 @@ left-and-removed = left-removed
 pub numbers-are-the-record : NumbersAreTheRecord
 numbers-are-the-record c = refl
 
-pub record-is-restated : RecordIsRestated
-record-is-restated = restates-it
+pub record-is-counted-afresh : RecordIsCountedAfresh
+record-is-counted-afresh = counted-afresh
+
+pub record-is-refused-alike : RecordIsRefusedAlike
+unfolding bufferBy
+record-is-refused-alike given f g r =
+    let both = refused-alike given f g r in
+    (both, λ e. let s = both .0 e in (refused-for (given .rows) f g r s, rw s))

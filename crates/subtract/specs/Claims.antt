@@ -1,16 +1,18 @@
 -- What is proved of a field less the rows of another, in terms of the bits of both, and of the record that is handed back.
-use Prim.Native.Nat.{ℕ, _+_, _<_}
+use Prim.Native.Nat.{ℕ, _+_, _<_, _≤_}
 use mathlib.Core.Path.{_≡_}
-use mathlib.Core.Logic.{_↔_}
+use mathlib.Core.Logic.{_↔_, _⊎_}
 use mathlib.Core.Bool.{true, false, not, _&&_}
 use mathlib.Core.List.{List}
 use lib.Dec.{ltb}
 use lib.ListN.{length}
 use Rattle.row_field.specs.Meaning.{bit, count}
-use Rattle.refusal.specs.Reading.{ok}
+use Rattle.refusal.specs.declared.Refusal.{Refusal}
+use Rattle.refusal.specs.declared.Refusal.the-variants.{Limit, Room}
+use Rattle.refusal.specs.Reading.{refuse, ok}
 use Rattle.subtract.specs.declared.Record.{Record}
 use Rattle.subtract.specs.Meaning.{subtracted, removed, recordNumbers, recordOf, keeps}
-use Rattle.subtract.specs.Reading.{subtractBuffer, Restated, restating}
+use Rattle.subtract.specs.Reading.{subtraction, subtractBuffer, RecordCounts, recordSubtraction}
 
 -- a row is set if it was and is not one below n that the second field has; so "bits of the first buffer that stand for no row below n stay"
 abbrev pub ClearsJustTheRows : Type 0
@@ -23,25 +25,37 @@ KeepsTheLength = (n : ℕ) (f g : List ℕ) → length (subtracted n f g) ≡ le
 abbrev pub LeftAndRemoved : Type 0
 LeftAndRemoved = (n : ℕ) (f g : List ℕ) → count (subtracted n f g) n + removed n f g ≡ count f n
 
+-- ---- with a record (02, Ticket 7)
+
 -- a record handed out in numbers and in again is the same
 abbrev pub NumbersAreTheRecord : Type 0
-NumbersAreTheRecord = (c : Record) → recordOf (recordNumbers c) ≡ c
+NumbersAreTheRecord = (said : Record) → recordOf (recordNumbers said) ≡ said
 
--- 02, Ticket 7: what an accepted Subtract with the record c hands back, of a first field f and a second g
-pub record RestatesIt (c : Record) (f g : List ℕ) (a : Restated) : Type 0 where
+-- what is handed back for the record `given`, of a first field f and a second g, where it is accepted
+pub record CountedAfresh (given : Record) (f g : List ℕ) (a : RecordCounts) : Type 0 where
   -- "Matched is counted afresh, as rows left in the first; plus removed, it equals the rows set there before"
-  pub matched : a .restated .matched ≡ count (subtractBuffer (c .rows) f g) (c .rows)
-  pub with-removed : a .restated .matched + a .removed ≡ count f (c .rows)
+  pub matched : a .said .matched ≡ count (subtractBuffer (given .rows) f g) (given .rows)
+  pub with-removed : a .said .matched + a .removed ≡ count f (given .rows)
   -- "Deleted then counts all rows set below that count in the second field"
-  pub deleted : a .restated .deleted ≡ count g (c .rows)
+  pub deleted : a .said .deleted ≡ count g (given .rows)
   -- "the rest stays"
-  pub rows : a .restated .rows ≡ c .rows
-  pub nulls : a .restated .nulls ≡ c .nulls
-  -- skip: each row that was set is deleted
-  pub skip : (keeps (a .restated .matched) ≡ false) ↔ ((r : ℕ) → r < c .rows → bit f r ≡ true → bit g r ≡ true)
+  pub rows : a .said .rows ≡ given .rows
+  pub nulls : a .said .nulls ≡ given .nulls
+  -- "skip is said exactly when matched is 0": so exactly if each row below the row count that was set is deleted
+  pub skip : (keeps (a .said .matched) ≡ false) ↔ ((r : ℕ) → r < given .rows → bit f r ≡ true → bit g r ≡ true)
+  -- rows removed are among the deleted ones, and these and the rows that match are different rows
+  pub removed-deleted : a .removed ≤ a .said .deleted
+  pub together : a .said .matched + a .said .deleted ≤ a .said .rows
   -- in the first buffer the bit of a row is cleared if the second has it; every other bit and the length stay
-  pub bits : (r : ℕ) → bit (subtractBuffer (c .rows) f g) r ≡ bit f r && not (ltb r (c .rows) && bit g r)
-  pub long : length (subtractBuffer (c .rows) f g) ≡ length f
+  pub bits : (r : ℕ) → bit (subtractBuffer (given .rows) f g) r ≡ bit f r && not (ltb r (given .rows) && bit g r)
+  pub long : length (subtractBuffer (given .rows) f g) ≡ length f
 
-abbrev pub RecordIsRestated : Type 0
-RecordIsRestated = (c : Record) (f g : List ℕ) (a : Restated) → restating c f g ≡ ok a → RestatesIt c f g a
+abbrev pub RecordIsCountedAfresh : Type 0
+RecordIsCountedAfresh = (given : Record) (f g : List ℕ) (a : RecordCounts) → recordSubtraction given f g ≡ ok a → CountedAfresh given f g a
+
+-- it is refused exactly as Subtract of its row count, for LIMIT or ROOM, whatever its other numbers are; the first buffer then stays
+abbrev pub RecordIsRefusedAlike : Type 0
+RecordIsRefusedAlike =
+    (given : Record) (f g : List ℕ) (r : Refusal)
+    → ((recordSubtraction given f g ≡ refuse r) ↔ (subtraction (given .rows) f g ≡ refuse r))
+    × (recordSubtraction given f g ≡ refuse r → ((r ≡ Limit) ⊎ (r ≡ Room)) × (subtractBuffer (given .rows) f g ≡ f))

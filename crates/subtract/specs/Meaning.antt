@@ -35,7 +35,7 @@ removed n f g = length (setIn f (rowsFrom g 0 n))
 
 -- a record as four numbers
 abbrev pub recordNumbers : Record → List ℕ
-recordNumbers c = c .rows ∷ c .nulls ∷ c .deleted ∷ c .matched ∷ []
+recordNumbers said = said .rows ∷ said .nulls ∷ said .deleted ∷ said .matched ∷ []
 
 -- the record that four numbers stand for
 abbrev pub recordOf : List ℕ → Record

@@ -7,15 +7,15 @@ use Rattle.subtract.specs.declared.Record.{Record}
 use Rattle.subtract.specs.declared.RecordSubtracted.{RecordSubtracted}
 use Rattle.subtract.specs.declared.Subtracted.{Subtracted}
 use Rattle.subtract.specs.Meaning.{noRecord}
-use Rattle.subtract.specs.Reading.{subtraction, subtractBuffer, subtractedBy, subtractOut, subtractNumbers, restating, restatedBy, restateOut, restateNumbers}
+use Rattle.subtract.specs.Reading.{subtraction, subtractBuffer, subtractedBy, subtractOut, subtractNumbers, recordSubtraction, recordSubtractedBy, recordSubtractOut, recordSubtractNumbers}
 
 pub record SubtractPromise (n : ℕ) (first second after : List ℕ) (r : Subtracted) : Type 0 where
   pub answer : r ≡ subtractedBy (subtraction n first second)
   pub buffer : after ≡ subtractBuffer n first second
   pub numbers : subtractOut r ≡ numbersOf (0, 0) subtractNumbers (subtraction n first second)
 
--- the same with the record c
-pub record SubtractRecordPromise (c : Record) (first second after : List ℕ) (r : RecordSubtracted) : Type 0 where
-  pub answer : r ≡ restatedBy (restating c first second)
-  pub buffer : after ≡ subtractBuffer (c .rows) first second
-  pub numbers : restateOut r ≡ numbersOf (noRecord, 0) restateNumbers (restating c first second)
+-- the same with a record
+pub record SubtractRecordPromise (given : Record) (first second after : List ℕ) (r : RecordSubtracted) : Type 0 where
+  pub answer : r ≡ recordSubtractedBy (recordSubtraction given first second)
+  pub buffer : after ≡ subtractBuffer (given .rows) first second
+  pub numbers : recordSubtractOut r ≡ numbersOf (noRecord, 0) recordSubtractNumbers (recordSubtraction given first second)

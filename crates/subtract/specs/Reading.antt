@@ -54,26 +54,32 @@ subtractNumbers c = (0, (c .left, c .removed))
 
 -- ---- with a record: "a second Subtract takes the record, uses its row count and hands it back with rows removed"
 
-pub record Restated : Type 0 where
-  pub restated : Record
+pub record RecordCounts : Type 0 where
+  pub said : Record
   pub removed : ℕ
 
--- "Deleted then counts all rows set below that count in the second field, skip is said exactly when matched is 0, the rest stays. Matched is counted afresh, as
--- rows left in the first": neither is added to what the record had. LIMIT and ROOM are Subtract's, and the first buffer is then as Subtract leaves it
-unfoldable pub restating : Record → List ℕ → List ℕ → Out Refusal Restated
-restating c f g =
-    andThen (subtraction (c .rows) f g) (λ counts.
-    ok (record { restated = record { rows = c .rows; nulls = c .nulls; deleted = count g (c .rows); matched = counts .left }; removed = counts .removed }))
+-- a record with other deleted and matched rows: neither is added to what it had, and "the rest stays"
+abbrev pub replaced : Record → ℕ → ℕ → Record
+replaced given deleted matched = record { rows = given .rows; nulls = given .nulls; deleted = deleted; matched = matched }
 
-unfoldable pub restatedBy : Out Refusal Restated → RecordSubtracted
-restatedBy (refuse r) = RecordSubtracted.Refused r
-restatedBy (ok a) = cond (keeps (a .restated .matched)) (Keep (a .restated) (a .removed)) (Skip (a .restated) (a .removed))
+-- "Deleted then counts all rows set below that count in the second field .. Matched is counted afresh, as rows left in the first". LIMIT and ROOM are Subtract's,
+-- and the first buffer is then as Subtract leaves it
+unfoldable pub recordSubtraction : Record → List ℕ → List ℕ → Out Refusal RecordCounts
+recordSubtraction given f g =
+    andThen (subtraction (given .rows) f g) (λ counts.
+    ok (record { said = replaced given (count g (given .rows)) (counts .left); removed = counts .removed }))
 
--- the answer's number, then the record's four and rows removed, all 0 with a refusal
-unfoldable pub restateOut : RecordSubtracted → ℕ × (List ℕ × ℕ)
-restateOut (RecordSubtracted.Refused r) = (numberOf r, (noRecord, 0))
-restateOut (Skip c gone) = (0, (recordNumbers c, gone))
-restateOut (Keep c gone) = (0, (recordNumbers c, gone))
+-- "skip is said exactly when matched is 0"
+unfoldable pub recordSubtractedBy : Out Refusal RecordCounts → RecordSubtracted
+recordSubtractedBy (refuse r) = RecordSubtracted.Refused r
+recordSubtractedBy (ok a) = cond (keeps (a .said .matched)) (Keep (a .said) (a .removed)) (Skip (a .said) (a .removed))
 
-abbrev pub restateNumbers : Restated → ℕ × (List ℕ × ℕ)
-restateNumbers a = (0, (recordNumbers (a .restated), a .removed))
+-- the answer's number; then the record's four and rows removed, all 0 with a refusal
+unfoldable pub recordSubtractOut : RecordSubtracted → ℕ × (List ℕ × ℕ)
+recordSubtractOut (RecordSubtracted.Refused r) = (numberOf r, (noRecord, 0))
+recordSubtractOut (Skip said gone) = (0, (recordNumbers said, gone))
+recordSubtractOut (Keep said gone) = (0, (recordNumbers said, gone))
+
+-- the same of what was accepted
+abbrev pub recordSubtractNumbers : RecordCounts → ℕ × (List ℕ × ℕ)
+recordSubtractNumbers a = (0, (recordNumbers (a .said), a .removed))

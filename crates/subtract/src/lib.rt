@@ -5,6 +5,7 @@ ghost use lib.Bits.{bitAnd};
 ghost use lib.ListN.{length, getD, set};
 ghost use Rattle.row_field.specs.Meaning.{size};
 ghost use Rattle.subtract.specs.Meaning.{subtracted, recordNumbers, recordOf};
+ghost use Rattle.subtract.specs.Reading as reading;
 ghost use Rattle.subtract.specs.Promises.{SubtractPromise, SubtractRecordPromise};
 use numbers::Position;
 use refusal::LIMIT;
@@ -94,26 +95,31 @@ pub fn subtract(first: &mut [u8], second: &[u8], rows: u64) -> Subtracted
     Subtracted::Done { left, removed }
 }
 
+// A record with other deleted and matched rows. What it had of both goes, and the rest stays.
+fn replaced(given: Record, deleted: u64, matched: u64) -> Record
+    ensures { λ r. ⌜ r ≡ reading.replaced given deleted matched ⌝ }
+{
+    Record {
+        rows: given.rows,
+        nulls: given.nulls,
+        deleted,
+        matched,
+    }
+}
+
 // Subtract with a record, whose row count it uses. The record is handed back: matched are the rows left in the first field, deleted all rows below the row count
 // that the second has, whether the first had them or not; both are counted afresh, and the rest stays.
 pub fn subtract_record(first: &mut [u8], second: &[u8], given: Record) -> RecordSubtracted
     ensures { λ r. ⌜ SubtractRecordPromise given (now (first .entry)) (now (second .entry)) (now (first .exit)) r ⌝ }
 {
     let rows = given.rows;
-    let nulls = given.nulls;
     let subtracted = subtract(first, second, rows);
     match subtracted {
         Subtracted::Refused(r) => RecordSubtracted::Refused(r),
         Subtracted::Done { left, removed } => {
             let deleted = row_field::count(second, rows);
-            let matched = left;
-            let record = Record {
-                rows,
-                nulls,
-                deleted,
-                matched,
-            };
-            if matched == 0 {
+            let record = replaced(given, deleted, left);
+            if left == 0 {
                 return RecordSubtracted::Skip { record, removed };
             }
             RecordSubtracted::Keep { record, removed }

@@ -9,7 +9,7 @@ returns c =
     let subtracted = c .before .before .before .before .before in
     let e = subtracted .before .before .record-of .ensures in
     let s = rw e at (subtracted .subtract-record .ensures) in
-    record { numbers = c .subtracted .ensures ∙ s .numbers; buffer = s .buffer }
+    record { numbers = c .record-subtracted .ensures ∙ s .numbers; buffer = s .buffer }
 
 pub poddurance-subtract-record-spec : {M : Type 1} → statement M
 poddurance-subtract-record-spec =

@@ -1,0 +1,181 @@
+-- Subtract with a record: what it answers by what Subtract did, and what is then known of the record.
+use Prim.Native.Nat.{ℕ, _+_, _<_, _≤_}
+use mathlib.Core.Path.{_≡_, refl, sym, ap, _∙_}
+use mathlib.Core.Logic.{_↔_, _⊎_, inl, inr}
+use mathlib.Core.Bool.{Bool, true, false, not, _&&_, _||_, cond}
+use mathlib.Core.List.{List, [], _∷_}
+use native.Mathlib.Omega.{arith}
+use borrow.Author.Tests.{eq-eqb, ne-eqb, eqb-true, lt-ltb, not-false}
+use lib.Dec.{leb}
+use lib.ListN.{length}
+use Rattle.refusal.specs.Meaning.{limit}
+use Rattle.refusal.specs.declared.Refusal.{Refusal}
+use Rattle.refusal.specs.declared.Refusal.the-variants.{Limit, Room}
+use Rattle.refusal.specs.Reading.{Out, refuse, ok, check, andThen, numbersOf}
+use Rattle.refusal.proofs.Laws.{not-ok, then-ok, check-ok}
+use Rattle.row_field.specs.Meaning.{size, bit, rowsFrom, count}
+use Rattle.row_field.proofs.Laws.{tick}
+use Rattle.row_field.proofs.Counts.{none-counted, tally-le, tally-split, rows-tally}
+use Rattle.row_field.proofs.Marks.{none-set}
+use Rattle.subtract.specs.declared.Record.{Record}
+use Rattle.subtract.specs.declared.RecordSubtracted.{RecordSubtracted}
+use Rattle.subtract.specs.declared.RecordSubtracted.the-variants.{Skip, Keep}
+use Rattle.subtract.specs.declared.Subtracted.{Subtracted}
+use Rattle.subtract.specs.declared.Subtracted.the-variants.{Done}
+use Rattle.subtract.specs.Meaning.{setIn, subtracted, removed, recordNumbers, noRecord, keeps}
+use Rattle.subtract.specs.Reading.{Counts, subtraction, bufferBy, subtractBuffer, subtractedBy, RecordCounts, replaced, recordSubtraction, recordSubtractedBy, recordSubtractOut, recordSubtractNumbers}
+use Rattle.subtract.specs.Promises.{SubtractPromise, SubtractRecordPromise}
+use Rattle.subtract.specs.Claims.{CountedAfresh}
+use Rattle.subtract.proofs.Laws.{bit-subtracted, length-subtracted, left-removed}
+
+-- ---- the answer
+
+-- the reading of an answer of Subtract
+readingOf : Subtracted → Out Refusal Counts
+readingOf (Subtracted.Refused r) = refuse r
+readingOf (Done left gone) = ok (record { left = left; removed = gone })
+
+reading-back : (o : Out Refusal Counts) → readingOf (subtractedBy o) ≡ o
+unfolding subtractedBy readingOf
+reading-back (refuse r) = refl
+reading-back (ok counts) = refl
+
+-- the numbers of the reading's answer, whether it says skip or keep
+record-numbers : (o : Out Refusal RecordCounts) → recordSubtractOut (recordSubtractedBy o) ≡ numbersOf (noRecord, 0) recordSubtractNumbers o
+unfolding recordSubtractOut recordSubtractedBy numbersOf
+record-numbers (refuse r) = refl
+record-numbers (ok a) = go (keeps (a .said .matched))
+  where
+    go : (b : Bool) → recordSubtractOut (cond b (Keep (a .said) (a .removed)) (Skip (a .said) (a .removed))) ≡ (0, (recordNumbers (a .said), a .removed))
+    go true = refl
+    go false = refl
+
+module _ (c : Record) (f g : List ℕ) {s : Subtracted} {after : List ℕ} (p : SubtractPromise (c .rows) f g after s) where
+  was-read : {case : Subtracted} → s ≡ case → subtraction (c .rows) f g ≡ readingOf case
+  was-read e = sym (reading-back (subtraction (c .rows) f g)) ∙ ap readingOf (sym (p .answer) ∙ e)
+
+  says : {r : RecordSubtracted} → r ≡ recordSubtractedBy (recordSubtraction c f g) → SubtractRecordPromise c f g after r
+  says e = record { answer = e; buffer = p .buffer; numbers = ap recordSubtractOut e ∙ record-numbers (recordSubtraction c f g) }
+
+  pub record-refused : {r : Refusal} → s ≡ Subtracted.Refused r → SubtractRecordPromise c f g after (RecordSubtracted.Refused r)
+  unfolding recordSubtraction recordSubtractedBy andThen readingOf
+  record-refused e = says (rw (was-read e))
+
+  module _ {left gone deleted : ℕ} (e : s ≡ Done left gone) (d : deleted ≡ count g (c .rows)) {then : Record} (n : then ≡ replaced c deleted left) where
+    pub says-skip : left ≡ 0 → SubtractRecordPromise c f g after (Skip then gone)
+    unfolding recordSubtraction recordSubtractedBy andThen readingOf keeps
+    says-skip z = says (rw (was-read e, n, d, eq-eqb left 0 z))
+
+    pub says-keep : (left ≡ 0 → ⊥) → SubtractRecordPromise c f g after (Keep then gone)
+    unfolding recordSubtraction recordSubtractedBy andThen readingOf keeps
+    says-keep z = says (rw (was-read e, n, d, ne-eqb left 0 z))
+
+-- ---- the record that is handed back
+
+-- where Subtract accepts, its counts and its buffer are these
+module _ (n : ℕ) (f g : List ℕ) (counts : Counts) (e : subtraction n f g ≡ ok counts) where
+  its-buffer : subtractBuffer n f g ≡ subtracted n f g
+  unfolding bufferBy
+  its-buffer = rw e
+
+  its-counts : counts ≡ record { left = count (subtracted n f g) n; removed = removed n f g }
+  unfolding subtraction
+  its-counts =
+      let (limited, first) = check-ok _ _ _ counts e in
+      let (room, second) = check-ok _ _ _ counts first in
+      let (room′, last) = check-ok _ _ _ counts second in
+      cc
+
+-- nothing is left exactly if each row that was set is one of the second field's
+both-off : (x y : Bool) → (x ≡ true → y ≡ true) → x && not y ≡ false
+both-off true y h = rw (h refl)
+both-off false y h = refl
+
+module _ (n : ℕ) (f g : List ℕ) where
+  row-left : (r : ℕ) → r < n → bit (subtracted n f g) r ≡ bit f r && not (bit g r)
+  row-left r h = bit-subtracted n f g r ∙ rw (lt-ltb r n h)
+
+  pub none-left : (keeps (count (subtracted n f g) n) ≡ false) ↔ ((r : ℕ) → r < n → bit f r ≡ true → bit g r ≡ true)
+  unfolding keeps
+  none-left =
+      let left : List ℕ = subtracted n f g in (
+        λ h r l y.
+            let z : count left n ≡ 0 = eqb-true (count left n) 0 (not-false _ h) in
+            not-false _ (rw y at (sym (row-left r l) ∙ none-set left n z r l)),
+        λ h.
+            let z : count left n ≡ 0 = none-counted left n (λ r l. row-left r l ∙ both-off (bit f r) (bit g r) (h r l)) in
+            rw (eq-eqb (count left n) 0 z),
+      )
+
+-- rows that are removed are rows of the second field
+set-in-le : (f rs : List ℕ) → length (setIn f rs) ≤ length rs
+unfolding setIn
+set-in-le f [] = omega arith
+set-in-le f (r ∷ rs) = go (bit f r) (set-in-le f rs)
+  where
+    go : (b : Bool) → length (setIn f rs) ≤ length rs → length (cond b (r ∷ setIn f rs) (setIn f rs)) ≤ length (r ∷ rs)
+    go true h = omega arith
+    go false h = omega arith
+
+-- a row that is left is none of the second field's
+module _ (n : ℕ) (f g : List ℕ) where
+  abbrev either : ℕ → Bool
+  either r = bit (subtracted n f g) r || bit g r
+
+  apart : (x y : Bool) → tick (x && not y || y) ≡ tick (x && not y) + tick y
+  apart true true = refl
+  apart true false = refl
+  apart false true = refl
+  apart false false = refl
+
+  pub left-or-deleted : count (subtracted n f g) n + count g n ≤ n
+  left-or-deleted =
+      let split = tally-split either (bit (subtracted n f g)) (bit g) 0 n (λ r low high. rw (row-left n f g r (omega arith)) (apart (bit f r) (bit g r))) in
+      omega (arith, rows-tally (subtracted n f g) 0 n, rows-tally g 0 n, split, tally-le either 0 n)
+
+pub counted-afresh : (c : Record) (f g : List ℕ) (a : RecordCounts) → recordSubtraction c f g ≡ ok a → CountedAfresh c f g a
+unfolding recordSubtraction
+counted-afresh c f g a e =
+    let n : ℕ = c .rows in
+    let (counts, done, is) = then-ok (subtraction n f g) _ a e in
+    let buffer = its-buffer n f g counts done in
+    let left : counts .left ≡ count (subtracted n f g) n = ap (λ (x : Counts). x .left) (its-counts n f g counts done) in
+    let gone : counts .removed ≡ removed n f g = ap (λ (x : Counts). x .removed) (its-counts n f g counts done) in
+    let same : a ≡ record { said = record { rows = n; nulls = c .nulls; deleted = count g n; matched = counts .left }; removed = counts .removed } = cc in
+    let matched : a .said .matched ≡ count (subtracted n f g) n = ap (λ (x : RecordCounts). x .said .matched) same ∙ left in
+    let taken : a .removed ≡ removed n f g = ap (λ (x : RecordCounts). x .removed) same ∙ gone in
+    let deleted : a .said .deleted ≡ count g n = ap (λ (x : RecordCounts). x .said .deleted) same in
+    let rows : a .said .rows ≡ n = ap (λ (x : RecordCounts). x .said .rows) same in
+    record {
+      matched = rw buffer matched;
+      with-removed = rw (matched, taken) (left-removed n f g);
+      deleted = deleted;
+      rows = rows;
+      nulls = ap (λ (x : RecordCounts). x .said .nulls) same;
+      skip = rw matched (none-left n f g);
+      removed-deleted = rw (taken, deleted) (set-in-le f (rowsFrom g 0 n));
+      together = rw (matched, deleted, rows) (left-or-deleted n f g);
+      bits = λ r. rw buffer (bit-subtracted n f g r);
+      long = rw buffer (length-subtracted n f g);
+    }
+
+-- ---- refusals
+
+pub refused-alike : (given : Record) (f g : List ℕ) (r : Refusal) → (recordSubtraction given f g ≡ refuse r) ↔ (subtraction (given .rows) f g ≡ refuse r)
+unfolding recordSubtraction andThen
+refused-alike given f g r =
+    go (subtraction (given .rows) f g) (λ counts. record { said = replaced given (count g (given .rows)) (counts .left); removed = counts .removed })
+  where
+    go : (o : Out Refusal Counts) (k : Counts → RecordCounts) → (andThen o (λ counts. ok (k counts)) ≡ refuse r) ↔ (o ≡ refuse r)
+    go (refuse r′) k = (λ e. cc, λ e. cc)
+    go (ok counts) k = (λ e. absurd (not-ok (sym e)), λ e. absurd (not-ok (sym e)))
+
+pub refused-for : (n : ℕ) (f g : List ℕ) (r : Refusal) → subtraction n f g ≡ refuse r → (r ≡ Limit) ⊎ (r ≡ Room)
+unfolding subtraction check
+refused-for n f g r = go (leb n limit) (leb (size n) (length f)) (leb (size n) (length g)) (record { left = count (subtracted n f g) n; removed = removed n f g })
+  where
+    go : (a b c : Bool) (counts : Counts) → check a Limit (check b Room (check c Room (ok counts))) ≡ refuse r → (r ≡ Limit) ⊎ (r ≡ Room)
+    go false b c counts e = inl (cc)
+    go true false c counts e = inr (cc)
+    go true true false counts e = inr (cc)
+    go true true true counts e = absurd (not-ok (sym e))
