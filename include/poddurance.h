@@ -118,10 +118,11 @@ typedef struct {
 } poddurance_fault;
 
 /* What a graph may claim of its rows, as 'drawn from 970 of 1,000 rows', matched of rows. All 0 with any answer but 0. Lent as the counts are. Ask and Ask of a
- * file write it and don't read it; Subtract record reads its row count and writes it.
+ * file write it and don't read it; Subtract record takes all of it, uses its row count, and writes it.
  *
  * rows     the row count of the index. Subtract record leaves it.
- * nulls    how many rows are null: those of null's bitmap, 0 where has-null is 0, for each question and edition. Subtract record leaves it.
+ * nulls    how many rows are null: those of null's bitmap, 0 where has-null is 0, for each question and edition. Subtract record leaves it: null rows that are
+ *          deleted still count here.
  * deleted  0 until deletions are subtracted. Subtract record writes how many rows below the row count are set in its second field, chosen or not; it replaces
  *          what stood here and does not add to it.
  * matched  how many rows are set in the field: Ask's chosen ones, and after Subtract record those left of them, counted afresh. Accepted with 0 says skip.
@@ -146,7 +147,8 @@ uint8_t poddurance_subtract(uint8_t *first, size_t first_len, const uint8_t *sec
 /* Subtract record: Subtract for an answer's record, which goes in and comes back. Clears in `first` each row below record->rows that is set in `second`. Answers
  * in record->deleted how many rows below record->rows are set in `second`, in record->matched how many are left in `first`, and in *removed how many were removed
  * from it: the last two together are the rows below record->rows that were set in `first` before. A record->matched of 0 says skip. LIMIT and ROOM, the latter
- * for both fields, are tested on record->rows; the record's other numbers are not tested. */
+ * for both fields, are tested on record->rows; the record's other numbers are not tested. `first` and the record are to be one answer's: null rows are handed
+ * on as they are. */
 uint8_t poddurance_subtract_record(uint8_t *first, size_t first_len, const uint8_t *second, size_t second_len,
                                    poddurance_record *record, uint64_t *removed);
 
@@ -162,8 +164,8 @@ uint8_t poddurance_audit(const uint8_t *body, size_t body_len, uint32_t type,
                          uint8_t *field, size_t field_len, uint64_t *rows, poddurance_fault *fault);
 
 /* Ask: audits the body; then exactly the rows that the question chooses by its edition's rule are set in the field. Literals lie one after another in the type's
- * stored form (big-endian numbers; strings with a 4-byte length). The record has the row count, the null rows and the chosen rows, as record->matched; accepted
- * with 0 of these says skip; a refusal writes 0 too. */
+ * stored form (big-endian numbers; strings with a 4-byte length). The record has the row count, the null rows and the chosen rows, as record->matched;
+ * record->deleted is 0. Accepted with a record->matched of 0 says skip; a refusal writes 0 too. */
 uint8_t poddurance_ask(const uint8_t *body, size_t body_len, uint32_t type, uint32_t edition, uint32_t question,
                        const uint8_t *literals, size_t literals_len,
                        uint8_t *field, size_t field_len, poddurance_record *record, poddurance_fault *fault);

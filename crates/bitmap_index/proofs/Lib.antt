@@ -5,7 +5,6 @@ pub mod ScanAnswers
 pub mod BodyAnswers
 pub mod SameColumn
 pub mod Editions
-pub mod Graphs
 pub mod PlacedRows
 pub mod AcceptedStages
 pub mod Accepted

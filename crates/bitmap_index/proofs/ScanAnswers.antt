@@ -12,6 +12,7 @@ use lib.ListN.{length, drop, replicate}
 use Rattle.numbers.specs.Meaning.{All, Bytes, row}
 use Rattle.row_field.specs.Meaning.{size, mark, markAll, fieldOf, cleared, count, firstClear}
 use Rattle.row_field.proofs.Counts.{bytes-zeroed}
+use Rattle.subtract.specs.declared.Record.{Record}
 use Rattle.stored_value.specs.Meaning.{Cell, sameCell}
 use Rattle.refusal.specs.Meaning.{limit}
 use Rattle.refusal.specs.declared.Refusal.{Refusal}
@@ -23,7 +24,7 @@ use Rattle.dictionary.specs.Claims.{Once}
 use Rattle.bitmap_index.specs.declared.Question.{Question}
 use Rattle.bitmap_index.specs.Meaning.{chosen, scan, scanFrom, nullQuestion, scanRecord}
 use Rattle.bitmap_index.specs.Layout.{rowsWith, EntryRows, ExactRows, Covers}
-use Rattle.bitmap_index.specs.Reading.{nextNumber, firstNumber, placeEntry, placeEntries, audited, chosenOf, rowsAt, markEntries, markedFor, matchedFor, answered}
+use Rattle.bitmap_index.specs.Reading.{nextNumber, firstNumber, placeEntry, placeEntries, audited, chosenOf, rowsAt, markEntries, markedFor, matchedFor, Answer, answered}
 use Rattle.bitmap_index.proofs.LaidRows.{rows-at, place-one}
 use Rattle.bitmap_index.proofs.Rows.{rowsWhere, rows-with, all-cells, rows-ext, rows-none, rows-all, rows-below, Apart, rows-join, Free, rows-free, cleared-free, rows-marked, rows-counted}
 
@@ -191,4 +192,9 @@ module _ (q : Question) (ls : List (List ℕ)) (cells : List Cell) (es : List En
   pub column-answered : answered q ls (record { rows = length cells; entries = es; region = region }) (cleared (length cells) field)
       ≡ record { buffer = scan q ls cells .field ++ drop (size (length cells)) field; said = scanRecord q ls cells }
   unfolding answered scanRecord
-  column-answered = rw (column-marked q ls cells es region field w b h, column-matched q ls cells es region field w b h, column-matched nullQuestion [] cells es region field w b h)
+  column-answered =
+      both (column-marked q ls cells es region field w b h)
+      (rw (column-matched q ls cells es region field w b h, column-matched nullQuestion [] cells es region field w b h))
+    where
+      both : {x y : List ℕ} {c d : Record} → x ≡ y → c ≡ d → _≡_ {A = Answer} (record { buffer = x; said = c }) (record { buffer = y; said = d })
+      both e f = rw (e, f)

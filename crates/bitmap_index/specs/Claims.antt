@@ -16,7 +16,6 @@ use Rattle.refusal.specs.Reading.{refuse, ok, check, andThen}
 use Rattle.refusal.specs.Claims.{CarriesNothing}
 use Rattle.row_field.specs.Meaning.{size, bit, count, cleared, Below}
 use Rattle.subtract.specs.Meaning.{subtracted, removed, keeps}
-use Rattle.subtract.specs.Reading.{RecordCounts, recordSubtraction}
 use Rattle.roaring.specs.declared.Extent.{Extent}
 use Rattle.roaring.specs.declared.Extent.the-variants.{AsLong, Exactly}
 use Rattle.roaring.specs.Faults.{Broken}
@@ -108,9 +107,8 @@ AnsweredAsTheScan =
     (t : ℕ) (q : Question) (literal body field : List ℕ) (a : Answer) → Bytes literal → Bytes body → Bytes field → ask t q literal body field ≡ ok a
     → AsTheScan t q literal body field a
 
--- ---- 02, Ticket 7: what the graph may claim
+-- ---- 02, Ticket 7: the record of an answer, for any bytes: matched are the ones in the field, null rows are rows, and nothing is deleted yet
 
--- for any bytes: matched are the ones in the field, null rows are rows, and nothing is deleted yet
 pub record OfItsField (a : Answer) : Type 0 where
   pub matched : a .said .matched ≡ count (a .buffer) (a .said .rows)
   pub nulls : a .said .nulls ≤ a .said .rows
@@ -118,22 +116,6 @@ pub record OfItsField (a : Answer) : Type 0 where
 
 abbrev pub RecordIsOfItsField : Type 0
 RecordIsOfItsField = (t : ℕ) (q : Question) (literal body field : List ℕ) (a : Answer) → ask t q literal body field ≡ ok a → OfItsField a
-
--- what is said once the rows of a field g were subtracted from the scan's answer: the column's rows and null rows, all rows of g, and the rows that the scan
--- chooses and g has not; with the removed ones they are all that the scan chooses
-pub record DrawnFrom (q : Question) (ls : List (List ℕ)) (cells : List Cell) (g : List ℕ) (a : RecordCounts) : Type 0 where
-  pub rows : a .said .rows ≡ length cells
-  pub nulls : a .said .nulls ≡ scan nullQuestion [] cells .matched
-  pub deleted : a .said .deleted ≡ count g (length cells)
-  pub matched : a .said .matched ≡ count (subtracted (length cells) (scan q ls cells .field) g) (length cells)
-  pub with-removed : a .said .matched + a .removed ≡ scan q ls cells .matched
-
--- Ask's answer to a column's body, and to its file, is the scan's (demand 3): so from it a graph is drawn
-abbrev pub GraphIsDrawnFromTheScan : Type 0
-GraphIsDrawnFromTheScan =
-    (q : Question) (ls : List (List ℕ)) (cells : List Cell) (field g : List ℕ) → length cells ≤ limit → size (length cells) ≤ length field → size (length cells) ≤ length g
-    → (a : RecordCounts)
-    × (recordSubtraction (scanAnswer q ls cells field .said) (scanAnswer q ls cells field .buffer) g ≡ ok a) × DrawnFrom q ls cells g a
 
 -- ---- 02, Ticket 4: "for every question but IS NULL, which stays, edition 2 is edition 1 without the rows of IS NULL". Said of the scan; demands 2 and 3 carry
 -- it to Ask

@@ -1,3 +1,4 @@
+pub mod Graphs
 pub mod Theorems
 pub mod Starred
 pub mod Calls

@@ -1,17 +1,19 @@
 -- Demand 3, one claim from file to answers: all versions, cuts, forms and editions at once, and over the scan. A reading that refuses everything does not have it.
-use Prim.Native.Nat.{ℕ, _≤_}
+use Prim.Native.Nat.{ℕ, _+_, _≤_}
 use mathlib.Core.Path.{_≡_}
 use mathlib.Core.Logic.{_⊎_}
 use mathlib.Core.List.{List, [], _∷_}
 use lib.ListN.{length}
 use Rattle.numbers.specs.Meaning.{beAt, Bytes, joined}
 use Rattle.refusal.specs.Reading.{ok}
-use Rattle.row_field.specs.Meaning.{size}
+use Rattle.row_field.specs.Meaning.{size, count}
+use Rattle.subtract.specs.Meaning.{subtracted}
+use Rattle.subtract.specs.Reading.{RecordCounts, recordSubtraction}
 use Rattle.stored_value.specs.Meaning.{Cell}
 use Rattle.index_file.specs.Layout.{fileVersion}
 use Rattle.index_file.specs.Reading.{Part, found, find}
 use Rattle.bitmap_index.specs.declared.Question.{Question}
-use Rattle.bitmap_index.specs.Meaning.{WellFormed}
+use Rattle.bitmap_index.specs.Meaning.{WellFormed, scan, nullQuestion}
 use Rattle.bitmap_index.specs.Reading.{Answer}
 use Rattle.bitmap_index.specs.Promises.{scanAnswer}
 use Rattle.bitmap_index.specs.Claims.{AnswersAsScan}
@@ -38,6 +40,33 @@ FileIsAnswered =
     → size (length cells) ≤ length field → (q : Question) (ls : List (List ℕ)) → WellFormed t q ls
     → (askFile bytes column kind t q (joined ls) field ≡ ok (found (scanAnswer q ls cells field)))
     × (askFileBuffer bytes column kind t q (joined ls) field ≡ scanAnswer q ls cells field .buffer)
+
+-- ---- 02, Ticket 7: what the graph may claim, from the file to the graph
+
+-- what is said once the rows of a field g were subtracted from the answer: the column's rows and null rows, all rows of g, and the rows that the scan chooses and g
+-- has not; with the removed ones they are all that the scan chooses
+pub record DrawnFrom (q : Question) (ls : List (List ℕ)) (cells : List Cell) (g : List ℕ) (a : RecordCounts) : Type 0 where
+  pub rows : a .said .rows ≡ length cells
+  pub nulls : a .said .nulls ≡ scan nullQuestion [] cells .matched
+  pub deleted : a .said .deleted ≡ count g (length cells)
+  pub matched : a .said .matched ≡ count (subtracted (length cells) (scan q ls cells .field) g) (length cells)
+  pub with-removed : a .said .matched + a .removed ≡ scan q ls cells .matched
+
+-- a column's file is asked, and then the rows of g are subtracted with the record of the answer
+pub record FileToGraph (bytes column kind : List ℕ) (t : ℕ) (q : Question) (ls : List (List ℕ)) (cells : List Cell) (field g : List ℕ) : Type 0 where
+  pub answer : Answer
+  pub asked : askFile bytes column kind t q (joined ls) field ≡ ok (found answer)
+  pub counts : RecordCounts
+  pub subtracts : recordSubtraction (answer .said) (askFileBuffer bytes column kind t q (joined ls) field) g ≡ ok counts
+  pub drawn : DrawnFrom q ls cells g counts
+
+abbrev pub GraphIsDrawn : Type 0
+GraphIsDrawn =
+    (t : ℕ) (cells : List Cell) (column kind bytes : List ℕ) → ColumnFile t cells column kind bytes → (field g : List ℕ) → Bytes field
+    → size (length cells) ≤ length field → size (length cells) ≤ length g → (q : Question) (ls : List (List ℕ)) → WellFormed t q ls
+    → FileToGraph bytes column kind t q ls cells field g
+
+-- ---- versions
 
 -- of a file with a version other than 1 no part is handed back
 abbrev pub OtherVersionHasNoPart : Type 0

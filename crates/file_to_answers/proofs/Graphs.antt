@@ -1,5 +1,5 @@
--- What a graph may claim: of an answer for any bytes, and of the scan's answer less the rows of another field.
-use Prim.Native.Nat.{ℕ, _+_, _*_, _<_, _≤_}
+-- The scan's answer less the rows of another field: what a graph may claim.
+use Prim.Native.Nat.{ℕ, _*_, _<_, _≤_}
 use mathlib.Core.Path.{_≡_, refl, sym, _∙_}
 use mathlib.Core.List.{List, _++_}
 use native.Mathlib.Omega.{arith}
@@ -7,30 +7,19 @@ use borrow.Author.Tests.{le-leb}
 use lib.ListN.{length, drop, length-append}
 use Rattle.refusal.specs.Meaning.{limit}
 use Rattle.refusal.specs.Reading.{ok, check, andThen}
-use Rattle.refusal.proofs.Laws.{then-ok}
-use Rattle.row_field.specs.Meaning.{size, bit, cleared, count}
-use Rattle.row_field.proofs.Counts.{count-le, count-same}
+use Rattle.row_field.specs.Meaning.{size, bit, count}
+use Rattle.row_field.proofs.Counts.{count-same}
 use Rattle.row_field.proofs.Fronts.{bit-front}
 use Rattle.subtract.specs.Meaning.{subtracted, removed}
 use Rattle.subtract.specs.Reading.{subtraction, replaced, RecordCounts, recordSubtraction}
 use Rattle.subtract.proofs.Theorems.{clears-just-the-rows, left-and-removed}
 use Rattle.stored_value.specs.Meaning.{Cell}
 use Rattle.bitmap_index.specs.declared.Question.{Question}
 use Rattle.bitmap_index.specs.Meaning.{scan, scanRecord}
-use Rattle.bitmap_index.specs.Reading.{prepared, audited, matchedFor, Answer, answered, auditedAnswer, wellFormed, ask}
 use Rattle.bitmap_index.specs.Promises.{scanAnswer}
-use Rattle.bitmap_index.specs.Claims.{OfItsField, DrawnFrom}
 use Rattle.bitmap_index.proofs.SameColumn.{scan-length}
 use Rattle.bitmap_index.proofs.Editions.{scan-count}
-
-pub of-its-field : (t : ℕ) (q : Question) (literal body field : List ℕ) (a : Answer) → ask t q literal body field ≡ ok a → OfItsField a
-unfolding ask auditedAnswer answered matchedFor
-of-its-field t q literal body field a e =
-    let (ls, first, rest) = then-ok (wellFormed t q literal body) _ a e in
-    let (d, second, more) = then-ok (prepared t body field) _ a rest in
-    let (n, third, last) = then-ok (audited d (cleared (d .rows) field)) _ a more in
-    let same : answered q ls d (cleared (d .rows) field) ≡ a = cc in
-    rw (← same) (record { matched = refl; nulls = count-le _ (d .rows); deleted = refl })
+use Rattle.file_to_answers.specs.Claims.{DrawnFrom}
 
 -- ---- the rows that are set in the front of a buffer
 
@@ -45,6 +34,8 @@ module _ (n : ℕ) (f behind g : List ℕ) (h : n ≤ length f * 8) where
 
   front-count : count (f ++ behind) n ≡ count f n
   front-count = count-same (f ++ behind) f n front-bit
+
+-- ---- the scan's answer
 
 pub drawn-from : (q : Question) (ls : List (List ℕ)) (cells : List Cell) (field g : List ℕ) → length cells ≤ limit → size (length cells) ≤ length field → size (length cells) ≤ length g
     → (a : RecordCounts)
