@@ -29,9 +29,9 @@ use Rattle.stored_value.specs.Reading.{literals}
 use Rattle.dictionary.specs.Layout.{Entry}
 use Rattle.dictionary.specs.Reading.{Dictionary, dictionary}
 use Rattle.bitmap_index.specs.declared.Question.{Question}
-use Rattle.bitmap_index.specs.Meaning.{questions, knownEdition, takes}
+use Rattle.bitmap_index.specs.Meaning.{questions, knownEdition, takes, nullQuestion}
 use Rattle.bitmap_index.specs.Layout.{EntryRows, single, bitmap}
-use Rattle.bitmap_index.specs.Reading.{extentOf, entryNumber, firstNumber, placeAt, placeEntry, placeEntries, roomFor, prepared, audited, audit, rowsFor, rowsAt, wellFormed, Answer, auditedAnswer, ask}
+use Rattle.bitmap_index.specs.Reading.{extentOf, entryNumber, firstNumber, placeAt, placeEntry, placeEntries, roomFor, prepared, audited, audit, rowsFor, rowsAt, wellFormed, Answer, answered, auditedAnswer, ask}
 use Rattle.bitmap_index.proofs.PlacedRows.{bitmap-back, placed-at}
 
 -- ---- a place that was accepted
@@ -168,11 +168,30 @@ audit-joined : (t : ℕ) (body field : List ℕ) (d : Dictionary) (n : ℕ) → 
 unfolding audit andThen
 audit-joined t body field d n x y = rw x y
 
-pub ask-parts : (t : ℕ) (q : Question) (literal body field : List ℕ) (a : Answer) → ask t q literal body field ≡ ok a
-    → (ls : List (List ℕ)) × (n : ℕ) × (wellFormed t q literal body ≡ ok ls) × (audit t body field ≡ ok n)
+-- the literals, the dictionary and the row count behind an answer
+pub ask-stages : (t : ℕ) (q : Question) (literal body field : List ℕ) (a : Answer) → ask t q literal body field ≡ ok a
+    → (ls : List (List ℕ)) × (d : Dictionary) × (n : ℕ) × (wellFormed t q literal body ≡ ok ls) × (prepared t body field ≡ ok d)
+    × (audited d (cleared (d .rows) field) ≡ ok n) × (a ≡ answered q ls d (cleared (d .rows) field))
 unfolding ask auditedAnswer
-ask-parts t q literal body field a e =
+ask-stages t q literal body field a e =
     let (ls, first, rest) = then-ok (wellFormed t q literal body) _ a e in
     let (d, second, more) = then-ok (prepared t body field) _ a rest in
     let (n, third, last) = then-ok (audited d (cleared (d .rows) field)) _ a more in
+    (ls, d, n, first, second, third, cc)
+
+pub ask-parts : (t : ℕ) (q : Question) (literal body field : List ℕ) (a : Answer) → ask t q literal body field ≡ ok a
+    → (ls : List (List ℕ)) × (n : ℕ) × (wellFormed t q literal body ≡ ok ls) × (audit t body field ≡ ok n)
+ask-parts t q literal body field a e =
+    let (ls, d, n, first, second, third, last) = ask-stages t q literal body field a e in
     (ls, n, first, audit-joined t body field d n second third)
+
+-- IS NULL has no literals
+pub no-literals : (t : ℕ) (body : List ℕ) (ls : List (List ℕ)) → wellFormed t nullQuestion [] body ≡ ok ls → ls ≡ []
+unfolding takes
+no-literals t body ls e =
+    let (short, short-literals, known, edition, name, is, fits) = asked-back t nullQuestion [] body ls e in
+    none ls (eqb-true (length ls) 0 fits)
+  where
+    none : (ls : List (List ℕ)) → length ls ≡ 0 → ls ≡ []
+    none [] h = refl
+    none (l ∷ ls) h = absurd (omega arith)

@@ -19,12 +19,12 @@ use Rattle.dictionary.specs.Layout.{Patterns}
 use Rattle.dictionary.specs.Layout.{Entry, entries1, null1, body1, blocks, directory, null2, body2}
 use Rattle.dictionary.specs.Reading.{Dictionary, dictionary}
 use Rattle.bitmap_index.specs.declared.Question.{Question}
-use Rattle.bitmap_index.specs.Meaning.{questions, WellFormed}
-use Rattle.bitmap_index.specs.Layout.{EntryRows, single, bitmap, ExactRows}
+use Rattle.bitmap_index.specs.Meaning.{Column, questions, WellFormed}
+use Rattle.bitmap_index.specs.Layout.{EntryRows, single, bitmap, ExactRows, ColumnBody, version1, version2}
 use Rattle.bitmap_index.specs.Reading.{audited, roomFor, prepared, audit, zeroedFrom, auditBuffer, wellFormed, ask, answerBuffer, askBuffer, auditedAnswer}
 use Rattle.bitmap_index.specs.Promises.{scanAnswer}
 use Rattle.bitmap_index.specs.Claims.{AnswersAsScan}
-use Rattle.bitmap_index.proofs.ScanAnswers.{HasColumn, column-audited, column-answered}
+use Rattle.bitmap_index.proofs.ScanAnswers.{columnDictionary, HasColumn, column-audited, column-answered}
 
 -- ---- a well-formed question's literals fit an input buffer
 
@@ -45,8 +45,8 @@ asked-well t q ls body h w =
     rw (le-leb (length body) limit h, le-leb (length (joined ls)) limit l, lt-ltb t types (w .known-type), w .known-edition, lt-ltb (q .name) questions (w .known-name), literals-laid t ls (w .form) (w .few), w .number)
 
 module _ (t : ℕ) (cells : List Cell) (es : List Entry) (region body field : List ℕ) (s : length body ≤ limit)
-    (d : dictionary t body ≡ ok (record { rows = length cells; entries = es; region = region })) (w : HasColumn cells es region) (b : Bytes field) (h : size (length cells) ≤ length field) where
-  prepared-well : prepared t body field ≡ ok (record { rows = length cells; entries = es; region = region })
+    (d : dictionary t body ≡ ok (columnDictionary cells es region)) (w : HasColumn cells es region) (b : Bytes field) (h : size (length cells) ≤ length field) where
+  prepared-well : prepared t body field ≡ ok (columnDictionary cells es region)
   unfolding prepared roomFor check andThen
   prepared-well = rw (le-leb (length body) limit s, d, le-leb (size (length cells)) (length field) h)
 
@@ -94,3 +94,8 @@ pub region2 : (n : ℕ) (nulls : List Entry) (bs : List (List Entry)) (region : 
 region2 n nulls bs region =
     let rest : List ℕ = be 4 (length (blocks bs)) ++ (blocks bs ++ region) in
     omega (arith, length-append (null2 nulls) (be 4 (length bs) ++ (directory 0 bs ++ rest)), length-append (directory 0 bs) rest, length-append (blocks bs) region)
+
+-- what a body of a column says of it
+pub body-column : (t : ℕ) (cells : List Cell) (body : List ℕ) → ColumnBody t cells body → Column t cells × (length cells ≤ limit)
+body-column t cells body (version1 nulls es region c k x d n l z) = (c, n)
+body-column t cells body (version2 nulls bs region c k x r n l m z) = (c, n)

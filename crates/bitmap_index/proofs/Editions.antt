@@ -20,8 +20,7 @@ use Rattle.row_field.proofs.Laws.{bytes-zeros, field-ext}
 use Rattle.row_field.proofs.Marks.{bytes-markAll}
 use Rattle.row_field.proofs.Counts.{count-field}
 use Rattle.subtract.specs.Meaning.{subtracted, removed, keeps}
-use Rattle.subtract.proofs.Laws.{bytes-without}
-use Rattle.subtract.proofs.WithRecord.{none-left}
+use Rattle.subtract.proofs.Laws.{bytes-without, none-left}
 use Rattle.subtract.proofs.Theorems.{clears-just-the-rows, keeps-the-length, left-and-removed}
 use Rattle.stored_value.specs.Meaning.{types, mostLiterals, Cell, null, value}
 use Rattle.stored_value.specs.Reading.{literals}
@@ -33,18 +32,7 @@ use Rattle.bitmap_index.specs.Reading.{prepared, zeroedFrom, chosenOf, m
 use Rattle.bitmap_index.specs.Claims.{IsWithout}
 use Rattle.bitmap_index.proofs.Rows.{rowsWhere, passes, all-cells, rows-ext, rows-rising}
 use Rattle.bitmap_index.proofs.ScanAnswers.{scanned}
-use Rattle.bitmap_index.proofs.SameColumn.{scan-length, scan-bit}
-
--- ---- a scan's field and its count
-
-module _ (q : Question) (ls : List (List ℕ)) (cells : List Cell) where
-  scan-bytes : Bytes (scan q ls cells .field)
-  scan-bytes =
-      rw (scanned q ls cells)
-      (bytes-markAll (replicate (size (length cells)) 0) (rowsWhere (chosen q ls) 0 cells) (bytes-zeros (size (length cells))))
-
-  pub scan-count : count (scan q ls cells .field) (length cells) ≡ scan q ls cells .matched
-  scan-count = rw (scanned q ls cells) (count-field (length cells) (rowsWhere (chosen q ls) 0 cells) (rows-rising (chosen q ls) cells))
+use Rattle.bitmap_index.proofs.SameColumn.{scan-length, scan-bit, scan-bytes, scan-count}
 
 passes-past : (p : Cell → Bool) (r : ℕ) (cells : List Cell) → length cells ≤ r → passes p r cells ≡ false
 passes-past p r [] h = refl

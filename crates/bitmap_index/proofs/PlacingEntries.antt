@@ -90,11 +90,11 @@ module _ (h : Summary) (body f : List ℕ) where
   unfolding entryNumber
   with-null e p = rw e (place-one (h .rows) (drop (h .region .0) body) firstNumber (nullEntry h) f p)
 
-  -- with no row set before, those that are set then are null's
   module _ {after : List ℕ} {r : Placing} (p : PlacesNull body h f after r) where
     pub null-not-placed : {why : Refusal} → r ≡ Placing.Refused why → PlacesNull body h f after (Placing.Refused why)
     null-not-placed e = rw e at p
 
+    -- with no row set before, those that are set then are null's
     pub null-counted : {j k : ℕ} → r ≡ Placed j → count f (h .rows) ≡ 0 → k ≡ count after (h .rows) → PlacesNull body h f after (Placed k)
     null-counted e z c =
         let w = rw e at p in

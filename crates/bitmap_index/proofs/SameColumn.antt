@@ -7,10 +7,11 @@ use mathlib.Core.List.{List, [], _∷_, _++_}
 use native.Mathlib.Omega.{arith}
 use lib.ListN.{length, getD, replicate, length-replicate, drop, take}
 use lib.Seq.{ext-getD, take-at}
-use Rattle.row_field.specs.Meaning.{size, bit}
-use Rattle.row_field.proofs.Marks.{length-markAll, bit-markAll}
-use Rattle.row_field.proofs.Laws.{bit-zeros}
-use Rattle.numbers.specs.Meaning.{same}
+use Rattle.row_field.specs.Meaning.{size, bit, count}
+use Rattle.row_field.proofs.Marks.{length-markAll, bytes-markAll, bit-markAll}
+use Rattle.row_field.proofs.Laws.{bytes-zeros, bit-zeros}
+use Rattle.row_field.proofs.Counts.{count-field}
+use Rattle.numbers.specs.Meaning.{Bytes, same}
 use Rattle.stored_value.specs.Meaning.{types, Cell, null, value, Value, listed}
 use Rattle.refusal.specs.declared.Refusal.{Refusal}
 use Rattle.refusal.specs.Reading.{Out, ok}
@@ -18,7 +19,7 @@ use Rattle.numbers.proofs.SameBytes.{same-refl, same→eq}
 use Rattle.bitmap_index.specs.declared.Question.{Question}
 use Rattle.bitmap_index.specs.Meaning.{Cells, Column, chosen, takes, knownEdition, firstEdition, equal, isNull, question, WellFormed, scan}
 use Rattle.bitmap_index.specs.Claims.{AnswersAsScan}
-use Rattle.bitmap_index.proofs.Rows.{rowsWhere, passes, member-rows}
+use Rattle.bitmap_index.proofs.Rows.{rowsWhere, passes, rows-rising, member-rows}
 use Rattle.bitmap_index.proofs.ScanAnswers.{scanned}
 
 -- the cell of row r; null past the end
@@ -41,6 +42,14 @@ module _ (q : Question) (ls : List (List ℕ)) (cells : List Cell) where
       rw (scanned q ls cells)
       (bit-markAll (replicate (size (length cells)) 0) (rowsWhere (chosen q ls) 0 cells) r (omega arith)
       ∙ rw (bit-zeros (size (length cells)) r) (member-rows (chosen q ls) r cells))
+
+  pub scan-bytes : Bytes (scan q ls cells .field)
+  scan-bytes =
+      rw (scanned q ls cells)
+      (bytes-markAll (replicate (size (length cells)) 0) (rowsWhere (chosen q ls) 0 cells) (bytes-zeros (size (length cells))))
+
+  pub scan-count : count (scan q ls cells .field) (length cells) ≡ scan q ls cells .matched
+  scan-count = rw (scanned q ls cells) (count-field (length cells) (rowsWhere (chosen q ls) 0 cells) (rows-rising (chosen q ls) cells))
 
   scan-row : (r : ℕ) → r < length cells → bit (scan q ls cells .field) r ≡ chosen q ls (cellAt cells r)
   scan-row r h = scan-bit r (omega arith) ∙ passes-at (chosen q ls) r cells h

@@ -20,11 +20,13 @@ use Rattle.refusal.specs.declared.Refusal.the-variants.{Missing}
 use Rattle.refusal.specs.Reading.{Out, ok, check, andThen}
 use Rattle.stored_value.proofs.Laws.{sameCell→eq, sameCell-sym}
 use Rattle.dictionary.specs.Layout.{Entry, someHas}
+use Rattle.dictionary.specs.Reading.{Dictionary}
 use Rattle.dictionary.specs.Claims.{Once}
 use Rattle.bitmap_index.specs.declared.Question.{Question}
 use Rattle.bitmap_index.specs.Meaning.{chosen, scan, scanFrom, nullQuestion, scanRecord}
 use Rattle.bitmap_index.specs.Layout.{rowsWith, EntryRows, ExactRows, Covers}
 use Rattle.bitmap_index.specs.Reading.{nextNumber, firstNumber, placeEntry, placeEntries, audited, chosenOf, rowsAt, markEntries, markedFor, matchedFor, Answer, answered}
+use Rattle.bitmap_index.specs.Promises.{scanAnswer}
 use Rattle.bitmap_index.proofs.LaidRows.{rows-at, place-one}
 use Rattle.bitmap_index.proofs.Rows.{rowsWhere, rows-with, all-cells, rows-ext, rows-none, rows-all, rows-below, Apart, rows-join, Free, rows-free, cleared-free, rows-marked, rows-counted}
 
@@ -94,6 +96,10 @@ module _ (region : List ℕ) (cells : List Cell) (z : List ℕ) (short : length 
 
 -- ---- the audit
 
+-- the dictionary of a body of the column
+abbrev pub columnDictionary : List Cell → List Entry → List ℕ → Dictionary
+columnDictionary cells es region = record { rows = length cells; entries = es; region = region }
+
 -- what a body of the column says behind its dictionary
 pub record HasColumn (cells : List Cell) (es : List Entry) (region : List ℕ) : Type 0 where
   pub placed : ExactRows region cells es
@@ -102,7 +108,7 @@ pub record HasColumn (cells : List Cell) (es : List Entry) (region : List ℕ) :
   pub short : length region ≤ limit
 
 module _ (cells : List Cell) (es : List Entry) (region field : List ℕ) (w : HasColumn cells es region) (b : Bytes field) (h : size (length cells) ≤ length field) where
-  pub column-audited : audited (record { rows = length cells; entries = es; region = region }) (cleared (length cells) field) ≡ ok (length cells)
+  pub column-audited : audited (columnDictionary cells es region) (cleared (length cells) field) ≡ ok (length cells)
   unfolding audited andThen check
   column-audited =
       let zero : List ℕ = cleared (length cells) field in
@@ -171,7 +177,7 @@ module _ (q : Question) (ls : List (List ℕ)) where
   scanned cells = rw zero-add at (scan-from 0 (replicate (size (length cells)) 0) 0 cells)
 
   module _ (cells : List Cell) (es : List Entry) (region field : List ℕ) (w : HasColumn cells es region) (b : Bytes field) (h : size (length cells) ≤ length field) where
-    column-rows : markedFor q ls (record { rows = length cells; entries = es; region = region }) (cleared (length cells) field)
+    column-rows : markedFor q ls (columnDictionary cells es region) (cleared (length cells) field)
         ≡ markAll (cleared (length cells) field) (rowsWhere (chosen q ls) 0 cells)
     unfolding markedFor
     column-rows =
@@ -180,17 +186,17 @@ module _ (q : Question) (ls : List (List ℕ)) where
         marked-all region cells zero (w .short) (bytes-zeroed (size (length cells)) field b) (chosenOf q ls es) (chosen-placed region cells es (w .placed))
         ∙ ap (λ (rs : List ℕ). markAll zero rs) (rows-ext p (chosen q ls) 0 cells (chosen-covers es cells (w .covers)))
 
-    column-marked : markedFor q ls (record { rows = length cells; entries = es; region = region }) (cleared (length cells) field)
+    column-marked : markedFor q ls (columnDictionary cells es region) (cleared (length cells) field)
         ≡ scan q ls cells .field ++ drop (size (length cells)) field
     column-marked = column-rows ∙ rw (scanned cells) (rows-marked (chosen q ls) cells field h)
 
-    column-matched : matchedFor q ls (record { rows = length cells; entries = es; region = region }) (cleared (length cells) field) ≡ scan q ls cells .matched
+    column-matched : matchedFor q ls (columnDictionary cells es region) (cleared (length cells) field) ≡ scan q ls cells .matched
     unfolding matchedFor
     column-matched = ap (λ (f : List ℕ). count f (length cells)) column-rows ∙ rw (scanned cells) (rows-counted (chosen q ls) cells field h)
 
 module _ (q : Question) (ls : List (List ℕ)) (cells : List Cell) (es : List Entry) (region field : List ℕ) (w : HasColumn cells es region) (b : Bytes field) (h : size (length cells) ≤ length field) where
-  pub column-answered : answered q ls (record { rows = length cells; entries = es; region = region }) (cleared (length cells) field)
-      ≡ record { buffer = scan q ls cells .field ++ drop (size (length cells)) field; said = scanRecord q ls cells }
+  pub column-answered : answered q ls (columnDictionary cells es region) (cleared (length cells) field)
+      ≡ scanAnswer q ls cells field
   unfolding answered scanRecord
   column-answered =
       both (column-marked q ls cells es region field w b h)

@@ -2,7 +2,7 @@
 use Prim.Native.Nat.{ℕ, _+_, _<_, _≤_}
 use mathlib.Core.Path.{_≡_, refl, sym, ap, _∙_}
 use mathlib.Core.Logic.{_↔_}
-use mathlib.Core.List.{List, _++_}
+use mathlib.Core.List.{List, [], _++_}
 use native.Mathlib.Decide.{decLt}
 use native.Mathlib.Omega.{arith}
 use borrow.Author.Tests.{le-leb, lt-leb}
@@ -13,17 +13,17 @@ use Rattle.refusal.specs.declared.Refusal.{Refusal}
 use Rattle.refusal.specs.declared.Refusal.the-variants.{Room}
 use Rattle.row_field.specs.Meaning.{size, cleared}
 use Rattle.row_field.proofs.Laws.{bytes-zeros}
-use Rattle.row_field.proofs.Counts.{count-le, length-zeroed, bit-zeroed}
+use Rattle.row_field.proofs.Counts.{length-zeroed, bit-zeroed}
 use Rattle.stored_value.specs.Meaning.{Cell}
 use Rattle.refusal.specs.Reading.{Out, refuse, ok, check, andThen}
 use Rattle.stored_value.proofs.Laws.{literals-back}
 use Rattle.dictionary.specs.Reading.{Dictionary}
-use Rattle.bitmap_index.specs.Meaning.{Column, WellFormed}
+use Rattle.bitmap_index.specs.Meaning.{WellFormed, nullQuestion}
 use Rattle.bitmap_index.specs.Layout.{ColumnBody, version1, version2}
 use Rattle.bitmap_index.specs.Reading.{roomFor, prepared, audited, audit, matchedFor, Answer, answered, auditedAnswer, wellFormed, ask}
-use Rattle.bitmap_index.specs.Claims.{ColumnIsAnswered, AcceptedIsAColumn, OneColumn, EachRowHasOnePlace, AcceptedIsAnswered, AnsweredAsTheScan, RecordIsOfItsField, SecondIsFirstWithoutNulls, OthersStay, OthersAreAnsweredAlike, OtherEditionIsLiteral, ShortOfRoom, RefusedForRoom, RefusedIsNoColumn, AcceptedAreTheColumns, UnknownVersionIsRefused, UnknownVersionYieldsNothing, FaultIs, AuditNamesTheFault, AskNamesTheFault, OutsideIsContainer0, NothingBeforeBitmaps}
+use Rattle.bitmap_index.specs.Claims.{ColumnIsAnswered, AcceptedIsAColumn, OneColumn, EachRowHasOnePlace, AcceptedIsAnswered, AnsweredAsTheScan, RecordSaysItsRows, SecondIsFirstWithoutNulls, OthersStay, OthersAreAnsweredAlike, OtherEditionIsLiteral, ShortOfRoom, RefusedForRoom, RefusedIsNoColumn, AcceptedAreTheColumns, UnknownVersionIsRefused, UnknownVersionYieldsNothing, FaultIs, AuditNamesTheFault, AskNamesTheFault, OutsideIsContainer0, NothingBeforeBitmaps}
 use Rattle.bitmap_index.proofs.ScanAnswers.{HasColumn}
-use Rattle.bitmap_index.proofs.BodyAnswers.{answers-as-scan, all-patterns, region1, region2}
+use Rattle.bitmap_index.proofs.BodyAnswers.{answers-as-scan, body-column, all-patterns, region1, region2}
 use Rattle.dictionary.specs.Layout.{body1, body2}
 use Rattle.dictionary.proofs.LaidOut.{one-laid, two-laid}
 use Rattle.dictionary.specs.Claims.{LaidOut, in-one, in-two}
@@ -31,7 +31,7 @@ use Rattle.dictionary.proofs.Theorems.{read-is-laid-out, one-has-each-once, two
 use Rattle.bitmap_index.proofs.SameColumn.{same-column}
 use Rattle.bitmap_index.proofs.Editions.{is-without, same-scan, same-ask, same-buffer, no-edition}
 use Rattle.refusal.proofs.Laws.{not-ok, ok-same, then-ok, check-ok}
-use Rattle.bitmap_index.proofs.AcceptedStages.{prepared-back, audit-passed, asked-back, ask-parts}
+use Rattle.bitmap_index.proofs.AcceptedStages.{prepared-back, audit-passed, asked-back, ask-stages, ask-parts, no-literals}
 use Rattle.bitmap_index.proofs.Accepted.{holder, columnOf, length-table, passed-body, laid-patterns, passed-once}
 use Rattle.bitmap_index.proofs.CarriesNothing.{well-formed-bare, prepared-bare}
 use Rattle.bitmap_index.proofs.Faults.{refused-exactly, outside-broken}
@@ -61,10 +61,6 @@ accepted-is-a-column t body field n b e =
 
 pub each-row-has-one-place : EachRowHasOnePlace
 each-row-has-one-place t body field n b e = passed-once t body field n b (audit-passed t body field n e)
-
-pub body-column : (t : ℕ) (cells : List Cell) (body : List ℕ) → ColumnBody t cells body → Column t cells × (length cells ≤ limit)
-body-column t cells body (version1 nulls es region c k x d n l z) = (c, n)
-body-column t cells body (version2 nulls bs region c k x r n l m z) = (c, n)
 
 pub one-column : OneColumn
 one-column t cells cells′ body b b′ =
@@ -100,14 +96,18 @@ answered-as-the-scan t q literal body field a bl b bf e =
 
 -- ---- the record
 
-pub record-is-of-its-field : RecordIsOfItsField
-unfolding ask auditedAnswer answered matchedFor
-record-is-of-its-field t q literal body field a e =
-    let (ls, first, rest) = then-ok (wellFormed t q literal body) _ a e in
-    let (d, second, more) = then-ok (prepared t body field) _ a rest in
-    let (n, third, last) = then-ok (audited d (cleared (d .rows) field)) _ a more in
-    let same : answered q ls d (cleared (d .rows) field) ≡ a = cc in
-    rw (← same) (record { matched = refl; nulls = count-le _ (d .rows); deleted = refl })
+pub record-says-its-rows : RecordSaysItsRows
+unfolding answered matchedFor
+record-says-its-rows t q literal body field a e =
+    let (ls, d, n, first, read, third, is) = ask-stages t q literal body field a e in
+    record {
+      matched = rw is;
+      nulls = λ b f.
+          let (ls′, d′, n′, first′, read′, third′, is′) = ask-stages t nullQuestion [] body field b f in
+          let same : d′ ≡ d = ok-same d′ d (sym read′ ∙ read) in
+          rw (is, is′, no-literals t body ls′ first′, same);
+      deleted = rw is;
+    }
 
 -- ---- the editions
 

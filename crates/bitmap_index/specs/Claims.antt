@@ -107,15 +107,16 @@ AnsweredAsTheScan =
     (t : ℕ) (q : Question) (literal body field : List ℕ) (a : Answer) → Bytes literal → Bytes body → Bytes field → ask t q literal body field ≡ ok a
     → AsTheScan t q literal body field a
 
--- ---- 02, Ticket 7: the record of an answer, for any bytes: matched are the ones in the field, null rows are rows, and nothing is deleted yet
+-- ---- 02, Ticket 7: the record of an answer, for any bytes: matched are the ones in the field, null rows are those that IS NULL matches, and nothing is deleted
+-- yet
 
-pub record OfItsField (a : Answer) : Type 0 where
+pub record SaysItsRows (t : ℕ) (body field : List ℕ) (a : Answer) : Type 0 where
   pub matched : a .said .matched ≡ count (a .buffer) (a .said .rows)
-  pub nulls : a .said .nulls ≤ a .said .rows
+  pub nulls : (b : Answer) → ask t nullQuestion [] body field ≡ ok b → b .said .matched ≡ a .said .nulls
   pub deleted : a .said .deleted ≡ 0
 
-abbrev pub RecordIsOfItsField : Type 0
-RecordIsOfItsField = (t : ℕ) (q : Question) (literal body field : List ℕ) (a : Answer) → ask t q literal body field ≡ ok a → OfItsField a
+abbrev pub RecordSaysItsRows : Type 0
+RecordSaysItsRows = (t : ℕ) (q : Question) (literal body field : List ℕ) (a : Answer) → ask t q literal body field ≡ ok a → SaysItsRows t body field a
 
 -- ---- 02, Ticket 4: "for every question but IS NULL, which stays, edition 2 is edition 1 without the rows of IS NULL". Said of the scan; demands 2 and 3 carry
 -- it to Ask

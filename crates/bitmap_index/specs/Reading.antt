@@ -191,13 +191,13 @@ answeredBy (ok a) = cond (keeps (a .said .matched)) (Keep (a .said)) (Skip (a .s
 
 unfoldable pub askOut : Answered → ℕ × List ℕ
 askOut (Answered.Refused r) = (numberOf r, noRecord)
-askOut (Skip c) = (0, recordNumbers c)
-askOut (Keep c) = (0, recordNumbers c)
+askOut (Skip said) = (0, recordNumbers said)
+askOut (Keep said) = (0, recordNumbers said)
 
 abbrev pub askNumbers : Answer → ℕ × List ℕ
 askNumbers a = (0, recordNumbers (a .said))
 
 unfoldable pub askFault : Answered → List ℕ
 askFault (Answered.Refused r) = faultOf r
-askFault (Skip c) = noFault
-askFault (Keep c) = noFault
+askFault (Skip said) = noFault
+askFault (Keep said) = noFault

@@ -179,7 +179,8 @@ fn place_at(
     )
 }
 
-// Places null's rows, if it has an entry, in a field that is clear, and counts them there.
+// Places null's rows, if it has an entry, in a field that is clear. How many they are is answered, and so counted as ones (document 01): what `place_at` says is
+// the sum of cardinalities.
 fn place_null(field: &mut [u8], body: &[u8], summary: Summary) -> Placing
     requires { ⌜ (summary .region .0 ≤ length (now body)) × (size (summary .rows) ≤ length (now field)) × (count (now field) (summary .rows) ≡ 0) ⌝ }
     ensures { λ r. ⌜ PlacesNull (now (body .entry)) summary (now (field .entry)) (now (field .exit)) r ⌝ }

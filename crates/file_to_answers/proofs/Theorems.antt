@@ -16,11 +16,12 @@ use Rattle.index_file.proofs.Theorems.{laid-out-is-found, other-version-is-not-
 use Rattle.bitmap_index.specs.declared.Question.{Question}
 use Rattle.bitmap_index.specs.Reading.{Answer, ask}
 use Rattle.bitmap_index.specs.Promises.{scanAnswer}
-use Rattle.bitmap_index.proofs.Theorems.{column-is-answered, body-column, unknown-version-yields-nothing}
-use Rattle.file_to_answers.proofs.Graphs.{drawn-from}
+use Rattle.bitmap_index.proofs.BodyAnswers.{body-column}
+use Rattle.bitmap_index.proofs.Theorems.{column-is-answered, unknown-version-yields-nothing}
+use Rattle.file_to_answers.proofs.Graphs.{buffer-left, drawn-from}
 use Rattle.file_to_answers.specs.Layout.{ColumnFile}
 use Rattle.file_to_answers.specs.Reading.{lookedAt, partOf, askPart, askPartBuffer, askFile, askFileBuffer}
-use Rattle.file_to_answers.specs.Claims.{FromFileToAnswers, Demand3, FileIsAnswered, GraphIsDrawn, OtherVersionHasNoPart, AnsweredVersions}
+use Rattle.file_to_answers.specs.Claims.{FromFileToAnswers, Demand3, FileIsAnswered, FileGivesTheGraph, OtherVersionHasNoPart, AnsweredVersions}
 
 from-file-to-answers : (t : ℕ) (cells : List Cell) (column kind bytes : List ℕ) → ColumnFile t cells column kind bytes → FromFileToAnswers t cells column kind bytes
 from-file-to-answers t cells column kind bytes f =
@@ -37,11 +38,19 @@ file-is-answered t cells column kind bytes f field b room q ls w =
     let a = rw (c .is-found) at (c .answers field b room) in
     rw (c .is-found) (rw (a .asked q ls w), a .asked-buffer q ls w)
 
-pub graph-is-drawn : GraphIsDrawn
-graph-is-drawn t cells column kind bytes f field g b room room′ q ls w =
+pub file-gives-the-graph : FileGivesTheGraph
+file-gives-the-graph t cells column kind bytes f field g b room room′ q ls w =
     let asked = file-is-answered t cells column kind bytes f field b room q ls w in
-    let (counts, subtracts, drawn) = drawn-from q ls cells field g (body-column t cells (f .body) (f .laid) .1) room room′ in
-    record { answer = scanAnswer q ls cells field; asked = asked .0; counts = counts; subtracts = rw (asked .1) subtracts; drawn = drawn }
+    let small = body-column t cells (f .body) (f .laid) .1 in
+    let (counts, subtracts, drawn) = drawn-from q ls cells field g small room′ in
+    record {
+      answer = scanAnswer q ls cells field;
+      asked = asked .0;
+      counts = counts;
+      subtracts = rw (asked .1) subtracts;
+      drawn = drawn;
+      left = rw (asked .1) (buffer-left q ls cells field g small room′);
+    }
 
 pub other-version-has-no-part : OtherVersionHasNoPart
 other-version-has-no-part bytes column kind other =

@@ -2,13 +2,13 @@
 use Prim.Native.Nat.{ℕ, _+_, _≤_}
 use mathlib.Core.Path.{_≡_}
 use mathlib.Core.Logic.{_⊎_}
-use mathlib.Core.List.{List, [], _∷_}
-use lib.ListN.{length}
+use mathlib.Core.List.{List, [], _∷_, _++_}
+use lib.ListN.{length, drop}
 use Rattle.numbers.specs.Meaning.{beAt, Bytes, joined}
 use Rattle.refusal.specs.Reading.{ok}
 use Rattle.row_field.specs.Meaning.{size, count}
 use Rattle.subtract.specs.Meaning.{subtracted}
-use Rattle.subtract.specs.Reading.{RecordCounts, recordSubtraction}
+use Rattle.subtract.specs.Reading.{subtractBuffer, RecordCounts, recordSubtraction}
 use Rattle.stored_value.specs.Meaning.{Cell}
 use Rattle.index_file.specs.Layout.{fileVersion}
 use Rattle.index_file.specs.Reading.{Part, found, find}
@@ -59,9 +59,12 @@ pub record FileToGraph (bytes column kind : List ℕ) (t : ℕ) (q : Question) (
   pub counts : RecordCounts
   pub subtracts : recordSubtraction (answer .said) (askFileBuffer bytes column kind t q (joined ls) field) g ≡ ok counts
   pub drawn : DrawnFrom q ls cells g counts
+  -- the rows that are left: the scan's less those of g, and what lies behind the field as it was
+  pub left : subtractBuffer (length cells) (askFileBuffer bytes column kind t q (joined ls) field) g
+      ≡ subtracted (length cells) (scan q ls cells .field) g ++ drop (size (length cells)) field
 
-abbrev pub GraphIsDrawn : Type 0
-GraphIsDrawn =
+abbrev pub FileGivesTheGraph : Type 0
+FileGivesTheGraph =
     (t : ℕ) (cells : List Cell) (column kind bytes : List ℕ) → ColumnFile t cells column kind bytes → (field g : List ℕ) → Bytes field
     → size (length cells) ≤ length field → size (length cells) ≤ length g → (q : Question) (ls : List (List ℕ)) → WellFormed t q ls
     → FileToGraph bytes column kind t q ls cells field g

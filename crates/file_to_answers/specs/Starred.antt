@@ -22,7 +22,7 @@ use Rattle.bitmap_index.specs.declared.Answered.the-variants.{Skip, Keep}
 use Rattle.bitmap_index.specs.Meaning.{equal, notEqual, firstEdition, secondEdition, question}
 use Rattle.bitmap_index.specs.declared.Question.{Question}
 use Rattle.bitmap_index.specs.Layout.{EntryRows, ColumnBody}
-use Rattle.bitmap_index.specs.Reading.{placeAt, audit, ask, answeredBy}
+use Rattle.bitmap_index.specs.Reading.{placeAt, audit, Answer, ask, answeredBy}
 use Rattle.bitmap_index.specs.Promises.{scanAnswer}
 use Rattle.file_to_answers.specs.Layout.{ColumnFile}
 use Rattle.file_to_answers.specs.Reading.{lookedAt, partOf, askFile}
@@ -65,9 +65,12 @@ pub data Case : Type 0 where
   -- the offset is RANGE always: for each row count that 01 allows
   outside : ℕ → Case
 
--- the record of an answer in which so many rows match: three rows, one of them null, none deleted
+-- the record of an answer in which so many rows match: three rows, one of them null, none deleted; and the answer, whose field is one byte
 abbrev pub ofThree : ℕ → Record
 ofThree matched = record { rows = 3; nulls = 1; deleted = 0; matched = matched }
+
+abbrev pub answerOf : ℕ → ℕ → Answer
+answerOf field matched = record { buffer = field ∷ []; said = ofThree matched }
 
 -- the buffer that is lent is one byte, all its bits set before the call
 abbrev pub Holds : Case → Type 0
@@ -76,11 +79,11 @@ Holds (locates body) =
     × ColumnFile 0 cells s bitmap file × (length file ≡ 71)
 Holds (audits body) = (audit 0 body (0xFF ∷ []) ≡ ok 3) × ColumnBody 0 cells body
 Holds (answers q v field matched answer) =
-    (ask 0 q (v ∷ []) one (0xFF ∷ []) ≡ ok (record { buffer = field ∷ []; said = ofThree matched }))
-    × (ask 0 q (v ∷ []) two (0xFF ∷ []) ≡ ok (record { buffer = field ∷ []; said = ofThree matched }))
-    × (askFile file s bitmap 0 q (v ∷ []) (0xFF ∷ []) ≡ ok (found (record { buffer = field ∷ []; said = ofThree matched })))
-    × (scanAnswer q ((v ∷ []) ∷ []) cells (0xFF ∷ []) ≡ record { buffer = field ∷ []; said = ofThree matched })
-    × (answeredBy (ok (record { buffer = field ∷ []; said = ofThree matched })) ≡ answer)
+    (ask 0 q (v ∷ []) one (0xFF ∷ []) ≡ ok (answerOf field matched))
+    × (ask 0 q (v ∷ []) two (0xFF ∷ []) ≡ ok (answerOf field matched))
+    × (askFile file s bitmap 0 q (v ∷ []) (0xFF ∷ []) ≡ ok (found (answerOf field matched)))
+    × (scanAnswer q ((v ∷ []) ∷ []) cells (0xFF ∷ []) ≡ answerOf field matched)
+    × (answeredBy (ok (answerOf field matched)) ≡ answer)
 Holds (reads bytes rows) = (read bytes ≡ ok (parsed rows (length bytes) [])) × Bitmap rows bytes
 Holds (names offset row) =
     (signed32 offset ≡ negsuc row)

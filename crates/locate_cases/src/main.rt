@@ -52,14 +52,8 @@ fn each<'a>(embedded: &'a [u8], file: &'a [u8], column: &[u8], kind: &[u8], line
 fn say_answered(answer: Answered) {
     match answer {
         Answered::Refused(why) => case_lines::say_refused(why),
-        Answered::Skip(record) => {
-            case_lines::say(b": skip");
-            case_lines::say_record(record);
-        }
-        Answered::Keep(record) => {
-            case_lines::say(b": keep");
-            case_lines::say_record(record);
-        }
+        Answered::Skip(record) => case_lines::say_record(b": skip ", record),
+        Answered::Keep(record) => case_lines::say_record(b": keep ", record),
     }
 }
 

@@ -1,7 +1,7 @@
 // The C interface (include/poddurance.h). Each function answers a number, 0 for accepted, 255 for ABSENT (Locate and Ask of a file) and else the
 // refusal's number in document 01, and writes counts through pointers; with ABSENT and a refusal the counts are 0. Where a fault is (entry, container, row) is
-// written through a pointer too: 0 in each number that the refusal does not carry, and all 0 with every other answer. A record (`said`; document 02, Ticket 7) is
-// four counts: rows, nulls, deleted, matched.
+// written through a pointer too: 0 in each number that the refusal does not carry, and all 0 with every other answer. A record is lent
+// as its four numbers, `said`: rows, nulls, deleted, matched (document 02, Ticket 7).
 ghost use mathlib.Core.Path.{_≡_};
 ghost use Rattle.subtract.specs.Meaning.{recordNumbers};
 ghost use Rattle.subtract.specs.Reading.{recordSubtractOut};
@@ -81,24 +81,24 @@ fn record_subtracted(answer: RecordSubtracted, said: &mut [u64; 4], removed: &mu
 {
     match answer {
         RecordSubtracted::Refused(r) => {
-            *said = subtract::NO_RECORD; // what was given is no answer
+            *said = subtract::NO_RECORD; // after a refusal nothing is claimed
             *removed = 0;
             refusal::number(r)
         }
         RecordSubtracted::Skip {
-            record: c,
-            removed: m,
+            record,
+            removed: gone,
         } => {
-            *said = subtract::record_numbers(c);
-            *removed = m;
+            *said = subtract::record_numbers(record);
+            *removed = gone;
             ACCEPTED
         }
         RecordSubtracted::Keep {
-            record: c,
-            removed: m,
+            record,
+            removed: gone,
         } => {
-            *said = subtract::record_numbers(c);
-            *removed = m;
+            *said = subtract::record_numbers(record);
+            *removed = gone;
             ACCEPTED
         }
     }
@@ -188,17 +188,17 @@ fn answered(answer: Answered, said: &mut [u64; 4], fault: &mut [u64; 3]) -> u8
 {
     match answer {
         Answered::Refused(r) => {
-            *said = subtract::NO_RECORD; // a refusal carries no count
+            *said = subtract::NO_RECORD; // a refusal carries no record
             *fault = refusal::fault(r);
             refusal::number(r)
         }
-        Answered::Skip(c) => {
-            *said = subtract::record_numbers(c);
+        Answered::Skip(record) => {
+            *said = subtract::record_numbers(record);
             *fault = refusal::NO_FAULT;
             ACCEPTED
         }
-        Answered::Keep(c) => {
-            *said = subtract::record_numbers(c);
+        Answered::Keep(record) => {
+            *said = subtract::record_numbers(record);
             *fault = refusal::NO_FAULT;
             ACCEPTED
         }

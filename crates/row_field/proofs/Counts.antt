@@ -120,12 +120,6 @@ rows-tally f a (suc k) = rw (length-cond (bit f a) a (rowsFrom f (a + 1) k)) (om
 pub count-le : (f : List ℕ) (n : ℕ) → count f n ≤ n
 count-le f n = rw rows-tally (tally-le (bit f) 0 n)
 
-pub count-same : (f g : List ℕ) (n : ℕ) → ((r : ℕ) → r < n → bit f r ≡ bit g r) → count f n ≡ count g n
-count-same f g n h =
-    let none : ℕ → Bool = λ r. false in
-    let split = tally-split (bit f) (bit g) none 0 n (λ r low high. rw (h r (omega arith)) (omega arith)) in
-    omega (arith, rows-tally f 0 n, rows-tally g 0 n, split, tally-none none 0 n (λ r low high. refl))
-
 pub count-none : (f : List ℕ) → count f 0 ≡ 0
 count-none f = rw rows-tally (tally-none (bit f) 0 0 (λ r l m. absurd (omega arith)))
 

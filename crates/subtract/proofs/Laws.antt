@@ -2,7 +2,7 @@
 -- time, and rows removed are those that were, less those that are left.
 use Prim.Native.Nat.{ℕ, zero, suc, _+_, _-_, _*_, _/_, _%_, _^_, _<_, _≤_, min}
 use mathlib.Core.Path.{_≡_, refl, sym, ap, _∙_}
-use mathlib.Core.Logic.{_≢_}
+use mathlib.Core.Logic.{_≢_, _↔_}
 use mathlib.Core.Bool.{Bool, true, false, not, cond, _&&_, _||_, and-true, and-false}
 use mathlib.Core.List.{List, [], _∷_, _++_}
 use native.Mathlib.Nat.{pow-suc, mod-eq-of-lt, div-eq-of-lt, mod-lt}
@@ -10,17 +10,18 @@ use native.Mathlib.Decide.{decLt, ℕ-discrete}
 use native.Mathlib.Omega.{arith}
 use lib.Bits.{bitAnd, and-step, and-shr, and-le-l}
 use lib.Dec.{eqb, ltb}
-use lib.ListN.{length, getD, set, length-set}
+use lib.ListN.{length, getD, set, length-set, List·getD-append}
+use lib.Seq.{set-append-left}
 use lib.Pow.{pow-pos, pow-lt, pow-mono}
-use borrow.Author.Tests.{eq-eqb, ne-eqb, lt-ltb, le-ltb}
+use borrow.Author.Tests.{eq-eqb, ne-eqb, eqb-true, lt-ltb, le-ltb, not-false}
 use Rattle.numbers.specs.Meaning.{Bytes}
 use Rattle.numbers.proofs.ByteLists.{bytes-set}
-use Rattle.row_field.specs.Meaning.{bit, rowsFrom, count}
+use Rattle.row_field.specs.Meaning.{bit, Below, rowsFrom, count}
 use Rattle.row_field.proofs.Laws.{digit, digit-suc, tick, bit-out, bit-set-same, bit-set-other, bit-set-kept, pow-digit-same, pow-digit-other, field-ext}
-use Rattle.row_field.proofs.RowLists.{rowsFrom-append}
-use Rattle.row_field.proofs.Marks.{member, member-rowsFrom, member-rowsFrom-out}
-use Rattle.row_field.proofs.Counts.{length-cond, tally, tally-split, rows-tally, low-half, low-odd}
-use Rattle.subtract.specs.Meaning.{unmark, without, setIn, subtracted, removed}
+use Rattle.row_field.proofs.RowLists.{rising-below, rowsFrom-append, rowsFrom-rising}
+use Rattle.row_field.proofs.Marks.{member, member-rowsFrom, member-rowsFrom-out, none-set}
+use Rattle.row_field.proofs.Counts.{length-cond, tally, tally-le, tally-split, rows-tally, none-counted, low-half, low-odd}
+use Rattle.subtract.specs.Meaning.{unmark, without, setIn, subtracted, removed, keeps}
 
 -- ---- binary digits
 
@@ -246,3 +247,68 @@ pub left-removed : (n : ℕ) (f g : List ℕ) → count (subtracted n f g) n + r
 left-removed n f g =
     let t = tally-split (bit f) (bit (subtracted n f g)) (both f g) 0 n (λ r a b. left-tick n f g r (omega arith)) in
     omega (arith, rows-tally f 0 n, rows-tally (subtracted n f g) 0 n, both-tally f g 0 n)
+
+-- nothing is left exactly if each row that was set is one of the second field's
+both-off : (x y : Bool) → (x ≡ true → y ≡ true) → x && not y ≡ false
+both-off true y h = rw (h refl)
+both-off false y h = refl
+
+module _ (n : ℕ) (f g : List ℕ) where
+  row-left : (r : ℕ) → r < n → bit (subtracted n f g) r ≡ bit f r && not (bit g r)
+  row-left r h = without-in n f g 0 r (omega arith) (omega arith)
+
+  pub none-left : (keeps (count (subtracted n f g) n) ≡ false) ↔ ((r : ℕ) → r < n → bit f r ≡ true → bit g r ≡ true)
+  unfolding keeps
+  none-left =
+      let left : List ℕ = subtracted n f g in (
+        λ h r l y.
+            let z : count left n ≡ 0 = eqb-true (count left n) 0 (not-false _ h) in
+            not-false _ (rw y at (sym (row-left r l) ∙ none-set left n z r l)),
+        λ h.
+            let z : count left n ≡ 0 = none-counted left n (λ r l. row-left r l ∙ both-off (bit f r) (bit g r) (h r l)) in
+            rw (eq-eqb (count left n) 0 z),
+      )
+
+-- rows that are removed are rows of the second field
+pub set-in-le : (f rs : List ℕ) → length (setIn f rs) ≤ length rs
+unfolding setIn
+set-in-le f [] = omega arith
+set-in-le f (r ∷ rs) = go (bit f r) (set-in-le f rs)
+  where
+    go : (b : Bool) → length (setIn f rs) ≤ length rs → length (cond b (r ∷ setIn f rs) (setIn f rs)) ≤ length (r ∷ rs)
+    go true h = omega arith
+    go false h = omega arith
+
+-- a row that is left is none of the second field's
+module _ (n : ℕ) (f g : List ℕ) where
+  abbrev either : ℕ → Bool
+  either r = bit (subtracted n f g) r || bit g r
+
+  apart : (x y : Bool) → tick (x && not y || y) ≡ tick (x && not y) + tick y
+  apart true true = refl
+  apart true false = refl
+  apart false true = refl
+  apart false false = refl
+
+  pub left-or-deleted : count (subtracted n f g) n + count g n ≤ n
+  left-or-deleted =
+      let split = tally-split either (bit (subtracted n f g)) (bit g) 0 n (λ r low high. rw (row-left n f g r (omega arith)) (apart (bit f r) (bit g r))) in
+      omega (arith, rows-tally (subtracted n f g) 0 n, rows-tally g 0 n, split, tally-le either 0 n)
+
+-- ---- a field at the front of a longer buffer
+
+unmark-front : (f t : List ℕ) (r : ℕ) → r < length f * 8 → unmark (f ++ t) r ≡ unmark f r ++ t
+unfolding unmark
+unmark-front f t r h =
+    let l : r / 8 < length f = omega arith in
+    rw (List·getD-append f t 0 (r / 8) l, set-append-left f t (r / 8) (bitAnd (getD f (r / 8) 0) (255 - 2 ^ (r % 8))) l)
+
+without-front : (f t rs : List ℕ) → Below (length f * 8) rs → without (f ++ t) rs ≡ without f rs ++ t
+unfolding without
+without-front f t [] b = refl
+without-front f t (r ∷ rs) b =
+    ap (λ (x : List ℕ). without x rs) (unmark-front f t r (b .0))
+    ∙ without-front (unmark f r) t rs (rw (length-unmark f r) (b .1))
+
+pub subtracted-front : (n : ℕ) (f t g : List ℕ) → n ≤ length f * 8 → subtracted n (f ++ t) g ≡ subtracted n f g ++ t
+subtracted-front n f t g h = without-front f t (rowsFrom g 0 n) (rising-below 0 (length f * 8) (rowsFrom g 0 n) (rowsFrom-rising g 0 (length f * 8) 0 n (omega arith) (omega arith)))

@@ -1,6 +1,6 @@
 -- The claims of specs/Claims.
 use mathlib.Core.Path.{refl}
-use Rattle.subtract.specs.Claims.{ClearsJustTheRows, KeepsTheLength, LeftAndRemoved, NumbersAreTheRecord, RecordIsCountedAfresh, RecordIsRefusedAlike}
+use Rattle.subtract.specs.Claims.{ClearsJustTheRows, KeepsTheLength, LeftAndRemoved, NumbersAreTheRecord, RecordIsCountedAfresh, RefusedAsSubtract}
 use Rattle.subtract.specs.Reading.{bufferBy}
 use Rattle.subtract.proofs.Laws.{bit-subtracted, length-subtracted, left-removed}
 use Rattle.subtract.proofs.WithRecord.{counted-afresh, refused-alike, refused-for}
@@ -20,8 +20,8 @@ numbers-are-the-record c = refl
 pub record-is-counted-afresh : RecordIsCountedAfresh
 record-is-counted-afresh = counted-afresh
 
-pub record-is-refused-alike : RecordIsRefusedAlike
+pub refused-as-subtract : RefusedAsSubtract
 unfolding bufferBy
-record-is-refused-alike given f g r =
+refused-as-subtract given f g r =
     let both = refused-alike given f g r in
     (both, λ e. let s = both .0 e in (refused-for (given .rows) f g r s, rw s))

@@ -26,7 +26,7 @@ use Rattle.subtract.specs.Meaning.{setIn, subtracted, removed, recordNum
 use Rattle.subtract.specs.Reading.{Counts, subtraction, bufferBy, subtractBuffer, subtractedBy, RecordCounts, replaced, recordSubtraction, recordSubtractedBy, recordSubtractOut, recordSubtractNumbers}
 use Rattle.subtract.specs.Promises.{SubtractPromise, SubtractRecordPromise}
 use Rattle.subtract.specs.Claims.{CountedAfresh}
-use Rattle.subtract.proofs.Laws.{bit-subtracted, length-subtracted, left-removed}
+use Rattle.subtract.proofs.Laws.{left-removed, none-left, set-in-le, left-or-deleted}
 
 -- ---- the answer
 
@@ -50,23 +50,23 @@ record-numbers (ok a) = go (keeps (a .said .matched))
     go true = refl
     go false = refl
 
-module _ (c : Record) (f g : List ℕ) {s : Subtracted} {after : List ℕ} (p : SubtractPromise (c .rows) f g after s) where
-  was-read : {case : Subtracted} → s ≡ case → subtraction (c .rows) f g ≡ readingOf case
-  was-read e = sym (reading-back (subtraction (c .rows) f g)) ∙ ap readingOf (sym (p .answer) ∙ e)
+module _ (given : Record) (f g : List ℕ) {s : Subtracted} {after : List ℕ} (p : SubtractPromise (given .rows) f g after s) where
+  was-read : {case : Subtracted} → s ≡ case → subtraction (given .rows) f g ≡ readingOf case
+  was-read e = sym (reading-back (subtraction (given .rows) f g)) ∙ ap readingOf (sym (p .answer) ∙ e)
 
-  says : {r : RecordSubtracted} → r ≡ recordSubtractedBy (recordSubtraction c f g) → SubtractRecordPromise c f g after r
-  says e = record { answer = e; buffer = p .buffer; numbers = ap recordSubtractOut e ∙ record-numbers (recordSubtraction c f g) }
+  says : {r : RecordSubtracted} → r ≡ recordSubtractedBy (recordSubtraction given f g) → SubtractRecordPromise given f g after r
+  says e = record { answer = e; buffer = p .buffer; numbers = ap recordSubtractOut e ∙ record-numbers (recordSubtraction given f g) }
 
-  pub record-refused : {r : Refusal} → s ≡ Subtracted.Refused r → SubtractRecordPromise c f g after (RecordSubtracted.Refused r)
+  pub record-refused : {r : Refusal} → s ≡ Subtracted.Refused r → SubtractRecordPromise given f g after (RecordSubtracted.Refused r)
   unfolding recordSubtraction recordSubtractedBy andThen readingOf
   record-refused e = says (rw (was-read e))
 
-  module _ {left gone deleted : ℕ} (e : s ≡ Done left gone) (d : deleted ≡ count g (c .rows)) {then : Record} (n : then ≡ replaced c deleted left) where
-    pub says-skip : left ≡ 0 → SubtractRecordPromise c f g after (Skip then gone)
+  module _ {left gone deleted : ℕ} (e : s ≡ Done left gone) (d : deleted ≡ count g (given .rows)) {then : Record} (n : then ≡ replaced given deleted left) where
+    pub says-skip : left ≡ 0 → SubtractRecordPromise given f g after (Skip then gone)
     unfolding recordSubtraction recordSubtractedBy andThen readingOf keeps
     says-skip z = says (rw (was-read e, n, d, eq-eqb left 0 z))
 
-    pub says-keep : (left ≡ 0 → ⊥) → SubtractRecordPromise c f g after (Keep then gone)
+    pub says-keep : (left ≡ 0 → ⊥) → SubtractRecordPromise given f g after (Keep then gone)
     unfolding recordSubtraction recordSubtractedBy andThen readingOf keeps
     says-keep z = says (rw (was-read e, n, d, ne-eqb left 0 z))
 
@@ -86,68 +86,21 @@ module _ (n : ℕ) (f g : List ℕ) (counts : Counts) (e : subtraction n f g ≡
       let (room′, last) = check-ok _ _ _ counts second in
       cc
 
--- nothing is left exactly if each row that was set is one of the second field's
-both-off : (x y : Bool) → (x ≡ true → y ≡ true) → x && not y ≡ false
-both-off true y h = rw (h refl)
-both-off false y h = refl
-
-module _ (n : ℕ) (f g : List ℕ) where
-  row-left : (r : ℕ) → r < n → bit (subtracted n f g) r ≡ bit f r && not (bit g r)
-  row-left r h = bit-subtracted n f g r ∙ rw (lt-ltb r n h)
-
-  pub none-left : (keeps (count (subtracted n f g) n) ≡ false) ↔ ((r : ℕ) → r < n → bit f r ≡ true → bit g r ≡ true)
-  unfolding keeps
-  none-left =
-      let left : List ℕ = subtracted n f g in (
-        λ h r l y.
-            let z : count left n ≡ 0 = eqb-true (count left n) 0 (not-false _ h) in
-            not-false _ (rw y at (sym (row-left r l) ∙ none-set left n z r l)),
-        λ h.
-            let z : count left n ≡ 0 = none-counted left n (λ r l. row-left r l ∙ both-off (bit f r) (bit g r) (h r l)) in
-            rw (eq-eqb (count left n) 0 z),
-      )
-
--- rows that are removed are rows of the second field
-set-in-le : (f rs : List ℕ) → length (setIn f rs) ≤ length rs
-unfolding setIn
-set-in-le f [] = omega arith
-set-in-le f (r ∷ rs) = go (bit f r) (set-in-le f rs)
-  where
-    go : (b : Bool) → length (setIn f rs) ≤ length rs → length (cond b (r ∷ setIn f rs) (setIn f rs)) ≤ length (r ∷ rs)
-    go true h = omega arith
-    go false h = omega arith
-
--- a row that is left is none of the second field's
-module _ (n : ℕ) (f g : List ℕ) where
-  abbrev either : ℕ → Bool
-  either r = bit (subtracted n f g) r || bit g r
-
-  apart : (x y : Bool) → tick (x && not y || y) ≡ tick (x && not y) + tick y
-  apart true true = refl
-  apart true false = refl
-  apart false true = refl
-  apart false false = refl
-
-  pub left-or-deleted : count (subtracted n f g) n + count g n ≤ n
-  left-or-deleted =
-      let split = tally-split either (bit (subtracted n f g)) (bit g) 0 n (λ r low high. rw (row-left n f g r (omega arith)) (apart (bit f r) (bit g r))) in
-      omega (arith, rows-tally (subtracted n f g) 0 n, rows-tally g 0 n, split, tally-le either 0 n)
-
-pub counted-afresh : (c : Record) (f g : List ℕ) (a : RecordCounts) → recordSubtraction c f g ≡ ok a → CountedAfresh c f g a
+pub counted-afresh : (given : Record) (f g : List ℕ) (a : RecordCounts) → recordSubtraction given f g ≡ ok a → CountedAfresh given f g a
 unfolding recordSubtraction
-counted-afresh c f g a e =
-    let n : ℕ = c .rows in
+counted-afresh given f g a e =
+    let n : ℕ = given .rows in
     let (counts, done, is) = then-ok (subtraction n f g) _ a e in
     let buffer = its-buffer n f g counts done in
     let left : counts .left ≡ count (subtracted n f g) n = ap (λ (x : Counts). x .left) (its-counts n f g counts done) in
     let gone : counts .removed ≡ removed n f g = ap (λ (x : Counts). x .removed) (its-counts n f g counts done) in
-    let same : a ≡ record { said = record { rows = n; nulls = c .nulls; deleted = count g n; matched = counts .left }; removed = counts .removed } = cc in
+    let same : a ≡ record { said = record { rows = n; nulls = given .nulls; deleted = count g n; matched = counts .left }; removed = counts .removed } = cc in
     let matched : a .said .matched ≡ count (subtracted n f g) n = ap (λ (x : RecordCounts). x .said .matched) same ∙ left in
     let taken : a .removed ≡ removed n f g = ap (λ (x : RecordCounts). x .removed) same ∙ gone in
     let deleted : a .said .deleted ≡ count g n = ap (λ (x : RecordCounts). x .said .deleted) same in
     let rows : a .said .rows ≡ n = ap (λ (x : RecordCounts). x .said .rows) same in
     record {
-      matched = rw buffer matched;
+      matched = matched;
       with-removed = rw (matched, taken) (left-removed n f g);
       deleted = deleted;
       rows = rows;
@@ -155,8 +108,7 @@ counted-afresh c f g a e =
       skip = rw matched (none-left n f g);
       removed-deleted = rw (taken, deleted) (set-in-le f (rowsFrom g 0 n));
       together = rw (matched, deleted, rows) (left-or-deleted n f g);
-      bits = λ r. rw buffer (bit-subtracted n f g r);
-      long = rw buffer (length-subtracted n f g);
+      buffer = buffer;
     }
 
 -- ---- refusals

@@ -34,7 +34,7 @@ NumbersAreTheRecord = (said : Record) → recordOf (recordNumbers said) ≡ said
 -- what is handed back for the record `given`, of a first field f and a second g, where it is accepted
 pub record CountedAfresh (given : Record) (f g : List ℕ) (a : RecordCounts) : Type 0 where
   -- "Matched is counted afresh, as rows left in the first; plus removed, it equals the rows set there before"
-  pub matched : a .said .matched ≡ count (subtractBuffer (given .rows) f g) (given .rows)
+  pub matched : a .said .matched ≡ count (subtracted (given .rows) f g) (given .rows)
   pub with-removed : a .said .matched + a .removed ≡ count f (given .rows)
   -- "Deleted then counts all rows set below that count in the second field"
   pub deleted : a .said .deleted ≡ count g (given .rows)
@@ -46,16 +46,15 @@ pub record CountedAfresh (given : Record) (f g : List ℕ) (a : RecordCounts) : 
   -- rows removed are among the deleted ones, and these and the rows that match are different rows
   pub removed-deleted : a .removed ≤ a .said .deleted
   pub together : a .said .matched + a .said .deleted ≤ a .said .rows
-  -- in the first buffer the bit of a row is cleared if the second has it; every other bit and the length stay
-  pub bits : (r : ℕ) → bit (subtractBuffer (given .rows) f g) r ≡ bit f r && not (ltb r (given .rows) && bit g r)
-  pub long : length (subtractBuffer (given .rows) f g) ≡ length f
+  -- the first buffer is as Subtract leaves it: what stands for no row below the row count stays (`ClearsJustTheRows`, `KeepsTheLength`)
+  pub buffer : subtractBuffer (given .rows) f g ≡ subtracted (given .rows) f g
 
 abbrev pub RecordIsCountedAfresh : Type 0
 RecordIsCountedAfresh = (given : Record) (f g : List ℕ) (a : RecordCounts) → recordSubtraction given f g ≡ ok a → CountedAfresh given f g a
 
--- it is refused exactly as Subtract of its row count, for LIMIT or ROOM, whatever its other numbers are; the first buffer then stays
-abbrev pub RecordIsRefusedAlike : Type 0
-RecordIsRefusedAlike =
+-- Subtract with a record is refused exactly as Subtract with its row count, for LIMIT or ROOM, whatever its other numbers are; the first buffer then stays
+abbrev pub RefusedAsSubtract : Type 0
+RefusedAsSubtract =
     (given : Record) (f g : List ℕ) (r : Refusal)
     → ((recordSubtraction given f g ≡ refuse r) ↔ (subtraction (given .rows) f g ≡ refuse r))
     × (recordSubtraction given f g ≡ refuse r → ((r ≡ Limit) ⊎ (r ≡ Room)) × (subtractBuffer (given .rows) f g ≡ f))

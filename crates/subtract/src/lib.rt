@@ -26,7 +26,7 @@ pub struct Record {
     pub matched: u64,
 }
 
-// A record in numbers where there is none: with a refusal, and with ABSENT.
+// The numbers of a record where there is none.
 pub const NO_RECORD: [u64; 4] = [0, 0, 0, 0];
 
 // What Subtract with a record answers: a refusal; or the record as it is then, and how many rows were removed: skip where no row is left, else keep.
@@ -134,7 +134,7 @@ pub fn record_numbers(given: Record) -> [u64; 4]
     [given.rows, given.nulls, given.deleted, given.matched]
 }
 
-// The record that four numbers stand for, in that order.
+// The record that four numbers stand for, in the order of `record_numbers`.
 pub fn record_of(numbers: [u64; 4]) -> Record
     ensures { λ r. ⌜ r ≡ recordOf numbers ⌝ }
 {

@@ -38,7 +38,7 @@ fn case(name: &[u8], bytes: [u8; 4], second: [u8; 4], rows: u64) {
     say_field(first);
 }
 
-fn say_record(record: Record, removed: u64) {
+fn say_counts(record: Record, removed: u64) {
     say(b", rows ", record.rows);
     say(b", nulls ", record.nulls);
     say(b", deleted ", record.deleted);
@@ -46,8 +46,8 @@ fn say_record(record: Record, removed: u64) {
     say(b", removed ", removed);
 }
 
-// The record that is handed back; the one that was given where it is refused.
-fn handed_back(answer: RecordSubtracted, given: Record) -> Record {
+// Says the answer, and gives the record that is handed back; the one that was given where it is refused.
+fn say_handed_back(answer: RecordSubtracted, given: Record) -> Record {
     match answer {
         RecordSubtracted::Refused(r) => {
             say(b": refused ", wide(refusal::number(r)));
@@ -55,25 +55,25 @@ fn handed_back(answer: RecordSubtracted, given: Record) -> Record {
         }
         RecordSubtracted::Skip { record, removed } => {
             io::write_all(STDOUT_FILENO, b": skip");
-            say_record(record, removed);
+            say_counts(record, removed);
             record
         }
         RecordSubtracted::Keep { record, removed } => {
             io::write_all(STDOUT_FILENO, b": keep");
-            say_record(record, removed);
+            say_counts(record, removed);
             record
         }
     }
 }
 
 // Subtracts one field and then another, each time with the record as it is then.
-fn twice(name: &[u8], bytes: [u8; 4], second: [u8; 4], third: [u8; 4], given: Record) {
+fn in_turn(name: &[u8], bytes: [u8; 4], second: [u8; 4], third: [u8; 4], given: Record) {
     let mut first = bytes;
     io::write_all(STDOUT_FILENO, name);
-    let then = handed_back(subtract::subtract_record(&mut first, &second, given), given);
+    let then = say_handed_back(subtract::subtract_record(&mut first, &second, given), given);
     say_field(first);
     io::write_all(STDOUT_FILENO, b"  then");
-    let _ = handed_back(subtract::subtract_record(&mut first, &third, then), then);
+    let _ = say_handed_back(subtract::subtract_record(&mut first, &third, then), then);
     say_field(first);
 }
 
@@ -133,7 +133,7 @@ fn main() {
         [0xFF, 0xFF, 0xFF, 0xFF],
         2147483648,
     );
-    twice(
+    in_turn(
         b"an answer of six rows, two of them null",
         [0x3F, 0, 0, 0],
         [0x25, 0, 0, 0],
@@ -145,7 +145,7 @@ fn main() {
             matched: 6,
         },
     );
-    twice(
+    in_turn(
         b"deleted rows that were not chosen",
         [0x30, 0, 0, 0],
         [0x0F, 0, 0, 0],
@@ -157,7 +157,7 @@ fn main() {
             matched: 2,
         },
     );
-    twice(
+    in_turn(
         b"what the record had is replaced",
         [0xFF, 0x0F, 0, 0],
         [0x11, 0xFF, 0, 0],
@@ -169,7 +169,7 @@ fn main() {
             matched: 99,
         },
     );
-    twice(
+    in_turn(
         b"dirty spare bits and bytes behind",
         [0xFF, 0xFF, 0xFF, 0xFF],
         [0x0F, 0xFF, 0xFF, 0xFF],
@@ -181,7 +181,7 @@ fn main() {
             matched: 13,
         },
     );
-    twice(
+    in_turn(
         b"no rows left",
         [0x12, 0x34, 0x56, 0x78],
         [0xFF, 0xFF, 0xFF, 0xFF],
@@ -193,7 +193,7 @@ fn main() {
             matched: 13,
         },
     );
-    twice(
+    in_turn(
         b"no rows at all",
         [0xFF, 0xAA, 0xBB, 0xCC],
         [0xFF, 0xFF, 0xFF, 0xFF],
@@ -205,7 +205,7 @@ fn main() {
             matched: 9,
         },
     );
-    twice(
+    in_turn(
         b"one row too many",
         [0x12, 0x34, 0x56, 0x78],
         [0xFF, 0xFF, 0xFF, 0xFF],
@@ -217,7 +217,7 @@ fn main() {
             matched: 3,
         },
     );
-    twice(
+    in_turn(
         b"the greatest row count",
         [0x12, 0x34, 0x56, 0x78],
         [0xFF, 0xFF, 0xFF, 0xFF],
@@ -229,7 +229,7 @@ fn main() {
             matched: 3,
         },
     );
-    twice(
+    in_turn(
         b"past the limit",
         [0x12, 0x34, 0x56, 0x78],
         [0xFF, 0xFF, 0xFF, 0xFF],
@@ -241,7 +241,7 @@ fn main() {
             matched: 3,
         },
     );
-    twice(
+    in_turn(
         b"the greatest numbers",
         [0x12, 0x34, 0x56, 0x78],
         [0x10, 0x10, 0x10, 0x10],
