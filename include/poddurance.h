@@ -117,8 +117,8 @@ typedef struct {
     uint64_t row;
 } poddurance_fault;
 
-/* What a graph may claim of its rows, as 'drawn from 970 of 1,000 rows', matched of rows. All 0 with any answer but 0. Lent as the counts are. Ask and Ask of a
- * file write it and don't read it; Subtract record takes all of it, uses its row count, and writes it.
+/* What a graph may claim of its rows, as 'drawn from 970 of 1,000 rows', matched of rows. All 0 with any answer but 0. Where it may lie is said at the top. Ask
+ * and Ask of a file write it and don't read it; Subtract record reads rows and nulls and writes all four: what stood in deleted and matched makes no difference.
  *
  * rows     the row count of the index. Subtract record leaves it.
  * nulls    how many rows are null: those of null's bitmap, 0 where has-null is 0, for each question and edition. Subtract record leaves it: null rows that are

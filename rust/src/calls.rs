@@ -303,10 +303,16 @@ pub fn ask_file(
 /// }
 /// # Ok::<(), poddurance::Error>(())
 /// ```
-#[derive(Clone, Debug, PartialEq, Eq)]
+#[derive(Debug, PartialEq, Eq)]
 pub struct Answer {
     field: RowField,
     record: Record,
+}
+
+impl Clone for Answer {
+    fn clone(&self) -> Answer {
+        Answer { field: self.field.clone(), record: self.record.copied() }
+    }
 }
 
 impl Answer {
@@ -337,8 +343,8 @@ impl Answer {
     /// # Ok::<(), poddurance::Error>(())
     /// ```
     #[must_use]
-    pub fn record(&self) -> Record {
-        self.record
+    pub fn record(&self) -> &Record {
+        &self.record
     }
 
     /// The rows that are chosen, of all rows of the body.
@@ -544,6 +550,9 @@ pub struct Subtracted {
 /// The two fields and the record must be of the same number of rows: another is [`Error::RowsDiffer`] and changes nothing. The record
 /// should be that of the answer that `first` came with; its null rows are handed on as they are.
 ///
+/// The record goes in by value, so that the one from before can't be printed for what is left. With an error it is gone: rows whose
+/// deleted ones couldn't be taken away are no answer.
+///
 /// ```
 /// use poddurance::{ask, subtract_record, Edition, Error, Literals, Question, RowField, Type};
 ///
@@ -562,7 +571,7 @@ pub struct Subtracted {
 /// assert!(rows.iter().eq([0]));
 ///
 /// let other = RowField::all_of(4)?;
-/// assert_eq!(subtract_record(&mut rows, &other, record), Err(Error::RowsDiffer { expected: 3, found: 4 }));
+/// assert_eq!(subtract_record(&mut rows, &other, subtracted.record), Err(Error::RowsDiffer { expected: 3, found: 4 }));
 /// assert!(rows.iter().eq([0]));
 /// # Ok::<(), Error>(())
 /// ```
@@ -582,13 +591,15 @@ pub fn subtract_record(first: &mut RowField, second: &RowField, record: Record) 
 /// // One row, null.
 /// let body = [1, 0, 0, 0, 1, 0, 0, 0, 0, 1, 255, 255, 255, 255];
 /// let answer = ask(&body, Edition::Second, Question::IsNull, &Literals::none(Type::Int), RowField::for_body(&body))?;
-/// let (mut rows, before) = answer.into_parts();
-/// let subtracted = subtract_record(&mut rows, &RowField::all_of(1)?, before)?;
-/// assert_eq!(subtracted.record.matched() + subtracted.removed, before.matched());
+/// let (mut rows, record) = answer.into_parts();
+/// let chosen = record.matched();
+/// let subtracted = subtract_record(&mut rows, &RowField::all_of(1)?, record)?;
+/// assert_eq!(subtracted.record.matched() + subtracted.removed, chosen);
 /// assert!(subtracted.record.is_skip());
 /// # Ok::<(), poddurance::Error>(())
 /// ```
-#[derive(Clone, Copy, Debug, PartialEq, Eq, Hash)]
+#[derive(Debug, PartialEq, Eq, Hash)]
+#[must_use = "it has the record of the rows that are left; the one that was handed in is gone"]
 pub struct RecordSubtracted {
     /// The record of what is left.
     pub record: Record,

@@ -4,7 +4,7 @@
 //! A thin layer over an archive that is written and proved in Rattle. Document 01, the rules and scope of the library, decides
 //! what each call answers and which [`Refusal`] it gives. [`ask_file`] goes from an index file to the answer; [`locate`],
 //! [`audit`] and [`ask`] are its steps. [`read_deletions`] and [`subtract_record`] take the deleted rows away, [`subtract`] where there is
-//! no answer. The [`Record`] that comes with an answer is what a graph may claim of its rows.
+//! no index, and so no record. The [`Record`] that comes with an answer is what a graph may claim of its rows.
 //!
 //! Which rows of a data file hold another value than 7, without the deleted ones?
 //!

@@ -1,8 +1,8 @@
 //! The seven calls as the archive has them: numbers in, numbers out, over buffers that the caller keeps.
 //!
 //! Each call answers [`ACCEPTED`], [`ABSENT`] ([`locate`] and [`ask_file`] alone) or the number of a [`Refusal`](crate::Refusal),
-//! and then its counts, of [`ask`] and [`ask_file`] the [`Record`], which are 0 unless the call accepts; those that read bitmaps answer
-//! last the [`Fault`], where a refusal's cause is.
+//! and then its counts, of [`ask`], [`ask_file`] and [`subtract_record`] the [`Record`], which are 0 unless the call accepts; those that
+//! read bitmaps answer last the [`Fault`], where a refusal's cause is.
 //! These functions are for callers that reuse their own buffers; the functions at the top of the crate keep a field and its row count
 //! together and are harder to use wrongly.
 //!

@@ -36,12 +36,33 @@ use crate::raw;
 /// # Ok::<(), poddurance::Error>(())
 /// ```
 ///
+/// It can't be copied: the one that went into [`subtract_record`](crate::subtract_record) is gone, and can't be printed for what is left.
+///
+/// ```compile_fail,E0382
+/// # use poddurance::{ask, subtract_record, Edition, Literals, Question, RowField, Type};
+/// # // One row, null.
+/// # let body = [1, 0, 0, 0, 1, 0, 0, 0, 0, 1, 255, 255, 255, 255];
+/// # let deleted = RowField::all_of(1)?;
+/// # let answer = ask(&body, Edition::Second, Question::IsNull, &Literals::none(Type::Int), RowField::for_body(&body))?;
+/// let (mut rows, record) = answer.into_parts();
+/// let left = subtract_record(&mut rows, &deleted, record)?.record;
+/// println!("{record}"); // what may be printed is `left`
+/// # Ok::<(), poddurance::Error>(())
+/// ```
+///
+/// Nor can it be cloned; an [`Answer`](crate::Answer) can, rows and record together.
+///
+/// ```compile_fail,E0277
+/// fn clones<T: Clone>() {}
+/// clones::<poddurance::Record>();
+/// ```
+///
 /// A program can't write one of its own:
 ///
-/// ```compile_fail
+/// ```compile_fail,E0451
 /// let record = poddurance::Record { rows: 1_000, nulls: 10, deleted: 0, matched: 990 };
 /// ```
-#[derive(Clone, Copy, Debug, PartialEq, Eq, Hash)]
+#[derive(Debug, PartialEq, Eq, Hash)]
 pub struct Record {
     // Private, and there is no other way in than `accepted`: who has a record has an accepted call's.
     rows: u64,
@@ -54,6 +75,12 @@ impl Record {
     /// That of a call which the library accepted.
     pub(crate) fn accepted(record: raw::Record) -> Record {
         let raw::Record { rows, nulls, deleted, matched } = record;
+        Record { rows, nulls, deleted, matched }
+    }
+
+    /// For the clone of an answer alone, where the rows come along.
+    pub(crate) fn copied(&self) -> Record {
+        let Record { rows, nulls, deleted, matched } = *self;
         Record { rows, nulls, deleted, matched }
     }
 
@@ -111,7 +138,7 @@ impl Record {
         self.deleted
     }
 
-    /// How many rows are chosen, and behind [`subtract_record`](crate::subtract_record) how many are left of them.
+    /// How many rows are chosen, and after [`subtract_record`](crate::subtract_record) how many are left of them.
     ///
     /// ```
     /// # use poddurance::{ask, subtract_record, Edition, Literals, Question, RowField, Type};
@@ -180,6 +207,7 @@ mod tests {
         let numbers = raw::Record { rows: 4, nulls: 3, deleted: 2, matched: 1 };
         let record = Record::accepted(numbers);
         assert_eq!((record.rows(), record.nulls(), record.deleted(), record.matched()), (4, 3, 2, 1));
+        assert_eq!(record.copied(), record);
         assert_eq!(record.raw(), numbers);
     }
 }

@@ -406,8 +406,16 @@ fn an_index_of_another_row_count_than_the_data_file() {
     let (audit, ask) = (["audit", file, "s", "TINYINT"], ["ask", file, "s", "TINYINT", "EQUAL"]);
     says(&[&audit[..], &["--row-count", "3"]].concat(), 0, "accepted: 3 rows, each in exactly one place");
     says(&[&ask[..], &["7", "--row-count", "3"]].concat(), 0, "keep: drawn from 1 of 3 rows (deletions not applied, 1 null)");
-    for rows in ["0", "2", "4", "8", "9", "1000", "18446744073709551615"] {
-        let line = &format!("refused: the index is of 3 rows, the data file has {rows}");
+    for (rows, shown) in [
+        ("0", "0"),
+        ("2", "2"),
+        ("4", "4"),
+        ("8", "8"),
+        ("9", "9"),
+        ("1000", "1,000"),
+        ("18446744073709551615", "18,446,744,073,709,551,615"),
+    ] {
+        let line = &format!("refused: the index is of 3 rows, the data file has {shown}");
         says(&[&audit[..], &["--row-count", rows]].concat(), 3, line);
         says(&[&ask[..], &["7", "--row-count", rows]].concat(), 3, line);
         says(&[&ask[..], &["8", "--row-count", rows]].concat(), 3, line);
@@ -489,7 +497,7 @@ fn asks_with_deletions() {
     );
 }
 
-/// The sentence that document 02 wants on a graph, with commas in each number of the line and in none of JSON's.
+/// The sentence that document 02 wants on a graph, with commas in each count of rows of a line and in none of JSON's numbers.
 #[test]
 fn thousands_have_commas() {
     let folder = Folder::new();
@@ -524,6 +532,26 @@ fn thousands_have_commas() {
         0,
         r#"{"answer":"keep","rows":65000,"nulls":1500,"deleted":2000,"matched":63000,"removed":500}"#,
     );
+
+    // The other commands that say how many rows.
+    let audit = ["audit", index, "s", "TINYINT"];
+    says(&audit, 0, "accepted: 65,000 rows, each in exactly one place");
+    says(&[&audit[..], &["--json"]].concat(), 0, r#"{"answer":"accepted","rows":65000}"#);
+    let of_another = [&audit[..], &["--row-count", "1000000"]].concat();
+    says(&of_another, 3, "refused: the index is of 65,000 rows, the data file has 1,000,000");
+    says(
+        &[&of_another[..], &["--json"]].concat(),
+        3,
+        r#"{"answer":"refused","file":"index","name":null,"number":null,"meaning":"the index is of 65000 rows, the data file has 1000000"}"#,
+    );
+    let listed = ["deletions", deletions, "1", "65000", "--rows"];
+    says(&listed, 0, "deleted: 2,000 of 65,000 rows\nrows: 0-1999");
+    says(&[&listed[..], &["--json"]].concat(), 0, r#"{"answer":"deleted","count":2000,"rows":65000,"ranges":[[0,1999]]}"#);
+    // A row's number has none.
+    let mut lost = body(1_000, 10);
+    lost[51] += 1;
+    let lost = &folder.write("lost", &lost);
+    says(&["audit", lost, "s", "TINYINT"], 3, "refused: MISSING (9), a row never placed: row 1000");
 }
 
 #[test]

@@ -221,16 +221,16 @@ fn lines_have_the_numbers_of_the_calls() {
             // The record as a type, and its sentence.
             let field = || RowField::for_rows(24).unwrap();
             let answer = ask_file(&[], &index, column, "bitmap", edition, question, literals, field()).unwrap().unwrap();
-            let (mut rows, before) = answer.into_parts();
+            let (mut rows, record) = answer.clone().into_parts();
             let deleted = read_deletions(&deletions, 0, field()).unwrap();
-            let after = subtract_record(&mut rows, deleted.field(), before).unwrap();
+            let after = subtract_record(&mut rows, deleted.field(), record).unwrap();
             assert_eq!((rows.as_bytes(), after.removed), (&first[..], removed), "{words:?}");
 
             // The command line.
             let with_deletions = ["--deletions", "demo/pumps.deletions", "--bin", "0"];
             for (said, numbers, more, deleted, removed) in [
-                (before, expected, &[][..], None, None),
-                (after.record, left, &with_deletions, Some(left.deleted), Some(removed)),
+                (answer.record(), expected, &[][..], None, None),
+                (&after.record, left, &with_deletions, Some(left.deleted), Some(removed)),
             ] {
                 let Record { rows, nulls, matched, .. } = numbers;
                 assert_eq!((said.rows(), said.nulls(), said.deleted(), said.matched()), (rows, nulls, numbers.deleted, matched));

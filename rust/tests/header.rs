@@ -37,6 +37,7 @@ fn names_have_the_numbers_of_the_rust_crate() {
 
 const PROGRAM: &str = r#"
 #include <stdio.h>
+#include <stdlib.h>
 #include "poddurance.h"
 
 DELETIONS
@@ -48,6 +49,11 @@ static const char *named(uint8_t answer) {
     switch (answer) {
     case PODDURANCE_ACCEPTED: return "accepted";
     case PODDURANCE_ABSENT: return "absent";
+    case PODDURANCE_REFUSED_SHORT: return "SHORT";
+    case PODDURANCE_REFUSED_MAGIC: return "MAGIC";
+    case PODDURANCE_REFUSED_VERSION: return "VERSION";
+    case PODDURANCE_REFUSED_HEAD: return "HEAD";
+    case PODDURANCE_REFUSED_DICT: return "DICT";
     case PODDURANCE_REFUSED_BITMAP: return "BITMAP";
     case PODDURANCE_REFUSED_RANGE: return "RANGE";
     case PODDURANCE_REFUSED_TWICE: return "TWICE";
@@ -117,7 +123,7 @@ static void ask_both(uint32_t question, const uint8_t *literals, size_t length) 
     ask_in(PODDURANCE_EDITION_2, question, literals, length);
 }
 
-/* The file with one byte changed: Audit and Ask of its body and Ask of the file say the same. */
+/* The file with one byte changed: Audit and Ask of its body and Ask of the file say the same, unless the byte is in the head, which Ask of the file alone reads. */
 static void change(size_t place, uint8_t byte) {
     uint8_t bytes[sizeof file], field[1];
     size_t i;
@@ -140,6 +146,25 @@ static void change(size_t place, uint8_t byte) {
     say_record(answer, at);
     say_fault(at);
     printf("\n");
+}
+
+/* TINYINT, edition 2, IN: of a body, then of a file, with so much room for the field. */
+static void ask_lent(const uint8_t *body, size_t body_length, const uint8_t *bytes, size_t length, const uint8_t *literals, size_t literals_length,
+                     size_t room) {
+    uint8_t field[1] = {0xAA};
+    guarded at = other;
+    uint8_t answer = poddurance_ask(body, body_length, PODDURANCE_TYPE_TINYINT, PODDURANCE_EDITION_2, PODDURANCE_QUESTION_IN, literals, literals_length,
+                                    field, room, &at.record, &at.fault);
+    say_record(answer, at);
+    say_fault(at);
+    printf(", %02X; ", field[0]);
+    field[0] = 0xAA;
+    at = other;
+    answer = poddurance_ask_file(bytes, 0, bytes, length, (const uint8_t *)"s", 1, (const uint8_t *)"bitmap", 6, PODDURANCE_TYPE_TINYINT,
+                                 PODDURANCE_EDITION_2, PODDURANCE_QUESTION_IN, literals, literals_length, field, room, &at.record, &at.fault);
+    say_record(answer, at);
+    say_fault(at);
+    printf(", %02X\n", field[0]);
 }
 
 /* Rows 5 and 65542 as two arrays, the second cut off or not, for so many rows. */
@@ -172,7 +197,15 @@ static void subtract_record(uint64_t rows, size_t first_length, size_t second_le
 }
 
 int main(void) {
+    static const uint8_t many[1025] = {0};
     const uint8_t seven[] = {7}, eight[] = {8};
+    const size_t too_long = 2147483648u;
+    /* No call touches it, so that it takes no room. */
+    uint8_t *const untouched = (uint8_t *)calloc(too_long, 1);
+    if (!untouched) {
+        printf("no 2 GiB to lend\n");
+        return 1;
+    }
     ask_both(PODDURANCE_QUESTION_EQUAL, seven, sizeof seven);
     ask_both(PODDURANCE_QUESTION_NOT_EQUAL, seven, sizeof seven);
     ask_both(PODDURANCE_QUESTION_EQUAL, eight, sizeof eight);
@@ -186,6 +219,21 @@ int main(void) {
     change(70, 0xFC);
     change(70, 0xFF);
     change(51, 4);
+    change(0, 1);
+    change(11, 2);
+    change(42, 0x19);
+    change(47, 3);
+    change(54, 0x11);
+    change(55, 3);
+    change(66, 7);
+    ask_lent(file + 47, 24, file, sizeof file, many, 1024, 1);
+    ask_lent(file + 47, 24, file, sizeof file, many, 1025, 1);
+    ask_lent(file + 47, 24, file, sizeof file, untouched, too_long, 1);
+    ask_lent(untouched, too_long, untouched, too_long, seven, sizeof seven, 1);
+    free(untouched);
+    ask_lent(file + 47, 23, file, 11, seven, sizeof seven, 1);
+    ask_lent(file + 47, 0, file, 0, seven, sizeof seven, 1);
+    ask_lent(file + 47, 24, file, sizeof file, seven, sizeof seven, 0);
     delete_rows(whole, sizeof whole, 65543);
     delete_rows(whole, sizeof whole, 65542);
     delete_rows(cut, sizeof cut, 65543);
@@ -231,6 +279,20 @@ BITMAP, 0, entry 2, container 0, row 0; BITMAP, 0 of 0 rows, 0 null, 0 deleted, 
 RANGE, 0, entry 2, container 0, row 0; RANGE, 0 of 0 rows, 0 null, 0 deleted, entry 2, container 0, row 0; RANGE, 0 of 0 rows, 0 null, 0 deleted, entry 2, container 0, row 0
 TWICE, 0, entry 2, container 0, row 0; TWICE, 0 of 0 rows, 0 null, 0 deleted, entry 2, container 0, row 0; TWICE, 0 of 0 rows, 0 null, 0 deleted, entry 2, container 0, row 0
 MISSING, 0, entry 0, container 0, row 3; MISSING, 0 of 0 rows, 0 null, 0 deleted, entry 0, container 0, row 3; MISSING, 0 of 0 rows, 0 null, 0 deleted, entry 0, container 0, row 3
+accepted, 3, entry 0, container 0, row 0; accepted, 1 of 3 rows, 1 null, 0 deleted, entry 0, container 0, row 0; MAGIC, 0 of 0 rows, 0 null, 0 deleted, entry 0, container 0, row 0
+accepted, 3, entry 0, container 0, row 0; accepted, 1 of 3 rows, 1 null, 0 deleted, entry 0, container 0, row 0; VERSION, 0 of 0 rows, 0 null, 0 deleted, entry 0, container 0, row 0
+accepted, 3, entry 0, container 0, row 0; accepted, 1 of 3 rows, 1 null, 0 deleted, entry 0, container 0, row 0; HEAD, 0 of 0 rows, 0 null, 0 deleted, entry 0, container 0, row 0
+VERSION, 0, entry 0, container 0, row 0; VERSION, 0 of 0 rows, 0 null, 0 deleted, entry 0, container 0, row 0; VERSION, 0 of 0 rows, 0 null, 0 deleted, entry 0, container 0, row 0
+LIMIT, 0, entry 0, container 0, row 0; LIMIT, 0 of 0 rows, 0 null, 0 deleted, entry 0, container 0, row 0; LIMIT, 0 of 0 rows, 0 null, 0 deleted, entry 0, container 0, row 0
+SHORT, 0, entry 0, container 0, row 0; SHORT, 0 of 0 rows, 0 null, 0 deleted, entry 0, container 0, row 0; SHORT, 0 of 0 rows, 0 null, 0 deleted, entry 0, container 0, row 0
+DICT, 0, entry 0, container 0, row 0; DICT, 0 of 0 rows, 0 null, 0 deleted, entry 0, container 0, row 0; DICT, 0 of 0 rows, 0 null, 0 deleted, entry 0, container 0, row 0
+accepted, 0 of 3 rows, 1 null, 0 deleted, entry 0, container 0, row 0, 00; accepted, 0 of 3 rows, 1 null, 0 deleted, entry 0, container 0, row 0, 00
+LIMIT, 0 of 0 rows, 0 null, 0 deleted, entry 0, container 0, row 0, AA; LIMIT, 0 of 0 rows, 0 null, 0 deleted, entry 0, container 0, row 0, AA
+LIMIT, 0 of 0 rows, 0 null, 0 deleted, entry 0, container 0, row 0, AA; LIMIT, 0 of 0 rows, 0 null, 0 deleted, entry 0, container 0, row 0, AA
+LIMIT, 0 of 0 rows, 0 null, 0 deleted, entry 0, container 0, row 0, AA; LIMIT, 0 of 0 rows, 0 null, 0 deleted, entry 0, container 0, row 0, AA
+SHORT, 0 of 0 rows, 0 null, 0 deleted, entry 0, container 0, row 0, AA; SHORT, 0 of 0 rows, 0 null, 0 deleted, entry 0, container 0, row 0, AA
+SHORT, 0 of 0 rows, 0 null, 0 deleted, entry 0, container 0, row 0, AA; SHORT, 0 of 0 rows, 0 null, 0 deleted, entry 0, container 0, row 0, AA
+ROOM, 0 of 0 rows, 0 null, 0 deleted, entry 0, container 0, row 0, AA; ROOM, 0 of 0 rows, 0 null, 0 deleted, entry 0, container 0, row 0, AA
 accepted, 2, entry 0, container 0, row 0
 RANGE, 0, entry 0, container 0, row 0
 BITMAP, 0, entry 0, container 1, row 0

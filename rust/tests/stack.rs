@@ -9,9 +9,13 @@ use reference::writer::{bitmap, body, deletion_file, index_file, BitmapForm, Gro
 
 const STACK: usize = 128 << 10;
 
-/// The most values of version 1, and the most literals.
+/// The most values of version 1, each in one row, and the most literals.
 const VALUES: u32 = 4_096;
 const LITERALS: u32 = 1_024;
+
+/// The null rows, behind the others, of the columns that have some.
+const NULLS: u32 = 1_000;
+const MOST_ROWS: u32 = VALUES + NULLS;
 
 fn numbers(count: u32) -> impl Iterator<Item = [u8; 4]> {
     (0..count).map(u32::to_be_bytes)
@@ -19,20 +23,26 @@ fn numbers(count: u32) -> impl Iterator<Item = [u8; 4]> {
 
 #[test]
 fn every_call_on_a_small_stack() {
-    let values = numbers(VALUES).zip(0..).map(|(value, row)| (value.to_vec(), vec![row])).collect();
-    let groups = Groups { ty: types::INT, rows: VALUES, nulls: Vec::new(), values };
     let literals = numbers(LITERALS).collect::<Vec<_>>().concat();
 
-    let bodies = [1, 2].map(|version| body(&groups, &Layout::version(version).with_blocks_of(500)));
-    let files = bodies.clone().map(|body| index_file(&[("number", "bitmap", &body)]));
+    // In each version without null rows and with some, whose bitmap is read and counted.
+    let mut columns = Vec::new();
+    for (version, nulls) in [(1, 0), (1, NULLS), (2, 0), (2, NULLS)] {
+        let rows = VALUES + nulls;
+        let values = numbers(VALUES).zip(0..).map(|(value, row)| (value.to_vec(), vec![row])).collect();
+        let groups = Groups { ty: types::INT, rows, nulls: (VALUES..rows).collect(), values };
+        let body = body(&groups, &Layout::version(version).with_blocks_of(500));
+        let file = index_file(&[("number", "bitmap", &body)]);
+        let record = Record { rows: rows.into(), nulls: nulls.into(), deleted: 0, matched: LITERALS.into() };
+        columns.push((body, file, record));
+    }
     let deletions = deletion_file(&[bitmap(&(0..VALUES).collect::<Vec<_>>(), &BitmapForm::WithoutRuns)]);
 
     let calls = move || {
-        let mut field = [0; VALUES as usize / 8];
-        for (body, file) in bodies.iter().zip(&files) {
-            assert_eq!(raw::audit(body, types::INT, &mut field), (raw::ACCEPTED, VALUES.into(), Fault::NONE));
-            let record = Record { rows: VALUES.into(), nulls: 0, deleted: 0, matched: LITERALS.into() };
-            let answer = (raw::ACCEPTED, record, Fault::NONE);
+        let mut field = [0; MOST_ROWS.div_ceil(8) as usize];
+        for (body, file, record) in &columns {
+            assert_eq!(raw::audit(body, types::INT, &mut field), (raw::ACCEPTED, record.rows, Fault::NONE));
+            let answer = (raw::ACCEPTED, *record, Fault::NONE);
             assert_eq!(raw::ask(body, types::INT, types::SECOND_EDITION, types::IN, &literals, &mut field), answer);
             assert_eq!(raw::locate(&[], file, b"number", b"bitmap").0, raw::ACCEPTED);
             let (edition, question) = (types::SECOND_EDITION, types::IN);
@@ -40,10 +50,11 @@ fn every_call_on_a_small_stack() {
             assert_eq!(asked, answer);
         }
         let mut left = field;
-        let mut deleted = [0; VALUES as usize / 8];
-        assert_eq!(raw::read_deletions(&deletions, 0, VALUES.into(), &mut deleted), (raw::ACCEPTED, VALUES.into(), Fault::NONE));
-        assert_eq!(raw::subtract(&mut field, &deleted, VALUES.into()), (raw::ACCEPTED, 0, LITERALS.into()));
-        let given = Record { rows: VALUES.into(), nulls: 0, deleted: 0, matched: LITERALS.into() };
+        let mut deleted = [0; MOST_ROWS.div_ceil(8) as usize];
+        let rows = MOST_ROWS.into();
+        assert_eq!(raw::read_deletions(&deletions, 0, rows, &mut deleted), (raw::ACCEPTED, VALUES.into(), Fault::NONE));
+        assert_eq!(raw::subtract(&mut field, &deleted, rows), (raw::ACCEPTED, 0, LITERALS.into()));
+        let given = Record { rows, nulls: NULLS.into(), deleted: 0, matched: LITERALS.into() };
         let record = Record { deleted: VALUES.into(), matched: 0, ..given };
         assert_eq!(raw::subtract_record(&mut left, &deleted, given), (raw::ACCEPTED, record, LITERALS.into()));
     };

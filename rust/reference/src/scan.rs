@@ -10,7 +10,7 @@ pub fn scan<V: AsRef<[u8]>>(column: &Column, edition: u32, question: u32, litera
     scan_without(&[], column, edition, question, literals)
 }
 
-/// The same of a column some of whose rows, each listed once, are deleted: they are not chosen.
+/// The same of a column some of whose rows are deleted: they are not chosen.
 pub fn scan_without<V: AsRef<[u8]>>(
     deleted: &[u32],
     column: &Column,

@@ -7,7 +7,8 @@ use poddurance::{Record, Refusal, RowField};
 use crate::columns::Column;
 use crate::commas::with_commas;
 
-/// What came out. Its numbers are the library's answers, but for those of `columns`; a field is for the list of its rows alone.
+/// What came out. Its numbers are the library's answers or the user's own, but for those of `columns`; a field is for the list of its
+/// rows alone.
 #[derive(Debug)]
 pub enum Outcome {
     /// What the head of an index file lists.
@@ -60,12 +61,12 @@ impl Outcome {
             Outcome::NotListed { reason } => writeln!(out, "refused: {reason}"),
             Outcome::Found { column, kind, start, length } => {
                 let kind = kind.escape_debug();
-                writeln!(out, "found: {kind} index on column {column:?}, {} at {start}", counted(*length, "byte"))
+                writeln!(out, "found: {kind} index on column {column:?}, {length} {} at {start}", plural(*length, "byte"))
             }
             Outcome::Absent { column, kind } => {
                 writeln!(out, "absent: no {} index on column {column:?}", kind.escape_debug())
             }
-            Outcome::Accepted { rows } => writeln!(out, "accepted: {}, each in exactly one place", counted(*rows, "row")),
+            Outcome::Accepted { rows } => writeln!(out, "accepted: {}, each in exactly one place", counted_rows(*rows)),
             Outcome::Answered { record, removed, field } => {
                 let deleted = match removed {
                     Some(_) => format!("{} deleted", with_commas(record.deleted())),
@@ -75,7 +76,7 @@ impl Outcome {
                 list_rows(field, list, out)
             }
             Outcome::Deleted { count, rows, field } => {
-                writeln!(out, "deleted: {count} of {}", counted(*rows, "row"))?;
+                writeln!(out, "deleted: {} of {}", with_commas(*count), counted_rows(*rows))?;
                 list_rows(field, list, out)
             }
             Outcome::Refused { refusal, part: Part::Index | Part::Literals } => writeln!(out, "refused: {refusal}"),
@@ -91,7 +92,7 @@ impl Outcome {
                 }
             }
             Outcome::RowsDiffer { index_rows, data_rows } => {
-                writeln!(out, "refused: {}", difference(*index_rows, *data_rows))
+                writeln!(out, "refused: {}", difference(*index_rows, *data_rows, with_commas))
             }
         }
     }
@@ -137,7 +138,9 @@ impl Outcome {
                 }
             }
             // Nor for this.
-            Outcome::RowsDiffer { index_rows, data_rows } => json_refused(&difference(*index_rows, *data_rows), out)?,
+            Outcome::RowsDiffer { index_rows, data_rows } => {
+                json_refused(&difference(*index_rows, *data_rows, |number| number.to_string()), out)?;
+            }
         }
         writeln!(out, "}}")
     }
@@ -151,13 +154,20 @@ fn answer(record: &Record) -> &'static str {
     }
 }
 
-fn difference(index_rows: u64, data_rows: u64) -> String {
-    format!("the index is of {}, the data file has {data_rows}", counted(index_rows, "row"))
+/// A person reads the numbers with commas, and a program without.
+fn difference(index_rows: u64, data_rows: u64, written: fn(u64) -> String) -> String {
+    let (index, data) = (written(index_rows), written(data_rows));
+    format!("the index is of {index} {}, the data file has {data}", plural(index_rows, "row"))
 }
 
-/// A number of things, with an s where there isn't one alone.
-fn counted(number: u64, thing: &str) -> String {
-    format!("{number} {thing}{}", if number == 1 { "" } else { "s" })
+/// How many rows, with commas as in a record's sentence.
+fn counted_rows(rows: u64) -> String {
+    format!("{} {}", with_commas(rows), plural(rows, "row"))
+}
+
+/// The word, with an s where there isn't one alone.
+fn plural(number: u64, thing: &str) -> String {
+    format!("{thing}{}", if number == 1 { "" } else { "s" })
 }
 
 fn list_rows(field: &RowField, list: bool, out: &mut impl Write) -> io::Result<()> {
@@ -305,8 +315,11 @@ mod tests {
         let values = Literals::of(Type::TinyInt, values).unwrap();
         let answer = ask(&body, Edition::Second, Question::In, &values, RowField::for_rows(6).unwrap()).unwrap();
         let (mut field, record) = answer.into_parts();
-        match deleted.map(|deleted| subtract_record(&mut field, &deleted, record).unwrap()) {
-            Some(subtracted) => Outcome::Answered { record: subtracted.record, removed: Some(subtracted.removed), field },
+        match deleted {
+            Some(deleted) => {
+                let subtracted = subtract_record(&mut field, &deleted, record).unwrap();
+                Outcome::Answered { record: subtracted.record, removed: Some(subtracted.removed), field }
+            }
             None => Outcome::Answered { record, removed: None, field },
         }
     }
@@ -504,7 +517,7 @@ mod tests {
     fn rows_that_differ() {
         let differ = Outcome::RowsDiffer { index_rows: 3, data_rows: 1000 };
         assert_eq!(differ.exit_status(), 3);
-        assert_eq!(text(&differ, true), "refused: the index is of 3 rows, the data file has 1000\n");
+        assert_eq!(text(&differ, true), "refused: the index is of 3 rows, the data file has 1,000\n");
         assert_eq!(
             json(&differ, true),
             "{\"answer\":\"refused\",\"file\":\"index\",\"name\":null,\"number\":null,\
@@ -512,6 +525,33 @@ mod tests {
         );
         let one = Outcome::RowsDiffer { index_rows: 1, data_rows: 0 };
         assert_eq!(text(&one, false), "refused: the index is of 1 row, the data file has 0\n");
+    }
+
+    /// Counts of rows have them in a line, and nothing else has: no row's number, no entry, no container, no byte, and nothing in JSON.
+    #[test]
+    fn thousands_have_commas() {
+        let accepted = Outcome::Accepted { rows: 86_400 };
+        assert_eq!(text(&accepted, false), "accepted: 86,400 rows, each in exactly one place\n");
+        assert_eq!(json(&accepted, false), "{\"answer\":\"accepted\",\"rows\":86400}\n");
+
+        let deleted = Outcome::Deleted { count: 1_000, rows: 1_000_000, field: RowField::all_of(1_001).unwrap() };
+        assert_eq!(text(&deleted, true), "deleted: 1,000 of 1,000,000 rows\nrows: 0-1000\n");
+        assert_eq!(json(&deleted, true), "{\"answer\":\"deleted\",\"count\":1000,\"rows\":1000000,\"ranges\":[[0,1000]]}\n");
+
+        let differ = Outcome::RowsDiffer { index_rows: 65_536, data_rows: u64::MAX };
+        assert_eq!(text(&differ, false), "refused: the index is of 65,536 rows, the data file has 18,446,744,073,709,551,615\n");
+        assert!(json(&differ, false).contains("\"the index is of 65536 rows, the data file has 18446744073709551615\""));
+
+        for (refusal, cause) in [
+            (Refusal::Missing { row: 65_536 }, "row 65536"),
+            (Refusal::Twice { entry: 1_000 }, "entry 1000"),
+            (Refusal::Bitmap { entry: 4_096, container: 32_767 }, "entry 4096, container 32767"),
+        ] {
+            let said = text(&Outcome::Refused { refusal, part: Part::Index }, false);
+            assert!(said.ends_with(&format!(": {cause}\n")), "{said}");
+        }
+        let found = Outcome::Found { column: "s".to_string(), kind: "bitmap".to_string(), start: 1_000, length: 65_536 };
+        assert_eq!(text(&found, false), "found: bitmap index on column \"s\", 65536 bytes at 1000\n");
     }
 
     /// The keys of an object without text values that hold `":`.
