@@ -124,7 +124,7 @@ typedef struct {
  * nulls    how many rows are null: those of null's bitmap, 0 where has-null is 0, for each question and edition. Subtract record leaves it: null rows that are
  *          deleted still count here.
  * deleted  0 until deletions are subtracted. Subtract record writes how many rows below the row count are set in its second field, chosen or not; it replaces
- *          what stood here and does not add to it.
+ *          what stood here and does not add to it: after two calls it tells of the second one's field alone.
  * matched  how many rows are set in the field: Ask's chosen ones, and after Subtract record those left of them, counted afresh. Accepted with 0 says skip.
  *
  * Hand on an accepted answer's record alone. A refusal's is that of a data file without rows, for which Subtract record would answer 0 and clear nothing. */

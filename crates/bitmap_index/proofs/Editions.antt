@@ -9,16 +9,13 @@ use native.Mathlib.Decide.{decLt}
 use native.Mathlib.Omega.{arith}
 use borrow.Author.Tests.{ne-eqb, lt-ltb, le-ltb, le-leb}
 use lib.Dec.{eqb, ltb}
-use lib.ListN.{length, replicate}
-use Rattle.numbers.specs.Meaning.{Bytes}
+use lib.ListN.{length}
 use Rattle.refusal.specs.Meaning.{limit}
 use Rattle.refusal.specs.declared.Refusal.{Refusal}
 use Rattle.refusal.specs.declared.Refusal.the-variants.{Literal}
 use Rattle.refusal.specs.Reading.{Out, refuse, ok, check, andThen}
 use Rattle.row_field.specs.Meaning.{size, bit, count, cleared}
-use Rattle.row_field.proofs.Laws.{bytes-zeros, field-ext}
-use Rattle.row_field.proofs.Marks.{bytes-markAll}
-use Rattle.row_field.proofs.Counts.{count-field}
+use Rattle.row_field.proofs.Laws.{field-ext}
 use Rattle.subtract.specs.Meaning.{subtracted, removed, keeps}
 use Rattle.subtract.proofs.Laws.{bytes-without, none-left}
 use Rattle.subtract.proofs.Theorems.{clears-just-the-rows, keeps-the-length, left-and-removed}
@@ -30,7 +27,7 @@ use Rattle.bitmap_index.specs.declared.Question.{Question}
 use Rattle.bitmap_index.specs.Meaning.{notEqual, notIn, isNull, firstEdition, secondEdition, knownEdition, question, chosen, takes, scan, nullQuestion}
 use Rattle.bitmap_index.specs.Reading.{prepared, zeroedFrom, chosenOf, markedFor, matchedFor, answered, auditedAnswer, wellFormed, ask, answerBuffer, askBuffer}
 use Rattle.bitmap_index.specs.Claims.{IsWithout}
-use Rattle.bitmap_index.proofs.Rows.{rowsWhere, passes, all-cells, rows-ext, rows-rising}
+use Rattle.bitmap_index.proofs.Rows.{passes, all-cells, rows-ext}
 use Rattle.bitmap_index.proofs.ScanAnswers.{scanned}
 use Rattle.bitmap_index.proofs.SameColumn.{scan-length, scan-bit, scan-bytes, scan-count}
 

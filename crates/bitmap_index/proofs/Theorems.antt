@@ -1,6 +1,6 @@
 -- The claims of specs/Claims, proved in their order there.
 use Prim.Native.Nat.{ℕ, _+_, _<_, _≤_}
-use mathlib.Core.Path.{_≡_, refl, sym, ap, _∙_}
+use mathlib.Core.Path.{_≡_, sym, ap, _∙_}
 use mathlib.Core.Logic.{_↔_}
 use mathlib.Core.List.{List, [], _++_}
 use native.Mathlib.Decide.{decLt}
@@ -14,13 +14,12 @@ use Rattle.refusal.specs.declared.Refusal.the-variants.{Room}
 use Rattle.row_field.specs.Meaning.{size, cleared}
 use Rattle.row_field.proofs.Laws.{bytes-zeros}
 use Rattle.row_field.proofs.Counts.{length-zeroed, bit-zeroed}
-use Rattle.stored_value.specs.Meaning.{Cell}
 use Rattle.refusal.specs.Reading.{Out, refuse, ok, check, andThen}
 use Rattle.stored_value.proofs.Laws.{literals-back}
 use Rattle.dictionary.specs.Reading.{Dictionary}
 use Rattle.bitmap_index.specs.Meaning.{WellFormed, nullQuestion}
-use Rattle.bitmap_index.specs.Layout.{ColumnBody, version1, version2}
-use Rattle.bitmap_index.specs.Reading.{roomFor, prepared, audited, audit, matchedFor, Answer, answered, auditedAnswer, wellFormed, ask}
+use Rattle.bitmap_index.specs.Layout.{version1, version2}
+use Rattle.bitmap_index.specs.Reading.{roomFor, prepared, audited, audit, matchedFor, Answer, answered, auditedAnswer, ask}
 use Rattle.bitmap_index.specs.Claims.{ColumnIsAnswered, AcceptedIsAColumn, OneColumn, EachRowHasOnePlace, AcceptedIsAnswered, AnsweredAsTheScan, RecordSaysItsRows, SecondIsFirstWithoutNulls, OthersStay, OthersAreAnsweredAlike, OtherEditionIsLiteral, ShortOfRoom, RefusedForRoom, RefusedIsNoColumn, AcceptedAreTheColumns, UnknownVersionIsRefused, UnknownVersionYieldsNothing, FaultIs, AuditNamesTheFault, AskNamesTheFault, OutsideIsContainer0, NothingBeforeBitmaps}
 use Rattle.bitmap_index.proofs.ScanAnswers.{HasColumn}
 use Rattle.bitmap_index.proofs.BodyAnswers.{answers-as-scan, body-column, all-patterns, region1, region2}

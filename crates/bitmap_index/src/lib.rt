@@ -53,6 +53,12 @@ const NULL_NUMBER: u64 = 0;
 
 const FIRST_NUMBER: u64 = 1;
 
+// Whether null's rows are counted as ones when they are placed. Ask answers how many they are, and counts what it answers (document 01); Audit doesn't, and the
+// sum of cardinalities is enough for it.
+const COUNT_NULLS: bool = true;
+
+const SUM_NULLS: bool = false;
+
 // What is asked, by the numbers of the edition and of the name. The literals are lent beside it.
 pub struct Question {
     pub edition: u32,
@@ -179,9 +185,8 @@ fn place_at(
     )
 }
 
-// Places null's rows, if it has an entry, in a field that is clear. How many they are is answered, and so counted as ones (document 01): what `place_at` says is
-// the sum of cardinalities.
-fn place_null(field: &mut [u8], body: &[u8], summary: Summary) -> Placing
+// Places null's rows, if it has an entry, in a field that is clear, and says how many they are.
+fn place_null(field: &mut [u8], body: &[u8], summary: Summary, counted: bool) -> Placing
     requires { ⌜ (summary .region .0 ≤ length (now body)) × (size (summary .rows) ≤ length (now field)) × (count (now field) (summary .rows) ≡ 0) ⌝ }
     ensures { λ r. ⌜ PlacesNull (now (body .entry)) summary (now (field .entry)) (now (field .exit)) r ⌝ }
 {
@@ -197,6 +202,9 @@ fn place_null(field: &mut [u8], body: &[u8], summary: Summary) -> Placing
         summary.rows,
         NULL_NUMBER,
     );
+    if !counted {
+        return placing;
+    }
     match placing {
         Placing::Refused(r) => Placing::Refused(r),
         Placing::Placed(_) => Placing::Placed(row_field::count(field, summary.rows)),
@@ -236,11 +244,17 @@ fn place_values(field: &mut [u8], body: &[u8], summary: Summary, t: u32) -> Plac
 
 // Places the rows of all entries in a field that is clear: null's first, then the values' in their order. None is placed twice, so none is
 // missing exactly if the values have as many rows as null leaves.
-fn audit_zero(field: &mut [u8], body: &[u8], summary: Summary, t: u32) -> BitmapsAudited
+fn audit_zero(
+    field: &mut [u8],
+    body: &[u8],
+    summary: Summary,
+    t: u32,
+    counted: bool,
+) -> BitmapsAudited
     requires { ⌜ Ready t (now body) summary (now field) × (count (now field) (summary .rows) ≡ 0) ⌝ }
     ensures { λ r. ⌜ ForDictionary t (now (body .entry)) summary (λ d. AuditsZero d (now (field .entry)) (now (field .exit)) r) ⌝ }
 {
-    let nulls = place_null(field, body, summary);
+    let nulls = place_null(field, body, summary, counted);
     match nulls {
         Placing::Refused(r) => BitmapsAudited::Refused(r),
         Placing::Placed(n) => {
@@ -261,13 +275,19 @@ fn audit_zero(field: &mut [u8], body: &[u8], summary: Summary, t: u32) -> Bitmap
 }
 
 // Audits the bitmaps of a dictionary in a field that has room, and leaves the field zero.
-fn audit_field(field: &mut [u8], body: &[u8], summary: Summary, t: u32) -> BitmapsAudited
+fn audit_field(
+    field: &mut [u8],
+    body: &[u8],
+    summary: Summary,
+    t: u32,
+    counted: bool,
+) -> BitmapsAudited
     requires { ⌜ Ready t (now body) summary (now field) ⌝ }
     ensures { λ r. ⌜ ForDictionary t (now (body .entry)) summary (λ d. AuditsField d (now (field .entry)) (now (field .exit)) r) ⌝ }
 {
     let rows = summary.rows;
     row_field::clear(field, rows);
-    let answer = audit_zero(field, body, summary, t);
+    let answer = audit_zero(field, body, summary, t, counted);
     row_field::clear(field, rows);
     answer
 }
@@ -300,7 +320,7 @@ pub fn audit(body: &[u8], t: u32, field: &mut [u8]) -> Audited
     match prepared {
         Checked::Refused(r) => Audited::Refused(r),
         Checked::Found(summary) => {
-            let audit = audit_field(field, body, summary, t);
+            let audit = audit_field(field, body, summary, t, SUM_NULLS);
             match audit {
                 BitmapsAudited::Refused(r) => Audited::Refused(r),
                 BitmapsAudited::Nulls(_) => Audited::Rows(summary.rows),
@@ -567,7 +587,7 @@ fn ask_field(
     ensures { λ r. ⌜ ForDictionary t (now (body .entry)) summary
         (λ d. AnswersField t question (now (literals .entry)) (now (body .entry)) d (now (field .entry)) (now (field .exit)) r) ⌝ }
 {
-    let audit = audit_field(field, body, summary, t);
+    let audit = audit_field(field, body, summary, t, COUNT_NULLS);
     match audit {
         BitmapsAudited::Refused(r) => Answered::Refused(r),
         BitmapsAudited::Nulls(nulls) => {

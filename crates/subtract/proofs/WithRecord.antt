@@ -1,11 +1,10 @@
 -- Subtract with a record: what it answers by what Subtract did, and what is then known of the record.
-use Prim.Native.Nat.{ℕ, _+_, _<_, _≤_}
+use Prim.Native.Nat.{ℕ}
 use mathlib.Core.Path.{_≡_, refl, sym, ap, _∙_}
 use mathlib.Core.Logic.{_↔_, _⊎_, inl, inr}
-use mathlib.Core.Bool.{Bool, true, false, not, _&&_, _||_, cond}
-use mathlib.Core.List.{List, [], _∷_}
-use native.Mathlib.Omega.{arith}
-use borrow.Author.Tests.{eq-eqb, ne-eqb, eqb-true, lt-ltb, not-false}
+use mathlib.Core.Bool.{Bool, true, false, cond}
+use mathlib.Core.List.{List}
+use borrow.Author.Tests.{eq-eqb, ne-eqb}
 use lib.Dec.{leb}
 use lib.ListN.{length}
 use Rattle.refusal.specs.Meaning.{limit}
@@ -13,16 +12,13 @@ use Rattle.refusal.specs.declared.Refusal.{Refusal}
 use Rattle.refusal.specs.declared.Refusal.the-variants.{Limit, Room}
 use Rattle.refusal.specs.Reading.{Out, refuse, ok, check, andThen, numbersOf}
 use Rattle.refusal.proofs.Laws.{not-ok, then-ok, check-ok}
-use Rattle.row_field.specs.Meaning.{size, bit, rowsFrom, count}
-use Rattle.row_field.proofs.Laws.{tick}
-use Rattle.row_field.proofs.Counts.{none-counted, tally-le, tally-split, rows-tally}
-use Rattle.row_field.proofs.Marks.{none-set}
+use Rattle.row_field.specs.Meaning.{size, rowsFrom, count}
 use Rattle.subtract.specs.declared.Record.{Record}
 use Rattle.subtract.specs.declared.RecordSubtracted.{RecordSubtracted}
 use Rattle.subtract.specs.declared.RecordSubtracted.the-variants.{Skip, Keep}
 use Rattle.subtract.specs.declared.Subtracted.{Subtracted}
 use Rattle.subtract.specs.declared.Subtracted.the-variants.{Done}
-use Rattle.subtract.specs.Meaning.{setIn, subtracted, removed, recordNumbers, noRecord, keeps}
+use Rattle.subtract.specs.Meaning.{subtracted, removed, recordNumbers, noRecord, keeps}
 use Rattle.subtract.specs.Reading.{Counts, subtraction, bufferBy, subtractBuffer, subtractedBy, RecordCounts, replaced, recordSubtraction, recordSubtractedBy, recordSubtractOut, recordSubtractNumbers}
 use Rattle.subtract.specs.Promises.{SubtractPromise, SubtractRecordPromise}
 use Rattle.subtract.specs.Claims.{CountedAfresh}
