@@ -1,4 +1,5 @@
 -- Demand 3, one claim from file to answers: all versions, cuts, forms and editions at once, and over the scan. A reading that refuses everything does not have it.
+-- Then what a graph may claim of such a file once deletions are subtracted, and versions.
 use Prim.Native.Nat.{ℕ, _+_, _≤_}
 use mathlib.Core.Path.{_≡_}
 use mathlib.Core.Logic.{_⊎_}
