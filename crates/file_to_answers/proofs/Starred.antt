@@ -2,6 +2,7 @@
 use Prim.Native.Nat.{ℕ, _-_, _≤_, _<_}
 use mathlib.Core.Path.{_≡_, refl}
 use mathlib.Core.List.{List, [], _∷_}
+use mathlib.Core.Logic.{inl}
 use native.Mathlib.Omega.{arith}
 use borrow.Author.Tests.{le-ltb}
 use Rattle.numbers.specs.Meaning.{number, signed32, same, minusOne}
@@ -18,6 +19,8 @@ use Rattle.stored_value.specs.Meaning as values
 use Rattle.stored_value.specs.Reading.{valueSize, valueOf, literals}
 use Rattle.dictionary.specs.Layout.{Entry}
 use Rattle.dictionary.specs.Reading.{countAtMost, entriesOne, listings, past, isDue, entriesTwo, behind, blocksOf, blocked, nullOf, dictionary}
+use Rattle.names.specs.Layout.{Scalar, standardOf, modifiedOf, Named}
+use Rattle.names.specs.Reading.{standardPoint, pointsIn, standardPoints, holds, askable, matches}
 use Rattle.index_file.specs.Layout.{ListedIndex, ListedColumn}
 use Rattle.index_file.specs.Reading.{soughtNumbers}
 use Rattle.index_file.specs.Reading as head
@@ -61,6 +64,23 @@ two-is-its-body =
     version2 (entry null 2 ∷ []) ((entry (value (7 ∷ [])) 0 ∷ []) ∷ (entry (value (9 ∷ [])) 1 ∷ []) ∷ []) [] column (kept []) (omega arith, (omega arith, tt))
     (tinyint 7 (omega arith), tt, (tinyint 9 (omega arith), refl, tt)) (omega arith) (omega arith) (omega arith) (omega arith)
 
+-- names of ASCII letters are stored as they are asked for
+letter : (c : ℕ) → c < 128 → Scalar c
+letter c h = inl (omega arith)
+
+s-is-named : Named s s
+unfolding standardOf modifiedOf
+s-is-named = record { points = s; scalars = (letter _ (omega arith), tt); asked-is = refl; stored-is = refl }
+
+bitmap-is-named : Named bitmap bitmap
+unfolding standardOf modifiedOf
+bitmap-is-named = record {
+  points = bitmap;
+  scalars = (letter _ (omega arith), (letter _ (omega arith), (letter _ (omega arith), (letter _ (omega arith), (letter _ (omega arith), (letter _ (omega arith), tt))))));
+  asked-is = refl;
+  stored-is = refl;
+}
+
 its-file : ColumnFile 0 cells s bitmap file
 its-file =
     let e : ListedIndex = record { name = bitmap; start = 47; length = 24 } in
@@ -80,8 +100,8 @@ its-file =
         };
         asked = c;
         entry = e;
-        column-once = record { before = []; after = []; parts = refl; holds = refl; none-before = tt; none-after = tt };
-        kind-once = record { before = []; after = []; parts = refl; holds = refl; none-before = tt; none-after = tt };
+        column-once = record { before = []; after = []; parts = refl; holds = s-is-named; none-before = tt; none-after = tt };
+        kind-once = record { before = []; after = []; parts = refl; holds = bitmap-is-named; none-before = tt; none-after = tt };
         not-negative = (omega arith, omega arith);
         behind = omega arith;
         within = omega arith;
@@ -116,7 +136,7 @@ unfolding placeAt
 named-last = (refl, λ entry extent n region field. refl, λ c extent region h. single 2147483647 refl (omega arith) refl h)
 
 pub starred : StarredHolds
-unfolding number head.find head.file head.count head.name head.entries head.afterEntry head.columns head.afterColumn head.placed head.head soughtNumbers numbersOf used askFile askPart read readPlain readFlagged contents containers offsetIs body bodySize bodyValues sound valuesOf runsOf valuesRise runsRise bit mark markAll anySet zeroed upTo rowsFrom entryNumber nextNumber placeAt placeEntry placeEntries rowsFor rowsAt markEntries check andThen valueSize valueOf literals width isString booleanOk same sameCell signedNumber less listed countAtMost entriesOne listings past isDue entriesTwo behind blocksOf blocked nullOf dictionary knownEdition chosen takes scanFrom scan scanRecord roomFor prepared audited audit chosenOf markedFor matchedFor answered auditedAnswer wellFormed ask answeredBy keeps
+unfolding number askable matches holds standardPoints pointsIn standardPoint standardOf modifiedOf head.find head.withinLimits head.file head.count head.name head.entries head.afterEntry head.columns head.afterColumn head.placed head.head soughtNumbers numbersOf used askFile askPart read readPlain readFlagged contents containers offsetIs body bodySize bodyValues sound valuesOf runsOf valuesRise runsRise bit mark markAll anySet zeroed upTo rowsFrom entryNumber nextNumber placeAt placeEntry placeEntries rowsFor rowsAt markEntries check andThen valueSize valueOf literals width isString booleanOk same sameCell signedNumber less listed countAtMost entriesOne listings past isDue entriesTwo behind blocksOf blocked nullOf dictionary knownEdition chosen takes scanFrom scan scanRecord roomFor prepared audited audit chosenOf markedFor matchedFor answered auditedAnswer wellFormed ask answeredBy keeps
 starred = (
   (refl, refl, its-file, refl),
   (

@@ -55,7 +55,7 @@ file-gives-the-graph t cells column kind bytes f field g b room room′ q ls w =
 pub other-version-has-no-part : OtherVersionHasNoPart
 other-version-has-no-part bytes column kind other =
     let part : Out Refusal (Sought Part) → List ℕ = λ o. partOf o bytes in
-    ⊎-elim (λ e. ap part e) (⊎-elim (λ e. ap part e) (⊎-elim (λ e. ap part e) (λ e. ap part e))) (other-version-is-not-found bytes column kind other)
+    ⊎-elim (λ e. ap part e) (⊎-elim (λ e. ap part e) (⊎-elim (λ e. ap part e) (⊎-elim (λ e. ap part e) (λ e. ap part e)))) (other-version-is-not-found bytes column kind other)
 
 refused-is-no-answer : (bytes column kind : List ℕ) (t : ℕ) (q : Question) (literals field : List ℕ) (a : Answer) (r : Refusal) → find bytes column kind ≡ refuse r
     → askFile bytes column kind t q literals field ≡ ok (found a) → ⊥
@@ -67,7 +67,7 @@ known-version : (bytes column kind : List ℕ) (t : ℕ) (q : Question) (literal
 known-version bytes column kind t q literals field a h (yes e) = e
 known-version bytes column kind t q literals field a h (no n) =
     let no-answer : (r : Refusal) → find bytes column kind ≡ refuse r → ⊥ = λ r e. refused-is-no-answer bytes column kind t q literals field a r e h in
-    absurd (⊎-elim (no-answer _) (⊎-elim (no-answer _) (⊎-elim (no-answer _) (no-answer _))) (other-version-is-not-found bytes column kind n))
+    absurd (⊎-elim (no-answer _) (⊎-elim (no-answer _) (⊎-elim (no-answer _) (⊎-elim (no-answer _) (no-answer _)))) (other-version-is-not-found bytes column kind n))
 
 known-body : (t : ℕ) (q : Question) (literals field : List ℕ) (a : Answer) (v : ℕ) (s : List ℕ) → ask t q literals (v ∷ s) field ≡ ok a → Dec (v ≡ 1) → Dec (v ≡ 2) → (v ≡ 1) ⊎ (v ≡ 2)
 known-body t q literals field a v s h (yes e) d = inl e

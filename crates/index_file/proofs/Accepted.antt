@@ -8,17 +8,18 @@ use native.Mathlib.Omega.{arith}
 use lib.Dec.{T, leb→le, ltb→lt, eqb→eq}
 use lib.ListN.{length, take, drop, take-append-drop}
 use lib.Seq.{length-take-le, take-take}
-use Rattle.numbers.specs.Meaning.{be, big, same, All, Bytes, signBit, position}
+use Rattle.numbers.specs.Meaning.{be, big, All, Bytes, signBit, position}
 use Rattle.numbers.proofs.ByteLists.{bytes-drop, bytes-take}
 use Rattle.numbers.proofs.Laws.{on-number}
 use Rattle.numbers.specs.declared.Position.{Position}
 use Rattle.refusal.specs.declared.Refusal.{Refusal}
 use Rattle.refusal.specs.Reading.{Out, refuse, ok, check}
 use Rattle.refusal.proofs.Laws.{not-ok}
+use Rattle.names.specs.Reading.{matches}
 use Rattle.index_file.specs.declared.Place.{Place}
 use Rattle.index_file.specs.declared.Place.the-variants.{Nowhere, At, Repeated}
 use Rattle.index_file.specs.Layout.{magic, fileVersion, frontSize, leastHead, ListedIndex, ListedColumn, nameBytes, entryBytes, entriesBytes, columnBytes, columnsBytes, headBytes, GoodIndex, GoodColumn, Headed, File, Unlisted}
-use Rattle.index_file.specs.Reading.{count, name, afterEntry, entries, afterColumn, columns, Part, Sought, found, absent, placed, head, file, find, bytesOf}
+use Rattle.index_file.specs.Reading.{count, name, afterEntry, entries, afterColumn, columns, Part, Sought, found, absent, placed, head, file, withinLimits, find, bytesOf}
 use Rattle.index_file.specs.Promises.{Rest}
 use Rattle.index_file.proofs.ListedOnce.{placeIn, placeOf, found-back, absent-back}
 use Rattle.index_file.proofs.Laid.{entry-split, column-split, headed-file}
@@ -57,7 +58,7 @@ module _ (good : Sought Part) where
       let e : nameBytes (take v t) ++ drop v t ≡ be 2 v ++ t = ap₂ (λ (j : ℕ) (l : List ℕ). be 2 j ++ l) l (take-append-drop v t) in
       subst P e (f (take v t) (drop v t) (omega arith) (bytes-drop v t ht) g)))
 
-  on-entries : (P : List ℕ → Type 0) (kind : List ℕ) (m : ℕ) (place : Place) (s : List ℕ) (k : Rest Place) → Bytes s → Good (entries kind m place s k)
+  on-entries : (P : List ℕ → Type 0) (kind : List ℕ) (m : ℕ) (place : Place) (s : List ℕ) (k : Rest Place) → Bytes s → Good (entries (matches kind) m place s k)
       → ((es : List ListedIndex) (t : List ℕ) → length es ≡ m → All GoodIndex es → Bytes t → Good (k (placeIn kind place es) t) → P (entriesBytes es ++ t)) → P s
   unfolding entries placeIn
   on-entries P kind zero place s k h g f = f [] s refl tt h g
@@ -65,12 +66,12 @@ module _ (good : Sought Part) where
       on-name P s _ h g (λ n t hn ht g.
       on-number big 4 (refuse Refusal.Head) Good (λ (l : List ℕ). P (nameBytes n ++ l)) t _ not-ok ht g (λ a t ha ht g.
       on-number big 4 (refuse Refusal.Head) Good (λ (l : List ℕ). P (nameBytes n ++ (be 4 a ++ l))) t _ not-ok ht g (λ b t hb ht g.
-      on-entries (λ (l : List ℕ). P (nameBytes n ++ (be 4 a ++ (be 4 b ++ l)))) kind m (afterEntry (same kind n) (position a) b place) t k ht g (λ es t c fit ht g.
+      on-entries (λ (l : List ℕ). P (nameBytes n ++ (be 4 a ++ (be 4 b ++ l)))) kind m (afterEntry (matches kind n) (position a) b place) t k ht g (λ es t c fit ht g.
       let e : ListedIndex = record { name = n; start = a; length = b } in
       subst P (append-assoc (entryBytes e) (entriesBytes es) t ∙ entry-split e (entriesBytes es ++ t)) (f (e ∷ es) t (ap suc c) ((hn, ha, hb), fit) ht g)))))
 
   on-columns : (P : List ℕ → Type 0) (column kind : List ℕ) (m : ℕ) (seen : Bool) (place : Place) (s : List ℕ) (k : Rest Place) → Bytes s
-      → Good (columns column kind m seen place s k)
+      → Good (columns (matches column) (matches kind) m seen place s k)
       → ((cs : List ListedColumn) (t : List ℕ) → length cs ≡ m → All GoodColumn cs → Bytes t → Good (k (placeOf kind column seen place cs) t) → P (columnsBytes cs ++ t)) → P s
   unfolding columns placeOf
   on-columns P column kind zero seen place s k h g f = f [] s refl tt h g
@@ -78,14 +79,14 @@ module _ (good : Sought Part) where
       on-name P s _ h g (λ n t hn ht g.
       on-count (λ (l : List ℕ). P (nameBytes n ++ l)) t _ ht g (λ v t hv ht g.
       on-entries (λ (l : List ℕ). P (nameBytes n ++ (be 4 v ++ l))) kind v Nowhere t _ ht g (λ es t d fe ht g.
-      on-columns (λ (l : List ℕ). P (nameBytes n ++ (be 4 v ++ (entriesBytes es ++ l)))) column kind m (seen || same column n) (afterColumn (same column n) seen (placeIn kind Nowhere es) place) t k ht g
+      on-columns (λ (l : List ℕ). P (nameBytes n ++ (be 4 v ++ (entriesBytes es ++ l)))) column kind m (seen || matches column n) (afterColumn (matches column n) seen (placeIn kind Nowhere es) place) t k ht g
       (λ cs t c fit ht g.
       let x : ListedColumn = record { name = n; entries = es } in
       let q : length es < signBit = omega arith in
       subst (λ (j : ℕ). P (nameBytes n ++ (be 4 j ++ (entriesBytes es ++ (columnsBytes cs ++ t))))) d
       (subst P (append-assoc (columnBytes x) (columnsBytes cs) t ∙ column-split x (columnsBytes cs ++ t)) (f (x ∷ cs) t (ap suc c) ((hn, q, fe), fit) ht g))))))
 
-  on-head : (P : List ℕ → Type 0) (column kind : List ℕ) (n total : ℕ) (s : List ℕ) → Bytes s → Good (head column kind n total s)
+  on-head : (P : List ℕ → Type 0) (column kind : List ℕ) (n total : ℕ) (s : List ℕ) → Bytes s → Good (head (matches column) (matches kind) n total s)
       → ((cs : List ListedColumn) (r : List ℕ) → length cs < signBit → length r < signBit → All GoodColumn cs → P (be 4 (length cs) ++ (columnsBytes cs ++ (be 4 (length r) ++ r)))) → P s
   unfolding head
   on-head P column kind n total s h g f =
@@ -96,7 +97,7 @@ module _ (good : Sought Part) where
       subst (λ (j : ℕ). P (be 4 j ++ (columnsBytes cs ++ (be 4 q ++ r)))) c
       (subst (λ (j : ℕ). P (be 4 (length cs) ++ (columnsBytes cs ++ (be 4 j ++ r)))) e (f cs r (omega arith) (omega arith) fit))))))
 
-  headed : (column kind bytes : List ℕ) → Bytes bytes → Good (file column kind bytes) → Headed bytes
+  headed : (column kind bytes : List ℕ) → Bytes bytes → Good (file (matches column) (matches kind) bytes) → Headed bytes
   unfolding file
   headed column kind bytes h g =
       on-check _ Refusal.Short _ g (λ _ g.
@@ -124,11 +125,12 @@ module _ (good : Sought Part) where
   -- so there is a head that keeps the rules, and the answer is what is answered of the place in it
   answered : (bytes column kind : List ℕ) → Bytes bytes → Good (find bytes column kind)
       → (h : Headed bytes) × Good (placed (h .headLength) (length bytes) (placeOf kind column false Nowhere (h .columns)))
-  unfolding find
+  unfolding find withinLimits
   answered bytes column kind b g =
       on-check _ Refusal.Limit _ g (λ _ g. on-check _ Refusal.Limit _ g (λ _ g. on-check _ Refusal.Limit _ g (λ _ g.
+      on-check _ Refusal.Literal _ g (λ _ g. on-check _ Refusal.Literal _ g (λ _ g.
       let h = headed column kind bytes b g in
-      (h, sym (headed-file column kind h) ∙ g))))
+      (h, sym (headed-file column kind h) ∙ g))))))
 
 -- ---- found
 

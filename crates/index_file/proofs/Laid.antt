@@ -7,11 +7,14 @@ use native.Mathlib.Omega.{arith}
 use lib.ListN.{length, take, drop, length-append}
 use lib.Seq.{take-at, drop-at}
 use borrow.Author.Tests.{lt-ltb, le-leb, eq-eqb}
-use Rattle.numbers.specs.Meaning.{be, big, same, All, signBit, position}
+use Rattle.numbers.specs.Meaning.{be, big, All, signBit, position}
 use Rattle.numbers.proofs.Laws.{number-laid}
 use Rattle.refusal.specs.Meaning.{limit}
 use Rattle.refusal.specs.declared.Refusal.{Refusal}
 use Rattle.refusal.specs.Reading.{refuse, ok, check}
+use Rattle.names.specs.Layout.{Named, Askable}
+use Rattle.names.specs.Reading.{matches}
+use Rattle.names.proofs.Theorems.{askable-is-tested, askable-short, named-is-askable}
 use Rattle.index_file.specs.declared.Place.{Place}
 use Rattle.index_file.specs.declared.Place.the-variants.{Nowhere, At}
 use Rattle.index_file.specs.Layout.{magic, fileVersion, frontSize, leastHead, ListedIndex, ListedColumn, nameBytes, entryBytes, entriesBytes, columnBytes, columnsBytes, headBytes, GoodIndex, GoodColumn, ListedOnce, Headed, File, Unlisted}
@@ -41,16 +44,16 @@ entry-split e r =
     ∙ ap (λ (l : List ℕ). nameBytes (e .name) ++ l) (append-assoc (be 4 (e .start)) (be 4 (e .length)) r)
 
 pub entries-laid : (kind : List ℕ) (es : List ListedIndex) (place : Place) (t : List ℕ) (k : Rest Place) → All GoodIndex es
-    → entries kind (length es) place (entriesBytes es ++ t) k ≡ k (placeIn kind place es) t
+    → entries (matches kind) (length es) place (entriesBytes es ++ t) k ≡ k (placeIn kind place es) t
 unfolding entries placeIn
 entries-laid kind [] place t k h = refl
 entries-laid kind (e ∷ es) place t k h =
     let r : List ℕ = entriesBytes es ++ t in
-    ap (λ (l : List ℕ). entries kind (suc (length es)) place l k) (append-assoc (entryBytes e) (entriesBytes es) t ∙ entry-split e r)
+    ap (λ (l : List ℕ). entries (matches kind) (suc (length es)) place l k) (append-assoc (entryBytes e) (entriesBytes es) t ∙ entry-split e r)
     ∙ name-laid (e .name) (be 4 (e .start) ++ (be 4 (e .length) ++ r)) _ (h .0 .0)
     ∙ number-laid big 4 (refuse Refusal.Head) (e .start) (be 4 (e .length) ++ r) _ (h .0 .1)
     ∙ number-laid big 4 (refuse Refusal.Head) (e .length) r _ (h .0 .2)
-    ∙ entries-laid kind es (afterEntry (same kind (e .name)) (position (e .start)) (e .length) place) t k (h .1)
+    ∙ entries-laid kind es (afterEntry (matches kind (e .name)) (position (e .start)) (e .length) place) t k (h .1)
 
 -- ---- columns
 
@@ -60,16 +63,16 @@ column-split c r =
     ∙ ap (λ (l : List ℕ). nameBytes (c .name) ++ l) (append-assoc (be 4 (length (c .entries))) (entriesBytes (c .entries)) r)
 
 pub columns-laid : (column kind : List ℕ) (cs : List ListedColumn) (seen : Bool) (place : Place) (t : List ℕ) (k : Rest Place) → All GoodColumn cs
-    → columns column kind (length cs) seen place (columnsBytes cs ++ t) k ≡ k (placeOf kind column seen place cs) t
+    → columns (matches column) (matches kind) (length cs) seen place (columnsBytes cs ++ t) k ≡ k (placeOf kind column seen place cs) t
 unfolding columns placeOf
 columns-laid column kind [] seen place t k h = refl
 columns-laid column kind (c ∷ cs) seen place t k h =
     let r : List ℕ = columnsBytes cs ++ t in
-    ap (λ (l : List ℕ). columns column kind (suc (length cs)) seen place l k) (append-assoc (columnBytes c) (columnsBytes cs) t ∙ column-split c r)
+    ap (λ (l : List ℕ). columns (matches column) (matches kind) (suc (length cs)) seen place l k) (append-assoc (columnBytes c) (columnsBytes cs) t ∙ column-split c r)
     ∙ name-laid (c .name) (be 4 (length (c .entries)) ++ (entriesBytes (c .entries) ++ r)) _ (h .0 .0)
     ∙ count-laid (length (c .entries)) (entriesBytes (c .entries) ++ r) _ (h .0 .1)
     ∙ entries-laid kind (c .entries) Nowhere r _ (h .0 .2)
-    ∙ columns-laid column kind cs (seen || same column (c .name)) (afterColumn (same column (c .name)) seen (placeIn kind Nowhere (c .entries)) place) t k (h .1)
+    ∙ columns-laid column kind cs (seen || matches column (c .name)) (afterColumn (matches column (c .name)) seen (placeIn kind Nowhere (c .entries)) place) t k (h .1)
 
 -- ---- the head
 
@@ -79,7 +82,7 @@ module _ (column kind : List ℕ) (n : ℕ) (cs : List ListedColumn) (r : List �
   abbrev fields : List ℕ
   fields = be 4 (length cs) ++ (columnsBytes cs ++ (be 4 (length r) ++ r))
 
-  head-laid : (total : ℕ) → head column kind n total fields ≡ placed n total (placeOf kind column false Nowhere cs)
+  head-laid : (total : ℕ) → head (matches column) (matches kind) n total fields ≡ placed n total (placeOf kind column false Nowhere cs)
   unfolding head check
   head-laid total =
       let e : length r ≡ length r = refl in
@@ -88,7 +91,7 @@ module _ (column kind : List ℕ) (n : ℕ) (cs : List ListedColumn) (r : List �
       ∙ count-laid (length r) r _ short
       ∙ simp (eq-eqb (length r) (length r) e)
 
-  file-laid : (rest : List ℕ) → file column kind (headBytes n cs r ++ rest) ≡ placed n (length (headBytes n cs r ++ rest)) (placeOf kind column false Nowhere cs)
+  file-laid : (rest : List ℕ) → file (matches column) (matches kind) (headBytes n cs r ++ rest) ≡ placed n (length (headBytes n cs r ++ rest)) (placeOf kind column false Nowhere cs)
   unfolding file check
   file-laid rest =
       let b : List ℕ = headBytes n cs r ++ rest in
@@ -112,15 +115,21 @@ all-at P (y ∷ before) x after h = all-at P before x after (h .1)
 once-fit : {A : Type 0} (Q : A → Type 0) {P : A → Type 0} {x : A} {l : List A} → ListedOnce P x l → All Q l → Q x
 once-fit Q {x = x} o h = all-at Q (o .before) x (o .after) (rw (o .parts) at h)
 
-pub headed-file : (column kind : List ℕ) {bytes : List ℕ} (h : Headed bytes) → file column kind bytes ≡ placed (h .headLength) (length bytes) (placeOf kind column false Nowhere (h .columns))
+pub headed-file : (column kind : List ℕ) {bytes : List ℕ} (h : Headed bytes) → file (matches column) (matches kind) bytes ≡ placed (h .headLength) (length bytes) (placeOf kind column false Nowhere (h .columns))
 headed-file column kind h =
     let place : Place = placeOf kind column false Nowhere (h .columns) in
-    ap (file column kind) (h .laid)
+    ap (file (matches column) (matches kind)) (h .laid)
     ∙ file-laid column kind (h .headLength) (h .columns) (h .redundant) (h .whole) (h .counts .0) (h .counts .1) (h .counts .2) (h .fit) (h .rest)
     ∙ ap (λ (b : List ℕ). placed (h .headLength) (length b) place) (sym (h .laid))
 
+-- names that may be asked for are within the limits
+pub asked-file : (bytes column kind : List ℕ) → length bytes ≤ limit → Askable column → Askable kind → find bytes column kind ≡ file (matches column) (matches kind) bytes
+asked-file bytes column kind a b c =
+    find-file bytes column kind a (omega (arith, askable-short column b)) (omega (arith, askable-short kind c))
+    (askable-is-tested column .0 b) (askable-is-tested kind .0 c)
+
 -- a head that does not list what is asked for
-pub unlisted-file : {column kind bytes : List ℕ} (h : Headed bytes) → Unlisted column kind (h .columns) → file column kind bytes ≡ ok absent
+pub unlisted-file : {column kind bytes : List ℕ} (h : Headed bytes) → Unlisted column kind (h .columns) → file (matches column) (matches kind) bytes ≡ ok absent
 unfolding placed
 unlisted-file {column} {kind} {bytes} h u = headed-file column kind h ∙ ap (placed (h .headLength) (length bytes)) (of-unlisted kind column u)
 
@@ -149,6 +158,6 @@ module _ {column kind body bytes : List ℕ} (f : File column kind body bytes) (
 
   pub laid-find : find bytes column kind ≡ ok (found (partOf f))
   laid-find =
-      let x : length column ≤ limit = rw (← f .column-once .holds) (omega (arith, column-fits .0)) in
-      let y : length kind ≤ limit = rw (← f .kind-once .holds) (omega (arith, kind-fits .0)) in
-      find-file bytes column kind small x y ∙ headed-file column kind (f .head) ∙ ap (placed (f .head .headLength) (length bytes)) place-is ∙ placed-is
+      let x : Askable column = named-is-askable column (f .asked .name) (f .column-once .holds) (omega (arith, column-fits .0)) in
+      let y : Askable kind = named-is-askable kind (f .entry .name) (f .kind-once .holds) (omega (arith, kind-fits .0)) in
+      asked-file bytes column kind small x y ∙ headed-file column kind (f .head) ∙ ap (placed (f .head .headLength) (length bytes)) place-is ∙ placed-is

@@ -7,10 +7,12 @@ use mathlib.Core.Logic.{_⊎_, inl, inr, ⊎-elim}
 use native.Mathlib.Omega.{arith}
 use Rattle.index_file.specs.declared.Place.{Place}
 use Rattle.index_file.specs.declared.Place.the-variants.{Nowhere, At, Repeated}
-use Rattle.numbers.specs.Meaning.{same, position}
+use Rattle.numbers.specs.Meaning.{position}
 use Rattle.numbers.specs.declared.Position.{Position}
-use Rattle.numbers.proofs.SameBytes.{same-refl, same→eq}
-use Rattle.index_file.specs.Layout.{ListedIndex, ListedColumn, Named, IsColumn, IsKind, None, ListedOnce, Unlisted, no-column, no-kind}
+use Rattle.names.specs.Layout.{Named}
+use Rattle.names.specs.Reading.{matches}
+use Rattle.names.proofs.Theorems.{named-is-tested}
+use Rattle.index_file.specs.Layout.{ListedIndex, ListedColumn, IsColumn, IsKind, None, ListedOnce, Unlisted, no-column, no-kind}
 use Rattle.index_file.specs.Reading.{afterEntry, afterColumn}
 
 never : {X : Type 0} → _≡_ {A = ℕ} 0 1 → X
@@ -33,21 +35,15 @@ once-later {A} {y = y} n o = record {
 
 -- ---- names
 
-pub named-same : (asked stored : List ℕ) → Named asked stored → same asked stored ≡ true
-named-same asked stored e = rw e (same-refl asked)
+never-named : (asked stored : List ℕ) → matches asked stored ≡ false → Named asked stored → ⊥
+never-named asked stored e n = let z : true ≡ false = sym (named-is-tested asked stored .0 n) ∙ e in never (cc)
 
-pub same-named : (asked stored : List ℕ) → same asked stored ≡ true → Named asked stored
-same-named asked stored e = sym (same→eq asked stored e)
-
-pub other-name : (asked stored : List ℕ) → (Named asked stored → ⊥) → same asked stored ≡ false
-other-name asked stored h = go (same asked stored) refl
+other-name : (asked stored : List ℕ) → (Named asked stored → ⊥) → matches asked stored ≡ false
+other-name asked stored h = go (matches asked stored) refl
   where
-    go : (b : Bool) → same asked stored ≡ b → same asked stored ≡ false
-    go true e = absurd (h (same-named asked stored e))
+    go : (b : Bool) → matches asked stored ≡ b → matches asked stored ≡ false
+    go true e = absurd (h (named-is-tested asked stored .1 e))
     go false e = e
-
-pub not-named : (asked stored : List ℕ) → same asked stored ≡ false → Named asked stored → ⊥
-not-named asked stored e n = let z : true ≡ false = sym (named-same asked stored n) ∙ e in never (cc)
 
 -- ---- the entries of a column
 
@@ -55,7 +51,7 @@ module _ (kind : List ℕ) where
   -- the place that the reading gathers from entries
   unfoldable pub placeIn : Place → List ListedIndex → Place
   placeIn place [] = place
-  placeIn place (e ∷ es) = placeIn (afterEntry (same kind (e .name)) (position (e .start)) (e .length) place) es
+  placeIn place (e ∷ es) = placeIn (afterEntry (matches kind (e .name)) (position (e .start)) (e .length) place) es
 
   in-none : (place : Place) (es : List ListedIndex) → None (IsKind kind) es → placeIn place es ≡ place
   unfolding placeIn afterEntry
@@ -66,7 +62,7 @@ module _ (kind : List ℕ) where
       → placeIn Nowhere (before ++ (e ∷ after)) ≡ At (position (e .start)) (e .length)
   unfolding placeIn afterEntry
   in-parts [] e after n b a =
-      ap (λ (t : Bool). placeIn (afterEntry t (position (e .start)) (e .length) Nowhere) after) (named-same kind (e .name) n) ∙ in-none (At (position (e .start)) (e .length)) after a
+      ap (λ (t : Bool). placeIn (afterEntry t (position (e .start)) (e .length) Nowhere) after) (named-is-tested kind (e .name) .0 n) ∙ in-none (At (position (e .start)) (e .length)) after a
   in-parts (x ∷ before) e after n b a =
       ap (λ (t : Bool). placeIn (afterEntry t (position (x .start)) (x .length) Nowhere) (before ++ (e ∷ after))) (other-name kind (x .name) (b .0)) ∙ in-parts before e after n (b .1) a
 
@@ -78,7 +74,7 @@ module _ (kind : List ℕ) where
   in-repeated : (es : List ListedIndex) → placeIn Repeated es ≡ Repeated
   unfolding placeIn afterEntry
   in-repeated [] = refl
-  in-repeated (e ∷ es) = ap (λ (p : Place). placeIn p es) (stays (same kind (e .name))) ∙ in-repeated es
+  in-repeated (e ∷ es) = ap (λ (p : Place). placeIn p es) (stays (matches kind (e .name))) ∙ in-repeated es
     where
       stays : (b : Bool) → afterEntry b (position (e .start)) (e .length) Repeated ≡ Repeated
       stays true = refl
@@ -88,27 +84,27 @@ module _ (kind : List ℕ) where
       → None (IsKind kind) es × (At start size ≡ place)
   unfolding placeIn afterEntry
   in-at [] start size n h = (tt, h)
-  in-at (e ∷ es) start size {place} n h = go (same kind (e .name)) refl h (in-at es start size n)
+  in-at (e ∷ es) start size {place} n h = go (matches kind (e .name)) refl h (in-at es start size n)
     where
-      go : (b : Bool) → same kind (e .name) ≡ b → placeIn (afterEntry b (position (e .start)) (e .length) (At start size)) es ≡ place
+      go : (b : Bool) → matches kind (e .name) ≡ b → placeIn (afterEntry b (position (e .start)) (e .length) (At start size)) es ≡ place
           → (placeIn (At start size) es ≡ place → None (IsKind kind) es × (At start size ≡ place))
           → None (IsKind kind) (e ∷ es) × (At start size ≡ place)
       go true q h ih = absurd (n (sym h ∙ in-repeated es))
-      go false q h ih = let r = ih h in ((not-named kind (e .name) q, r .0), r .1)
+      go false q h ih = let r = ih h in ((never-named kind (e .name) q, r .0), r .1)
 
   -- a place that is no repetition is that of no entry, or of the one that is asked for
   pub in-back : (es : List ListedIndex) {place : Place} → (place ≡ Repeated → ⊥) → placeIn Nowhere es ≡ place
       → (None (IsKind kind) es × (Nowhere ≡ place)) ⊎ ((e : ListedIndex) × ListedOnce (IsKind kind) e es × (At (position (e .start)) (e .length) ≡ place))
   unfolding placeIn afterEntry
   in-back [] n h = inl (tt, h)
-  in-back (e ∷ es) {place} n h = go (same kind (e .name)) refl h (in-back es n)
+  in-back (e ∷ es) {place} n h = go (matches kind (e .name)) refl h (in-back es n)
     where
-      go : (b : Bool) → same kind (e .name) ≡ b → placeIn (afterEntry b (position (e .start)) (e .length) Nowhere) es ≡ place
+      go : (b : Bool) → matches kind (e .name) ≡ b → placeIn (afterEntry b (position (e .start)) (e .length) Nowhere) es ≡ place
           → (placeIn Nowhere es ≡ place → (None (IsKind kind) es × (Nowhere ≡ place)) ⊎ ((e : ListedIndex) × ListedOnce (IsKind kind) e es × (At (position (e .start)) (e .length) ≡ place)))
           → (None (IsKind kind) (e ∷ es) × (Nowhere ≡ place)) ⊎ ((x : ListedIndex) × ListedOnce (IsKind kind) x (e ∷ es) × (At (position (x .start)) (x .length) ≡ place))
-      go true q h ih = let r = in-at es (position (e .start)) (e .length) n h in inr (e, once-first (same-named kind (e .name) q) (r .0), r .1)
+      go true q h ih = let r = in-at es (position (e .start)) (e .length) n h in inr (e, once-first (named-is-tested kind (e .name) .1 q) (r .0), r .1)
       go false q h ih =
-          let o = not-named kind (e .name) q in
+          let o = never-named kind (e .name) q in
           ⊎-elim (λ r. inl ((o, r .0), r .1)) (λ r. inr (r .0, once-later o (r .1), r .2)) (ih h)
 
   -- ---- the columns
@@ -118,7 +114,7 @@ module _ (kind : List ℕ) where
     unfoldable pub placeOf : Bool → Place → List ListedColumn → Place
     placeOf seen place [] = place
     placeOf seen place (c ∷ cs) =
-        placeOf (seen || same column (c .name)) (afterColumn (same column (c .name)) seen (placeIn Nowhere (c .entries)) place) cs
+        placeOf (seen || matches column (c .name)) (afterColumn (matches column (c .name)) seen (placeIn Nowhere (c .entries)) place) cs
 
     of-none : (seen : Bool) (place : Place) (cs : List ListedColumn) → None (IsColumn column) cs → placeOf seen place cs ≡ place
     unfolding placeOf afterColumn
@@ -129,7 +125,7 @@ module _ (kind : List ℕ) where
         → None (IsColumn column) after → placeOf false Nowhere (before ++ (c ∷ after)) ≡ placeIn Nowhere (c .entries)
     unfolding placeOf afterColumn
     of-parts [] c after n b a =
-        ap (λ (t : Bool). placeOf (false || t) (afterColumn t false (placeIn Nowhere (c .entries)) Nowhere) after) (named-same column (c .name) n)
+        ap (λ (t : Bool). placeOf (false || t) (afterColumn t false (placeIn Nowhere (c .entries)) Nowhere) after) (named-is-tested column (c .name) .0 n)
         ∙ of-none true (placeIn Nowhere (c .entries)) after a
     of-parts (x ∷ before) c after n b a =
         ap (λ (t : Bool). placeOf (false || t) (afterColumn t false (placeIn Nowhere (x .entries)) Nowhere) (before ++ (c ∷ after))) (other-name column (x .name) (b .0))
@@ -141,7 +137,7 @@ module _ (kind : List ℕ) where
     of-repeated : (cs : List ListedColumn) → placeOf true Repeated cs ≡ Repeated
     unfolding placeOf afterColumn
     of-repeated [] = refl
-    of-repeated (c ∷ cs) = ap (λ (p : Place). placeOf true p cs) (stays (same column (c .name))) ∙ of-repeated cs
+    of-repeated (c ∷ cs) = ap (λ (p : Place). placeOf true p cs) (stays (matches column (c .name))) ∙ of-repeated cs
       where
         stays : (b : Bool) → afterColumn b true (placeIn Nowhere (c .entries)) Repeated ≡ Repeated
         stays true = refl
@@ -151,27 +147,27 @@ module _ (kind : List ℕ) where
         → None (IsColumn column) cs × (new ≡ place)
     unfolding placeOf afterColumn
     of-seen new [] n h = (tt, h)
-    of-seen new (c ∷ cs) {place} n h = go (same column (c .name)) refl h (of-seen new cs n)
+    of-seen new (c ∷ cs) {place} n h = go (matches column (c .name)) refl h (of-seen new cs n)
       where
-        go : (b : Bool) → same column (c .name) ≡ b → placeOf true (afterColumn b true (placeIn Nowhere (c .entries)) new) cs ≡ place
+        go : (b : Bool) → matches column (c .name) ≡ b → placeOf true (afterColumn b true (placeIn Nowhere (c .entries)) new) cs ≡ place
             → (placeOf true new cs ≡ place → None (IsColumn column) cs × (new ≡ place))
             → None (IsColumn column) (c ∷ cs) × (new ≡ place)
         go true q h ih = absurd (n (sym h ∙ of-repeated cs))
-        go false q h ih = let r = ih h in ((not-named column (c .name) q, r .0), r .1)
+        go false q h ih = let r = ih h in ((never-named column (c .name) q, r .0), r .1)
 
     -- a place that is no repetition is that of no column, or of the one that is asked for
     pub of-back : (cs : List ListedColumn) {place : Place} → (place ≡ Repeated → ⊥) → placeOf false Nowhere cs ≡ place
         → (None (IsColumn column) cs × (Nowhere ≡ place)) ⊎ ((c : ListedColumn) × ListedOnce (IsColumn column) c cs × (placeIn Nowhere (c .entries) ≡ place))
     unfolding placeOf afterColumn
     of-back [] n h = inl (tt, h)
-    of-back (c ∷ cs) {place} n h = go (same column (c .name)) refl h (of-back cs n)
+    of-back (c ∷ cs) {place} n h = go (matches column (c .name)) refl h (of-back cs n)
       where
-        go : (b : Bool) → same column (c .name) ≡ b → placeOf (false || b) (afterColumn b false (placeIn Nowhere (c .entries)) Nowhere) cs ≡ place
+        go : (b : Bool) → matches column (c .name) ≡ b → placeOf (false || b) (afterColumn b false (placeIn Nowhere (c .entries)) Nowhere) cs ≡ place
             → (placeOf false Nowhere cs ≡ place → (None (IsColumn column) cs × (Nowhere ≡ place)) ⊎ ((c : ListedColumn) × ListedOnce (IsColumn column) c cs × (placeIn Nowhere (c .entries) ≡ place)))
             → (None (IsColumn column) (c ∷ cs) × (Nowhere ≡ place)) ⊎ ((x : ListedColumn) × ListedOnce (IsColumn column) x (c ∷ cs) × (placeIn Nowhere (x .entries) ≡ place))
-        go true q h ih = let r = of-seen (placeIn Nowhere (c .entries)) cs n h in inr (c, once-first (same-named column (c .name) q) (r .0), r .1)
+        go true q h ih = let r = of-seen (placeIn Nowhere (c .entries)) cs n h in inr (c, once-first (named-is-tested column (c .name) .1 q) (r .0), r .1)
         go false q h ih =
-            let o = not-named column (c .name) q in
+            let o = never-named column (c .name) q in
             ⊎-elim (λ r. inl ((o, r .0), r .1)) (λ r. inr (r .0, once-later o (r .1), r .2)) (ih h)
 
     -- the place is one: so the asked column stands once, and in it the asked kind

@@ -9,7 +9,7 @@ use lib.Dec.{eqb, leb}
 use lib.ListN.{length, take, drop, length-drop}
 use lib.Seq.{drop-drop, length-take-le}
 use borrow.Author.Tests.{lt-ltb, le-ltb, le-leb, lt-leb, eq-eqb, ne-eqb}
-use Rattle.numbers.specs.Meaning.{beAt, number, big, same, signBit, position}
+use Rattle.numbers.specs.Meaning.{beAt, number, big, signBit, position}
 use Rattle.numbers.proofs.Laws.{number-at, number-short}
 use Rattle.numbers.specs.declared.Position.{Position}
 use Rattle.refusal.specs.declared.Refusal.{Refusal}
@@ -80,37 +80,37 @@ module _ (s : List ℕ) (at : Position) where
 -- ---- the entries of a column
 
 -- what is left after i of n entries, where the next one stands at p
-pub record Entries (kind s : List ℕ) (n : ℕ) (at : Position) (place : Place) (p : Position) (i : ℕ) : Type 0 where
-  pub so : (k : Rest Place) → entries kind n Place.Nowhere (drop (at .0) s) k ≡ entries kind (n - i) place (drop (p .0) s) k
+pub record Entries (isKind : List ℕ → Bool) (s : List ℕ) (n : ℕ) (at : Position) (place : Place) (p : Position) (i : ℕ) : Type 0 where
+  pub so : (k : Rest Place) → entries isKind n Place.Nowhere (drop (at .0) s) k ≡ entries isKind (n - i) place (drop (p .0) s) k
 
-pub entries-first : (kind s : List ℕ) (n : ℕ) (at : Position) → Entries kind s n at Place.Nowhere at 0
-entries-first kind s n at = let e : n - 0 ≡ n = omega arith in record { so = λ k. simp e }
+pub entries-first : (isKind : List ℕ → Bool) (s : List ℕ) (n : ℕ) (at : Position) → Entries isKind s n at Place.Nowhere at 0
+entries-first isKind s n at = let e : n - 0 ≡ n = omega arith in record { so = λ k. simp e }
 
 -- one entry of m that are left
-entry : (kind : List ℕ) (m : ℕ) (place : Place) (s : List ℕ) (k : Rest Place) → 0 < m
-    → entries kind m place s k
+entry : (isKind : List ℕ → Bool) (m : ℕ) (place : Place) (s : List ℕ) (k : Rest Place) → 0 < m
+    → entries isKind m place s k
     ≡ name s (λ stored s. number big 4 (refuse Refusal.Head) s (λ start s. number big 4 (refuse Refusal.Head) s (λ size s.
-    entries kind (m - 1) (afterEntry (same kind stored) (position start) size place) s k)))
+    entries isKind (m - 1) (afterEntry (isKind stored) (position start) size place) s k)))
 unfolding entries
-entry kind zero place s k h = absurd (omega arith)
-entry kind (suc m) place s k h = let e : suc m - 1 ≡ m = omega arith in simp e
+entry isKind zero place s k h = absurd (omega arith)
+entry isKind (suc m) place s k h = let e : suc m - 1 ≡ m = omega arith in simp e
 
-module _ {kind s : List ℕ} {n : ℕ} {at : Position} {place : Place} {p : Position} {i : ℕ} (st : Entries kind s n at place p i) where
-  pub entries-done : n ≤ i → (k : Rest Place) → entries kind n Place.Nowhere (drop (at .0) s) k ≡ k place (drop (p .0) s)
+module _ {isKind : List ℕ → Bool} {s : List ℕ} {n : ℕ} {at : Position} {place : Place} {p : Position} {i : ℕ} (st : Entries isKind s n at place p i) where
+  pub entries-done : n ≤ i → (k : Rest Place) → entries isKind n Place.Nowhere (drop (at .0) s) k ≡ k place (drop (p .0) s)
   unfolding entries
   entries-done h k = let e : n - i ≡ 0 = omega arith in st .so k ∙ simp e
 
   module _ (h : i < n) where
-    pub entries-name : {f : Name} → nameAt f p s → f ≡ Name.Broken → walkAt Walk.Broken s (entries kind n Place.Nowhere (drop (at .0) s))
-    entries-name g e k = st .so k ∙ entry kind (n - i) place (drop (p .0) s) k (omega arith) ∙ (rw e at g) _
+    pub entries-name : {f : Name} → nameAt f p s → f ≡ Name.Broken → walkAt Walk.Broken s (entries isKind n Place.Nowhere (drop (at .0) s))
+    entries-name g e k = st .so k ∙ entry isKind (n - i) place (drop (p .0) s) k (omega arith) ∙ (rw e at g) _
 
     module _ {f : Name} (g : nameAt f p s) {e : Position} (q : f ≡ Name.Ends e) where
-      past-name : (k : Rest Place) → entries kind n Place.Nowhere (drop (at .0) s) k
+      past-name : (k : Rest Place) → entries isKind n Place.Nowhere (drop (at .0) s) k
           ≡ number big 4 (refuse Refusal.Head) (drop (e .0) s) (λ start t. number big 4 (refuse Refusal.Head) t (λ size t.
-          entries kind (n - i - 1) (afterEntry (same kind (take (e .0 - (p .0 + 2)) (drop (p .0 + 2) s))) (position start) size place) t k))
-      past-name k = st .so k ∙ entry kind (n - i) place (drop (p .0) s) k (omega arith) ∙ (rw q at g) .2 _
+          entries isKind (n - i - 1) (afterEntry (isKind (take (e .0 - (p .0 + 2)) (drop (p .0 + 2) s))) (position start) size place) t k))
+      past-name k = st .so k ∙ entry isKind (n - i) place (drop (p .0) s) k (omega arith) ∙ (rw q at g) .2 _
 
-      pub entries-short : length s - e .0 < 8 → walkAt Walk.Broken s (entries kind n Place.Nowhere (drop (at .0) s))
+      pub entries-short : length s - e .0 < 8 → walkAt Walk.Broken s (entries isKind n Place.Nowhere (drop (at .0) s))
       entries-short l k =
           past-name k ∙ elim (decLe (e .0 + 4) (length s)) [
             | yes r ↦ number-at big 4 (refuse Refusal.Head) s (e .0) _ r ∙ number-short big 4 (refuse Refusal.Head) s (e .0 + 4) _ (omega arith)
@@ -118,8 +118,8 @@ module _ {kind s : List ℕ} {n : ℕ} {at : Position} {place : Place} {p : Posi
           ]
 
       pub entries-next : e .0 + 8 ≤ length s → {start size : ℕ} → start ≡ beAt 4 s (e .0) → size ≡ beAt 4 s (e .0 + 4)
-          → {hit : Bool} → hit ≡ same kind (take (e .0 - (p .0 + 2)) (drop (p .0 + 2) s)) → {new : Place} → new ≡ afterEntry hit (position start) size place
-          → Entries kind s n at new (position (e .0 + 8)) (i + 1)
+          → {hit : Bool} → hit ≡ isKind (take (e .0 - (p .0 + 2)) (drop (p .0 + 2) s)) → {new : Place} → new ≡ afterEntry hit (position start) size place
+          → Entries isKind s n at new (position (e .0 + 8)) (i + 1)
       entries-next l a b c d =
           let x : e .0 + 4 + 4 ≡ e .0 + 8 = omega arith in
           let y : n - i - 1 ≡ n - (i + 1) = omega arith in
@@ -131,54 +131,54 @@ module _ {kind s : List ℕ} {n : ℕ} {at : Position} {place : Place} {p : Posi
 -- ---- the columns
 
 -- what is left after i of n columns, where the next one stands at p
-pub record Columns (column kind s : List ℕ) (n : ℕ) (at : Position) (place : Place) (seen : Bool) (p : Position) (i : ℕ) : Type 0 where
-  pub so : (k : Rest Place) → columns column kind n false Place.Nowhere (drop (at .0) s) k ≡ columns column kind (n - i) seen place (drop (p .0) s) k
+pub record Columns (isColumn isKind : List ℕ → Bool) (s : List ℕ) (n : ℕ) (at : Position) (place : Place) (seen : Bool) (p : Position) (i : ℕ) : Type 0 where
+  pub so : (k : Rest Place) → columns isColumn isKind n false Place.Nowhere (drop (at .0) s) k ≡ columns isColumn isKind (n - i) seen place (drop (p .0) s) k
 
-pub columns-first : (column kind s : List ℕ) (n : ℕ) (at : Position) → Columns column kind s n at Place.Nowhere false at 0
-columns-first column kind s n at = let e : n - 0 ≡ n = omega arith in record { so = λ k. simp e }
+pub columns-first : (isColumn isKind : List ℕ → Bool) (s : List ℕ) (n : ℕ) (at : Position) → Columns isColumn isKind s n at Place.Nowhere false at 0
+columns-first isColumn isKind s n at = let e : n - 0 ≡ n = omega arith in record { so = λ k. simp e }
 
 -- one column of m that are left
-one-column : (column kind : List ℕ) (m : ℕ) (seen : Bool) (place : Place) (s : List ℕ) (k : Rest Place) → 0 < m
-    → columns column kind m seen place s k
-    ≡ name s (λ stored s. count s (λ n s. entries kind n Place.Nowhere s (λ new s.
-    columns column kind (m - 1) (seen || same column stored) (afterColumn (same column stored) seen new place) s k)))
+one-column : (isColumn isKind : List ℕ → Bool) (m : ℕ) (seen : Bool) (place : Place) (s : List ℕ) (k : Rest Place) → 0 < m
+    → columns isColumn isKind m seen place s k
+    ≡ name s (λ stored s. count s (λ n s. entries isKind n Place.Nowhere s (λ new s.
+    columns isColumn isKind (m - 1) (seen || isColumn stored) (afterColumn (isColumn stored) seen new place) s k)))
 unfolding columns
-one-column column kind zero seen place s k h = absurd (omega arith)
-one-column column kind (suc m) seen place s k h = let e : suc m - 1 ≡ m = omega arith in simp e
+one-column isColumn isKind zero seen place s k h = absurd (omega arith)
+one-column isColumn isKind (suc m) seen place s k h = let e : suc m - 1 ≡ m = omega arith in simp e
 
-module _ {column kind s : List ℕ} {n : ℕ} {at : Position} {place : Place} {seen : Bool} {p : Position} {i : ℕ} (st : Columns column kind s n at place seen p i) where
-  pub columns-done : n ≤ i → (k : Rest Place) → columns column kind n false Place.Nowhere (drop (at .0) s) k ≡ k place (drop (p .0) s)
+module _ {isColumn isKind : List ℕ → Bool} {s : List ℕ} {n : ℕ} {at : Position} {place : Place} {seen : Bool} {p : Position} {i : ℕ} (st : Columns isColumn isKind s n at place seen p i) where
+  pub columns-done : n ≤ i → (k : Rest Place) → columns isColumn isKind n false Place.Nowhere (drop (at .0) s) k ≡ k place (drop (p .0) s)
   unfolding columns
   columns-done h k = let e : n - i ≡ 0 = omega arith in st .so k ∙ simp e
 
   module _ (h : i < n) where
-    pub columns-name : {f : Name} → nameAt f p s → f ≡ Name.Broken → walkAt Walk.Broken s (columns column kind n false Place.Nowhere (drop (at .0) s))
-    columns-name g e k = st .so k ∙ one-column column kind (n - i) seen place (drop (p .0) s) k (omega arith) ∙ (rw e at g) _
+    pub columns-name : {f : Name} → nameAt f p s → f ≡ Name.Broken → walkAt Walk.Broken s (columns isColumn isKind n false Place.Nowhere (drop (at .0) s))
+    columns-name g e k = st .so k ∙ one-column isColumn isKind (n - i) seen place (drop (p .0) s) k (omega arith) ∙ (rw e at g) _
 
     module _ {f : Name} (named-f : nameAt f p s) {e : Position} (q : f ≡ Name.Ends e) where
       abbrev stored : List ℕ
       stored = take (e .0 - (p .0 + 2)) (drop (p .0 + 2) s)
 
-      after-name : (k : Rest Place) → columns column kind n false Place.Nowhere (drop (at .0) s) k
-          ≡ count (drop (e .0) s) (λ m t. entries kind m Place.Nowhere t (λ new t.
-          columns column kind (n - i - 1) (seen || same column stored) (afterColumn (same column stored) seen new place) t k))
-      after-name k = st .so k ∙ one-column column kind (n - i) seen place (drop (p .0) s) k (omega arith) ∙ (rw q at named-f) .2 _
+      after-name : (k : Rest Place) → columns isColumn isKind n false Place.Nowhere (drop (at .0) s) k
+          ≡ count (drop (e .0) s) (λ m t. entries isKind m Place.Nowhere t (λ new t.
+          columns isColumn isKind (n - i - 1) (seen || isColumn stored) (afterColumn (isColumn stored) seen new place) t k))
+      after-name k = st .so k ∙ one-column isColumn isKind (n - i) seen place (drop (p .0) s) k (omega arith) ∙ (rw q at named-f) .2 _
 
-      pub columns-count : {g : Count} → countAt g e s → g ≡ Count.Broken → walkAt Walk.Broken s (columns column kind n false Place.Nowhere (drop (at .0) s))
+      pub columns-count : {g : Count} → countAt g e s → g ≡ Count.Broken → walkAt Walk.Broken s (columns isColumn isKind n false Place.Nowhere (drop (at .0) s))
       columns-count c r k = after-name k ∙ (rw r at c) _
 
       module _ {g : Count} (counted-g : countAt g e s) {m : ℕ} (r : g ≡ Count.Is m) where
-        after-count : (k : Rest Place) → columns column kind n false Place.Nowhere (drop (at .0) s) k
-            ≡ entries kind m Place.Nowhere (drop (e .0 + 4) s) (λ new t.
-            columns column kind (n - i - 1) (seen || same column stored) (afterColumn (same column stored) seen new place) t k)
+        after-count : (k : Rest Place) → columns isColumn isKind n false Place.Nowhere (drop (at .0) s) k
+            ≡ entries isKind m Place.Nowhere (drop (e .0 + 4) s) (λ new t.
+            columns isColumn isKind (n - i - 1) (seen || isColumn stored) (afterColumn (isColumn stored) seen new place) t k)
         after-count k = after-name k ∙ (rw r at counted-g) .2 _
 
-        pub columns-entries : {w : Walk} → walkAt w s (entries kind m Place.Nowhere (drop (e .0 + 4) s)) → w ≡ Walk.Broken
-            → walkAt Walk.Broken s (columns column kind n false Place.Nowhere (drop (at .0) s))
+        pub columns-entries : {w : Walk} → walkAt w s (entries isKind m Place.Nowhere (drop (e .0 + 4) s)) → w ≡ Walk.Broken
+            → walkAt Walk.Broken s (columns isColumn isKind n false Place.Nowhere (drop (at .0) s))
         columns-entries walked-w x k = after-count k ∙ (rw x at walked-w) _
 
-        pub columns-next : {w : Walk} → walkAt w s (entries kind m Place.Nowhere (drop (e .0 + 4) s)) → {next : Position} {new : Place} → w ≡ Walk.Past next new
-            → {hit : Bool} → hit ≡ same column stored → {place′ : Place} → place′ ≡ afterColumn hit seen new place → Columns column kind s n at place′ (seen || hit) next (i + 1)
+        pub columns-next : {w : Walk} → walkAt w s (entries isKind m Place.Nowhere (drop (e .0 + 4) s)) → {next : Position} {new : Place} → w ≡ Walk.Past next new
+            → {hit : Bool} → hit ≡ isColumn stored → {place′ : Place} → place′ ≡ afterColumn hit seen new place → Columns isColumn isKind s n at place′ (seen || hit) next (i + 1)
         columns-next walked-w x b c =
             let y : n - i - 1 ≡ n - (i + 1) = omega arith in
             record { so = λ k. after-count k ∙ (rw x at walked-w) .1 _ ∙ simp (← b, ← c, y) }
@@ -208,64 +208,64 @@ module _ (size total : ℕ) {place : Place} {start : Position} {length : ℕ} (e
 
 -- ---- the head
 
-module _ (column kind s : List ℕ) (total : ℕ) {f : Count} (counted-f : countAt f (position frontSize) s) where
-  pub head-count : f ≡ Count.Broken → head column kind (length s) total (drop frontSize s) ≡ refuse Refusal.Head
+module _ (isColumn isKind : List ℕ → Bool) (s : List ℕ) (total : ℕ) {f : Count} (counted-f : countAt f (position frontSize) s) where
+  pub head-count : f ≡ Count.Broken → head isColumn isKind (length s) total (drop frontSize s) ≡ refuse Refusal.Head
   unfolding head
   head-count e = (rw e at counted-f) _
 
   module _ {n : ℕ} (e : f ≡ Count.Is n) where
-    after-number : head column kind (length s) total (drop frontSize s)
-        ≡ columns column kind n false Place.Nowhere (drop (frontSize + 4) s) (λ place t. count t (λ redundant t.
+    after-number : head isColumn isKind (length s) total (drop frontSize s)
+        ≡ columns isColumn isKind n false Place.Nowhere (drop (frontSize + 4) s) (λ place t. count t (λ redundant t.
         check (eqb redundant (length t)) Refusal.Head (placed (length s) total place)))
     unfolding head
     after-number = (rw e at counted-f) .2 _
 
-    pub head-columns : {w : Walk} → walkAt w s (columns column kind n false Place.Nowhere (drop (frontSize + 4) s)) → w ≡ Walk.Broken
-        → head column kind (length s) total (drop frontSize s) ≡ refuse Refusal.Head
+    pub head-columns : {w : Walk} → walkAt w s (columns isColumn isKind n false Place.Nowhere (drop (frontSize + 4) s)) → w ≡ Walk.Broken
+        → head isColumn isKind (length s) total (drop frontSize s) ≡ refuse Refusal.Head
     head-columns h q = after-number ∙ (rw q at h) _
 
-    module _ {w : Walk} {next : Position} {place : Place} (q : w ≡ Walk.Past next place) (h : walkAt w s (columns column kind n false Place.Nowhere (drop (frontSize + 4) s))) where
-      after-columns : head column kind (length s) total (drop frontSize s)
+    module _ {w : Walk} {next : Position} {place : Place} (q : w ≡ Walk.Past next place) (h : walkAt w s (columns isColumn isKind n false Place.Nowhere (drop (frontSize + 4) s))) where
+      after-columns : head isColumn isKind (length s) total (drop frontSize s)
           ≡ count (drop (next .0) s) (λ redundant t. check (eqb redundant (length t)) Refusal.Head (placed (length s) total place))
       after-columns = after-number ∙ (rw q at h) .1 _
 
-      pub head-redundant : {g : Count} → countAt g next s → g ≡ Count.Broken → head column kind (length s) total (drop frontSize s) ≡ refuse Refusal.Head
+      pub head-redundant : {g : Count} → countAt g next s → g ≡ Count.Broken → head isColumn isKind (length s) total (drop frontSize s) ≡ refuse Refusal.Head
       head-redundant c r = after-columns ∙ (rw r at c) _
 
       module _ {g : Count} {redundant : ℕ} (r : g ≡ Count.Is redundant) (c : countAt g next s) where
-        after-redundant : head column kind (length s) total (drop frontSize s)
+        after-redundant : head isColumn isKind (length s) total (drop frontSize s)
             ≡ check (eqb redundant (length s - (next .0 + 4))) Refusal.Head (placed (length s) total place)
         after-redundant = after-columns ∙ (rw r at c) .2 _ ∙ simp length-drop
 
-        pub head-end : (redundant ≡ length s - (next .0 + 4) → ⊥) → head column kind (length s) total (drop frontSize s) ≡ refuse Refusal.Head
+        pub head-end : (redundant ≡ length s - (next .0 + 4) → ⊥) → head isColumn isKind (length s) total (drop frontSize s) ≡ refuse Refusal.Head
         unfolding check
         head-end x = after-redundant ∙ simp (ne-eqb redundant (length s - (next .0 + 4)) x)
 
-        pub head-placed : redundant ≡ length s - (next .0 + 4) → head column kind (length s) total (drop frontSize s) ≡ placed (length s) total place
+        pub head-placed : redundant ≡ length s - (next .0 + 4) → head isColumn isKind (length s) total (drop frontSize s) ≡ placed (length s) total place
         unfolding check
         head-placed x = after-redundant ∙ simp (eq-eqb redundant (length s - (next .0 + 4)) x)
 
 -- ---- the file, whose first two fields are right
 
-module _ (column kind bytes : List ℕ) (long : frontSize ≤ length bytes) {stored version : ℕ} (e : stored ≡ beAt 8 bytes 0) (g : stored ≡ magic)
+module _ (isColumn isKind : List ℕ → Bool) (bytes : List ℕ) (long : frontSize ≤ length bytes) {stored version : ℕ} (e : stored ≡ beAt 8 bytes 0) (g : stored ≡ magic)
     (e′ : version ≡ beAt 4 bytes 8) (g′ : version ≡ fileVersion) {f : Count} (counted-f : countAt f (position 12) bytes) where
-  pub file-count : f ≡ Count.Broken → file column kind bytes ≡ refuse Refusal.Head
-  file-count q = from-count column kind bytes long e g e′ g′ ∙ (rw q at counted-f) _
+  pub file-count : f ≡ Count.Broken → file isColumn isKind bytes ≡ refuse Refusal.Head
+  file-count q = from-count isColumn isKind bytes long e g e′ g′ ∙ (rw q at counted-f) _
 
   module _ {n : ℕ} (q : f ≡ Count.Is n) where
-    after-length : file column kind bytes
-        ≡ check (leb leastHead n) Refusal.Head (check (leb n (length bytes)) Refusal.Head (head column kind n (length bytes) (drop frontSize (take n bytes))))
-    after-length = from-count column kind bytes long e g e′ g′ ∙ (rw q at counted-f) .2 _
+    after-length : file isColumn isKind bytes
+        ≡ check (leb leastHead n) Refusal.Head (check (leb n (length bytes)) Refusal.Head (head isColumn isKind n (length bytes) (drop frontSize (take n bytes))))
+    after-length = from-count isColumn isKind bytes long e g e′ g′ ∙ (rw q at counted-f) .2 _
 
-    pub file-low : n < leastHead → file column kind bytes ≡ refuse Refusal.Head
+    pub file-low : n < leastHead → file isColumn isKind bytes ≡ refuse Refusal.Head
     unfolding check
     file-low h = after-length ∙ simp lt-leb
 
-    pub file-past : leastHead ≤ n → length bytes < n → file column kind bytes ≡ refuse Refusal.Head
+    pub file-past : leastHead ≤ n → length bytes < n → file isColumn isKind bytes ≡ refuse Refusal.Head
     unfolding check
     file-past h l = after-length ∙ simp (le-leb, lt-leb)
 
     pub file-head : leastHead ≤ n → n ≤ length bytes
-        → file column kind bytes ≡ head column kind (length (take n bytes)) (length bytes) (drop frontSize (take n bytes))
+        → file isColumn isKind bytes ≡ head isColumn isKind (length (take n bytes)) (length bytes) (drop frontSize (take n bytes))
     unfolding check
     file-head h l = after-length ∙ simp (le-leb, length-take-le n bytes l)

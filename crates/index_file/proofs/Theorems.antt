@@ -1,21 +1,25 @@
 -- The claims, proved; and that what is found lies within the bytes.
 use Prim.Native.Nat.{ℕ, _+_, _≤_}
-use mathlib.Core.Path.{_≡_, refl, sym, ap, _∙_}
+use mathlib.Core.Path.{_≡_, refl, sym, ap, _∙_, fun-ext}
+use mathlib.Core.Bool.{Bool, true, false}
 use mathlib.Core.List.{List}
-use mathlib.Core.Logic.{inl, inr}
+use mathlib.Core.Logic.{_⊎_, inl, inr, ⊎-elim}
 use native.Mathlib.Decide.{decLe, ℕ-discrete}
 use native.Mathlib.Omega.{arith}
 use lib.ListN.{length}
-use Rattle.numbers.specs.Meaning.{beAt, Bytes}
+use Rattle.numbers.specs.Meaning.{beAt, Bytes, same}
 use Rattle.refusal.specs.Meaning.{numberOf, limit}
 use Rattle.refusal.specs.declared.Refusal.{Refusal}
-use Rattle.refusal.specs.Reading.{refuse, ok, numbersOf}
+use Rattle.refusal.specs.Reading.{refuse, ok, check, numbersOf}
 use Rattle.refusal.proofs.Laws.{ok-same}
-use Rattle.index_file.specs.Layout.{magic, frontSize}
-use Rattle.index_file.specs.Reading.{found, absent, Part, bytesOf, find, soughtNumbers}
-use Rattle.index_file.specs.Claims.{LaidOutIsFound, FoundIsLaidOut, OneBody, UnlistedIsAbsent, AbsentIsUnlisted, NumberOfFound, NumberOfAbsent, OtherVersionIsRefused, OtherVersionIsNotFound, FindCarriesNothing}
-use Rattle.index_file.proofs.Laws.{file-short, file-magic, file-version, find-long, find-column, find-kind, find-file}
-use Rattle.index_file.proofs.Laid.{partOf, laid-find, unlisted-file}
+use Rattle.names.specs.Layout.{Askable}
+use Rattle.names.specs.Reading.{askable, matches}
+use Rattle.names.proofs.Theorems.{askable-is-tested, plain-is-compared, plain-is-askable}
+use Rattle.index_file.specs.Layout.{magic, fileVersion, frontSize}
+use Rattle.index_file.specs.Reading.{found, absent, Part, bytesOf, withinLimits, find, soughtNumbers}
+use Rattle.index_file.specs.Claims.{LaidOutIsFound, FoundIsLaidOut, OneBody, UnlistedIsAbsent, AbsentIsUnlisted, NumberOfFound, NumberOfAbsent, UnaskableIsLiteral, AskableIsLookedUp, PlainAsBefore, OtherVersionIsRefused, OtherVersionIsNotFound, FindCarriesNothing}
+use Rattle.index_file.proofs.Laws.{file-short, file-magic, file-version, find-long, find-column, find-kind, find-other-column, find-other-kind}
+use Rattle.index_file.proofs.Laid.{partOf, laid-find, asked-file, unlisted-file}
 use Rattle.index_file.proofs.Accepted.{accepted, within, unlisted}
 use Rattle.index_file.proofs.CarriesNothing.{find-bare}
 
@@ -34,7 +38,7 @@ one-body column kind body body′ bytes f g small =
     f .part ∙ ap (λ (p : Part). bytesOf p bytes) same ∙ sym (g .part)
 
 pub unlisted-is-absent : UnlistedIsAbsent
-unlisted-is-absent bytes column kind h u a b c = find-file bytes column kind a b c ∙ unlisted-file h u
+unlisted-is-absent bytes column kind h u a b c = asked-file bytes column kind a b c ∙ unlisted-file h u
 
 pub absent-is-unlisted : AbsentIsUnlisted
 absent-is-unlisted = unlisted
@@ -71,8 +75,32 @@ number-of-absent (ok (found p)) e = absurd (omega arith)
 
 -- ---- versions
 
+-- a name may be asked for, or the test says no
+tested : (asked : List ℕ) → (askable asked ≡ false) ⊎ Askable asked
+tested asked = by (askable asked) refl
+  where
+    by : (b : Bool) → askable asked ≡ b → (askable asked ≡ false) ⊎ Askable asked
+    by true e = inr (askable-is-tested asked .1 e)
+    by false e = inl e
+
+
 pub other-version-is-refused : OtherVersionIsRefused
-other-version-is-refused bytes column kind other a b c h m = find-file bytes column kind a b c ∙ file-version column kind bytes h refl m refl other
+other-version-is-refused bytes column kind other a b c h m =
+    asked-file bytes column kind a b c ∙ file-version (matches column) (matches kind) bytes h refl m refl other
+
+-- of a file that is looked at at all
+other-version-looked-at : (bytes column kind : List ℕ) → (beAt 4 bytes 8 ≡ fileVersion → ⊥) → length bytes ≤ limit → Askable column → Askable kind
+    → (find bytes column kind ≡ refuse Refusal.Short) ⊎ ((find bytes column kind ≡ refuse Refusal.Magic) ⊎ (find bytes column kind ≡ refuse Refusal.Version))
+other-version-looked-at bytes column kind other a b c =
+    let e = asked-file bytes column kind a b c in
+    elim (decLe frontSize (length bytes)) [
+      | no l ↦ inl (e ∙ file-short (matches column) (matches kind) bytes (omega arith))
+      | yes h ↦
+          elim (ℕ-discrete (beAt 8 bytes 0) magic) [
+            | no n ↦ inr (inl (e ∙ file-magic (matches column) (matches kind) bytes h refl n))
+            | yes m ↦ inr (inr (other-version-is-refused bytes column kind other a b c h m))
+          ]
+    ]
 
 pub other-version-is-not-found : OtherVersionIsNotFound
 other-version-is-not-found bytes column kind other =
@@ -85,17 +113,32 @@ other-version-is-not-found bytes column kind other =
                 elim (decLe (length kind) limit) [
                   | no l ↦ inl (find-kind bytes column kind a b (omega arith))
                   | yes c ↦
-                      elim (decLe frontSize (length bytes)) [
-                        | no l ↦ inr (inl (find-file bytes column kind a b c ∙ file-short column kind bytes (omega arith)))
-                        | yes h ↦
-                            elim (ℕ-discrete (beAt 8 bytes 0) magic) [
-                              | no n ↦ inr (inr (inl (find-file bytes column kind a b c ∙ file-magic column kind bytes h refl n)))
-                              | yes m ↦ inr (inr (inr (other-version-is-refused bytes column kind other a b c h m)))
-                            ]
-                      ]
+                      inr
+                      (⊎-elim (λ e. inl (find-other-column bytes column kind a b c e)) (λ x.
+                      ⊎-elim (λ f. inl (find-other-kind bytes column kind a b c (askable-is-tested column .0 x) f)) (λ y.
+                      inr (other-version-looked-at bytes column kind other a x y)) (tested kind)) (tested column))
                 ]
           ]
     ]
+
+-- ---- names
+
+pub unaskable-is-literal : UnaskableIsLiteral
+unaskable-is-literal bytes column kind a b c n =
+    ⊎-elim (λ e. find-other-column bytes column kind a b c e) (λ x.
+    ⊎-elim (λ f. find-other-kind bytes column kind a b c (askable-is-tested column .0 x) f) (λ y. absurd (n (x, y))) (tested kind)) (tested column)
+
+pub askable-is-looked-up : AskableIsLookedUp
+askable-is-looked-up = asked-file
+
+pub plain-as-before : PlainAsBefore
+unfolding find withinLimits check
+plain-as-before bytes column kind p q short short′ =
+    let a : askable column ≡ true = askable-is-tested column .0 (plain-is-askable column p short) in
+    let b : askable kind ≡ true = askable-is-tested kind .0 (plain-is-askable kind q short′) in
+    let e : matches column ≡ same column = fun-ext (plain-is-compared column p) in
+    let f : matches kind ≡ same kind = fun-ext (plain-is-compared kind q) in
+    rw (a, b, e, f)
 
 -- ---- where a fault is
 

@@ -4,6 +4,7 @@ use mathlib.Core.Path.{_≡_}
 use mathlib.Core.List.{List, [], _∷_, _++_}
 use lib.ListN.{length, take, drop}
 use Rattle.numbers.specs.Meaning.{All, be, signBit}
+use Rattle.names.specs.Layout.{Named}
 
 -- an index that a head lists, "per index: name, start (4), length (4)": start and length as the 32 bits that stand there
 pub record ListedIndex : Type 0 where
@@ -68,10 +69,7 @@ GoodIndex e = (length (e .name) < 256 ^ 2) × (e .start < 256 ^ 4) × (e .length
 abbrev pub GoodColumn : ListedColumn → Type 0
 GoodColumn c = (length (c .name) < 256 ^ 2) × (length (c .entries) < signBit) × All GoodIndex (c .entries)
 
--- "Names are compared byte for byte": whether the name that is stored is the one that is asked for
-abbrev pub Named : List ℕ → List ℕ → Type 0
-Named asked stored = stored ≡ asked
-
+-- 02, Ticket 5: 'Demand 3's "asked column stands once" reads by this comparison'
 abbrev pub IsColumn : List ℕ → ListedColumn → Type 0
 IsColumn column c = Named column (c .name)
 

@@ -5,12 +5,13 @@ use mathlib.Core.Bool.{Bool, true, false, _||_}
 use mathlib.Core.List.{List}
 use lib.ListN.{length, take, drop}
 use lib.Dec.{leb, ltb, eqb}
-use Rattle.numbers.specs.Meaning.{same, number, big, signBit, position}
+use Rattle.numbers.specs.Meaning.{number, big, signBit, position}
 use Rattle.numbers.specs.declared.Position.{Position}
 use Rattle.refusal.specs.Meaning.{numberOf, limit}
 use Rattle.refusal.specs.declared.Refusal.{Refusal}
-use Rattle.refusal.specs.declared.Refusal.the-variants.{Short, Magic, Version, Head, Limit}
+use Rattle.refusal.specs.declared.Refusal.the-variants.{Short, Magic, Version, Head, Literal, Limit}
 use Rattle.refusal.specs.Reading.{Out, refuse, ok, check, numbersOf}
+use Rattle.names.specs.Reading.{askable, matches}
 use Rattle.index_file.specs.declared.Located.{Located}
 use Rattle.index_file.specs.declared.Located.the-variants.{Found, Absent, Refused}
 use Rattle.index_file.specs.declared.Place.{Place}
@@ -29,8 +30,6 @@ name s k = number big 2 (refuse Head) s (λ n s. check (leb n (length s)) Head (
 
 -- ---- the columns
 
--- A stored name is the asked one where `same` says so: "Names are compared byte for byte".
-
 -- where the asked kind stands, after one more entry of the column, whose name is the asked one or not: "the asked kind twice in it"
 unfoldable pub afterEntry : Bool → Position → ℕ → Place → Place
 afterEntry false start size place = place
@@ -38,12 +37,12 @@ afterEntry true start size Nowhere = At start size
 afterEntry true start size (At start′ size′) = Repeated
 afterEntry true start size Repeated = Repeated
 
--- m entries of one column: name, start, length
-unfoldable pub entries : {A : Type 0} → List ℕ → ℕ → Place → List ℕ → (Place → List ℕ → Out Refusal A) → Out Refusal A
-entries kind zero place s k = k place s
-entries kind (suc m) place s k =
+-- m entries of one column: name, start, length. `isKind` says of a stored name whether it is the asked kind
+unfoldable pub entries : {A : Type 0} → (List ℕ → Bool) → ℕ → Place → List ℕ → (Place → List ℕ → Out Refusal A) → Out Refusal A
+entries isKind zero place s k = k place s
+entries isKind (suc m) place s k =
     name s (λ stored s. number big 4 (refuse Head) s (λ start s. number big 4 (refuse Head) s (λ size s.
-    entries kind m (afterEntry (same kind stored) (position start) size place) s k)))
+    entries isKind m (afterEntry (isKind stored) (position start) size place) s k)))
 
 -- where the asked kind stands, after one more column, whose name is the asked one or not, and which lists the asked kind at `new`; `seen`: whether one before it had the name.
 -- "the asked column name twice" is a repetition, whatever the two list
@@ -52,12 +51,12 @@ afterColumn false seen new place = place
 afterColumn true false new place = new
 afterColumn true true new place = Repeated
 
--- n columns: name, index number, entries
-unfoldable pub columns : {A : Type 0} → List ℕ → List ℕ → ℕ → Bool → Place → List ℕ → (Place → List ℕ → Out Refusal A) → Out Refusal A
-columns column kind zero seen place s k = k place s
-columns column kind (suc n) seen place s k =
-    name s (λ stored s. count s (λ m s. entries kind m Nowhere s (λ new s.
-    columns column kind n (seen || same column stored) (afterColumn (same column stored) seen new place) s k)))
+-- n columns: name, index number, entries. `isColumn` says of a stored name whether it is the asked column
+unfoldable pub columns : {A : Type 0} → (List ℕ → Bool) → (List ℕ → Bool) → ℕ → Bool → Place → List ℕ → (Place → List ℕ → Out Refusal A) → Out Refusal A
+columns isColumn isKind zero seen place s k = k place s
+columns isColumn isKind (suc n) seen place s k =
+    name s (λ stored s. count s (λ m s. entries isKind m Nowhere s (λ new s.
+    columns isColumn isKind n (seen || isColumn stored) (afterColumn (isColumn stored) seen new place) s k)))
 
 -- ---- the file
 
@@ -81,25 +80,30 @@ placed headLength fileLength (At start size) =
 placed headLength fileLength Repeated = refuse Head
 
 -- the head from the column number on: "redundant bytes not ending exactly at the head length" is HEAD
-unfoldable pub head : List ℕ → List ℕ → ℕ → ℕ → List ℕ → Out Refusal (Sought Part)
-head column kind headLength fileLength s =
-    count s (λ n s. columns column kind n false Nowhere s (λ place s. count s (λ redundant s.
+unfoldable pub head : (List ℕ → Bool) → (List ℕ → Bool) → ℕ → ℕ → List ℕ → Out Refusal (Sought Part)
+head isColumn isKind headLength fileLength s =
+    count s (λ n s. columns isColumn isKind n false Nowhere s (λ place s. count s (λ redundant s.
     check (eqb redundant (length s)) Head (placed headLength fileLength place))))
 
 -- "fewer than 16 bytes is SHORT; MAGIC; VERSION; then HEAD for: a head length below 24 or past the file; a field passing the head; a negative number"
-unfoldable pub file : List ℕ → List ℕ → List ℕ → Out Refusal (Sought Part)
-file column kind bytes =
+unfoldable pub file : (List ℕ → Bool) → (List ℕ → Bool) → List ℕ → Out Refusal (Sought Part)
+file isColumn isKind bytes =
     check (leb frontSize (length bytes)) Short (number big 8 (refuse Short) bytes (λ stored s.
     check (eqb stored magic) Magic (number big 4 (refuse Short) s (λ version s.
     check (eqb version fileVersion) Version (count s (λ headLength s.
     check (leb leastHead headLength) Head (check (leb headLength (length bytes)) Head
-    (head column kind headLength (length bytes) (drop frontSize (take headLength bytes))))))))))
+    (head isColumn isKind headLength (length bytes) (drop frontSize (take headLength bytes))))))))))
 
 -- "An input buffer (asked names too, row fields not) that is too long is LIMIT before anything else"
+unfoldable pub withinLimits : List ℕ → List ℕ → List ℕ → Out Refusal (Sought Part) → Out Refusal (Sought Part)
+withinLimits bytes column kind o =
+    check (leb (length bytes) limit) Limit (check (leb (length column) limit) Limit (check (leb (length kind) limit) Limit o))
+
+-- 02, Ticket 5: an asked name that "isn't standard UTF-8, or is over 65,535 modified bytes, is LITERAL, before any file check but the length limit". A stored name
+-- is the asked one where `matches` says so
 unfoldable pub find : List ℕ → List ℕ → List ℕ → Out Refusal (Sought Part)
 find bytes column kind =
-    check (leb (length bytes) limit) Limit (check (leb (length column) limit) Limit
-    (check (leb (length kind) limit) Limit (file column kind bytes)))
+    withinLimits bytes column kind (check (askable column) Literal (check (askable kind) Literal (file (matches column) (matches kind) bytes)))
 
 -- the bytes of a part
 abbrev pub bytesOf : Part → List ℕ → List ℕ

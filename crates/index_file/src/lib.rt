@@ -3,7 +3,7 @@ ghost use mathlib.Core.Path.{_≡_};
 ghost use mathlib.Core.Bool.{false};
 ghost use Prim.Native.Nat.{_≤_};
 ghost use lib.ListN.{length, drop};
-ghost use Rattle.numbers.specs.Meaning.{same};
+ghost use Rattle.names.specs.Reading.{matches};
 ghost use Rattle.index_file.specs.Layout.{frontSize};
 ghost use Rattle.index_file.specs.Reading.{afterEntry, afterColumn, entries, columns, placed, head, file, locatedBy};
 ghost use Rattle.index_file.specs.Promises.{nameAt, countAt, walkAt, FindPromise};
@@ -54,13 +54,6 @@ enum Count {
 enum Walk {
     Broken,
     Past { next: Position, place: Place },
-}
-
-// Whether the stored name is the asked one. Names are compared here and nowhere else.
-fn same_name(asked: &[u8], stored: &[u8]) -> bool
-    ensures { λ r. ⌜ r ≡ same (now (asked .entry)) (now (stored .entry)) ⌝ }
-{
-    numbers::same(asked, stored)
 }
 
 // The place after one more entry.
@@ -129,7 +122,7 @@ fn count_at(s: &[u8], at: Position) -> Count
 // The n entries of one column, from `at` on.
 fn entries_at(s: &[u8], at: Position, n: u64, kind: &[u8]) -> Walk
     requires { ⌜ at .0 ≤ length (now s) ⌝ }
-    ensures { λ r. ⌜ walkAt r (now (s .entry)) (entries (now (kind .entry)) n Place.Nowhere (drop (at .0) (now (s .entry)))) ⌝ }
+    ensures { λ r. ⌜ walkAt r (now (s .entry)) (entries (matches (now (kind .entry))) n Place.Nowhere (drop (at .0) (now (s .entry)))) ⌝ }
 {
     let mut place = Place::Nowhere;
     let mut next = at;
@@ -146,7 +139,7 @@ fn entries_at(s: &[u8], at: Position, n: u64, kind: &[u8]) -> Walk
         let start = numbers::be32(s, Position(e)) as usize;
         let length = numbers::be32(s, Position(e + 4)) as usize;
         let from = next.0 + 2;
-        let hit = same_name(kind, &s[from..e]);
+        let hit = names::matches(kind, &s[from..e]);
         place = after_entry(hit, Position(start), length, place);
         next = Position(e + 8);
         i = i + 1;
@@ -157,7 +150,7 @@ fn entries_at(s: &[u8], at: Position, n: u64, kind: &[u8]) -> Walk
 // The n columns from `at` on.
 fn columns_at(s: &[u8], at: Position, n: u64, column: &[u8], kind: &[u8]) -> Walk
     requires { ⌜ at .0 ≤ length (now s) ⌝ }
-    ensures { λ r. ⌜ walkAt r (now (s .entry)) (columns (now (column .entry)) (now (kind .entry)) n false Place.Nowhere (drop (at .0) (now (s .entry)))) ⌝ }
+    ensures { λ r. ⌜ walkAt r (now (s .entry)) (columns (matches (now (column .entry))) (matches (now (kind .entry))) n false Place.Nowhere (drop (at .0) (now (s .entry)))) ⌝ }
 {
     let mut place = Place::Nowhere;
     let mut seen = false;
@@ -174,7 +167,7 @@ fn columns_at(s: &[u8], at: Position, n: u64, column: &[u8], kind: &[u8]) -> Wal
         };
         let e = end.0;
         let from = next.0 + 2;
-        let hit = same_name(column, &s[from..e]);
+        let hit = names::matches(column, &s[from..e]);
         let walk = entries_at(s, Position(e + 4), m, kind);
         let Walk::Past {
             next: past,
@@ -220,7 +213,7 @@ fn placed_at(place: Place, head: usize, total: usize) -> Located
 // The whole head, of which the column number is the next field.
 fn read_head(s: &[u8], column: &[u8], kind: &[u8], total: usize) -> Located
     requires { ⌜ frontSize ≤ length (now s) ⌝ }
-    ensures { λ r. ⌜ r ≡ locatedBy (head (now (column .entry)) (now (kind .entry)) (length (now (s .entry))) total (drop frontSize (now (s .entry)))) ⌝ }
+    ensures { λ r. ⌜ r ≡ locatedBy (head (matches (now (column .entry))) (matches (now (kind .entry))) (length (now (s .entry))) total (drop frontSize (now (s .entry)))) ⌝ }
 {
     let number = count_at(s, Position(FRONT_SIZE));
     let Count::Is(n) = number else {
@@ -241,13 +234,11 @@ fn read_head(s: &[u8], column: &[u8], kind: &[u8], total: usize) -> Located
     placed_at(place, s.len(), total)
 }
 
-// The file, whose length and whose asked names are within the limit.
+// The file, which has the bytes in front of the columns, from its magic on.
 fn read_file(bytes: &[u8], column: &[u8], kind: &[u8]) -> Located
-    ensures { λ r. ⌜ r ≡ locatedBy (file (now (column .entry)) (now (kind .entry)) (now (bytes .entry))) ⌝ }
+    requires { ⌜ frontSize ≤ length (now bytes) ⌝ }
+    ensures { λ r. ⌜ r ≡ locatedBy (file (matches (now (column .entry))) (matches (now (kind .entry))) (now (bytes .entry))) ⌝ }
 {
-    if bytes.len() < FRONT_SIZE {
-        return Located::Refused(Refusal::Short);
-    }
     let magic = numbers::be64(bytes, Position(0));
     let version = numbers::be32(bytes, Position(8));
     if magic != MAGIC {
@@ -270,7 +261,7 @@ fn read_file(bytes: &[u8], column: &[u8], kind: &[u8]) -> Located
     read_head(&bytes[..n], column, kind, bytes.len())
 }
 
-// Where the body of the asked kind of the asked column lies in an index file.
+// Where the body of the asked kind of the asked column lies in an index file. The names are looked at before the file, and compared by `names` alone.
 pub fn find(bytes: &[u8], column: &[u8], kind: &[u8]) -> Located
     ensures { λ r. ⌜ FindPromise (now (bytes .entry)) (now (column .entry)) (now (kind .entry)) r ⌝ }
 {
@@ -282,6 +273,17 @@ pub fn find(bytes: &[u8], column: &[u8], kind: &[u8]) -> Located
     }
     if refusal::LIMIT < kind.len() as u64 {
         return Located::Refused(Refusal::Limit);
+    }
+    let column_askable = names::askable(column);
+    let kind_askable = names::askable(kind);
+    if !column_askable {
+        return Located::Refused(Refusal::Literal);
+    }
+    if !kind_askable {
+        return Located::Refused(Refusal::Literal);
+    }
+    if bytes.len() < FRONT_SIZE {
+        return Located::Refused(Refusal::Short);
     }
     read_file(bytes, column, kind)
 }

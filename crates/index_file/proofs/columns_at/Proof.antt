@@ -3,6 +3,7 @@ use Prim.Native.Nat.{_≤_, _-_}
 use native.Mathlib.Omega.{arith}
 use borrow.Author.Needs.{needs}
 use lib.ListN.{length}
+use Rattle.names.specs.Reading.{matches}
 use Rattle.index_file.specs.declared.Count.{Count}
 use Rattle.index_file.specs.declared.Name.{Name}
 use Rattle.index_file.specs.Promises.{nameAt, countAt}
@@ -11,7 +12,7 @@ use Rattle.index_file.proofs.columns_at.Statement.{statement}
 use Rattle.index_file.proofs.columns_at.Tie as tie
 
 abbrev Inv-loop : tie.InvT-loop
-Inv-loop s n column kind place₀ seen₀ at i₀ place seen next i = (next .0 ≤ length s) × Columns column kind s n at place seen next i
+Inv-loop s n column kind place₀ seen₀ at i₀ place seen next i = (next .0 ≤ length s) × Columns (matches column) (matches kind) s n at place seen next i
 
 abbrev μ-loop : tie.MeasureT-loop
 μ-loop s n column kind place₀ seen₀ at i₀ place seen next i = n - i
@@ -32,7 +33,7 @@ room : (c : tie.After-known-told2 Inv-loop μ-loop)
 room c = rw (c .before .count .given .1) at (c .before .before .before .count-at .ensures)
 
 loop-holds : tie.Need-loop-holds Inv-loop μ-loop
-loop-holds c = let a = c .before .before .before .args in (omega arith, columns-first (a .column .now) (a .kind .now) (a .s .now) (a .n) (a .at))
+loop-holds c = let a = c .before .before .before .args in (omega arith, columns-first (matches (a .column .now)) (matches (a .kind .now)) (a .s .now) (a .n) (a .at))
 
 returns : tie.Need-returns Inv-loop μ-loop
 returns c =
@@ -51,14 +52,14 @@ returns-2 c =
     let l = n .before .before .loop in
     columns-count (l .inv .1) (n .before .loop-test .taken) (n .name-at .ensures) (f .name .given .1) (m .count-at .ensures) (c .enum-told2 .given .1)
 
-sub-same-name : tie.Need-sub-same-name Inv-loop μ-loop
-sub-same-name c = omega (arith, ends (c .before .before .before .before .before) .0)
+sub-matches : tie.Need-sub-matches Inv-loop μ-loop
+sub-matches c = omega (arith, ends (c .before .before .before .before .before) .0)
 
-part-same-name-start : tie.Need-part-same-name-start Inv-loop μ-loop
-part-same-name-start c = omega (arith, ends (c .before .before .before .before .before) .0)
+part-matches-start : tie.Need-part-matches-start Inv-loop μ-loop
+part-matches-start c = omega (arith, ends (c .before .before .before .before .before) .0)
 
-part-same-name-end : tie.Need-part-same-name-end Inv-loop μ-loop
-part-same-name-end c = omega (arith, ends (c .before .before .before .before .before) .1)
+part-matches-end : tie.Need-part-matches-end Inv-loop μ-loop
+part-matches-end c = omega (arith, ends (c .before .before .before .before .before) .1)
 
 add-t22 : tie.Need-add-t22 Inv-loop μ-loop
 add-t22 c = omega (arith, room (c .before .before .before) .0)
@@ -95,7 +96,7 @@ loop-again c =
     let l = n .before .before .loop in (
       (rw (v .walk .given .1) at (w .entries-at .ensures)) .0,
       columns-next (l .inv .1) (n .before .loop-test .taken) (n .name-at .ensures) (f .name .given .1) (m .count-at .ensures) (g .count .given .1)
-          (w .entries-at .ensures) (v .walk .given .1) (w .before .same-name .ensures) (c .after-column .ensures),
+          (w .entries-at .ensures) (v .walk .given .1) (w .before .matches .ensures) (c .after-column .ensures),
     )
 
 returns-4 : tie.Need-returns-4 Inv-loop μ-loop
@@ -106,5 +107,5 @@ columns-at-spec =
     tie.close
     (tie.spec
     Inv-loop μ-loop loop-holds (λ c κs. search needs) (λ c. search needs) (λ c. search needs) returns count-at-requires (λ c. search needs)
-    (λ c. search needs) returns-2 (λ c. search needs) sub-same-name part-same-name-start part-same-name-end (λ c κs. search needs) add-t22
+    (λ c. search needs) returns-2 (λ c. search needs) sub-matches part-matches-start part-matches-end (λ c κs. search needs) add-t22
     entries-at-requires (λ c. search needs) (λ c. search needs) returns-3 (λ c κs. search needs) add-i (λ c. search needs) loop-again returns-4)

@@ -3,6 +3,7 @@ use Prim.Native.Nat.{_≤_, _-_}
 use native.Mathlib.Omega.{arith}
 use borrow.Author.Needs.{needs}
 use lib.ListN.{length}
+use Rattle.names.specs.Reading.{matches}
 use Rattle.index_file.specs.declared.Name.{Name}
 use Rattle.index_file.specs.Promises.{nameAt}
 use Rattle.index_file.proofs.Positions.{Entries, entries-first, entries-done, entries-name, entries-short, entries-next}
@@ -10,7 +11,7 @@ use Rattle.index_file.proofs.entries_at.Statement.{statement}
 use Rattle.index_file.proofs.entries_at.Tie as tie
 
 abbrev Inv-loop : tie.InvT-loop
-Inv-loop s n kind place₀ at i₀ place next i = (next .0 ≤ length s) × Entries kind s n at place next i
+Inv-loop s n kind place₀ at i₀ place next i = (next .0 ≤ length s) × Entries (matches kind) s n at place next i
 
 abbrev μ-loop : tie.MeasureT-loop
 μ-loop s n kind place₀ at i₀ place next i = n - i
@@ -24,7 +25,7 @@ ends : (c : tie.After-known-told Inv-loop μ-loop) → nameAt (Name.Ends (c .bef
 ends c = rw (c .before .name .given .1) at (c .before .before .before .name-at .ensures)
 
 loop-holds : tie.Need-loop-holds Inv-loop μ-loop
-loop-holds c = let a = c .before .before .args in (omega arith, entries-first (a .kind .now) (a .s .now) (a .n) (a .at))
+loop-holds c = let a = c .before .before .args in (omega arith, entries-first (matches (a .kind .now)) (a .s .now) (a .n) (a .at))
 
 returns : tie.Need-returns Inv-loop μ-loop
 returns c =
@@ -42,14 +43,14 @@ returns-2 c =
     let l = n .before .before .loop in
     entries-short (l .inv .1) (n .before .loop-test .taken) (n .name-at .ensures) (f .name .given .1) (c .if1 .taken)
 
-sub-same-name : tie.Need-sub-same-name Inv-loop μ-loop
-sub-same-name c = omega (arith, ends (c .before .before .before .before) .0)
+sub-matches : tie.Need-sub-matches Inv-loop μ-loop
+sub-matches c = omega (arith, ends (c .before .before .before .before) .0)
 
-part-same-name-start : tie.Need-part-same-name-start Inv-loop μ-loop
-part-same-name-start c = omega (arith, ends (c .before .before .before .before) .0)
+part-matches-start : tie.Need-part-matches-start Inv-loop μ-loop
+part-matches-start c = omega (arith, ends (c .before .before .before .before) .0)
 
-part-same-name-end : tie.Need-part-same-name-end Inv-loop μ-loop
-part-same-name-end c = omega (arith, ends (c .before .before .before .before) .1)
+part-matches-end : tie.Need-part-matches-end Inv-loop μ-loop
+part-matches-end c = omega (arith, ends (c .before .before .before .before) .1)
 
 loop-again : tie.Need-loop-again Inv-loop μ-loop
 loop-again c =
@@ -59,7 +60,7 @@ loop-again c =
     let l = n .before .before .loop in (
       omega (arith, ends (b .before .before .before) .1),
       entries-next (l .inv .1) (n .before .loop-test .taken) (n .name-at .ensures) (f .name .given .1) (omega (arith, ends (b .before .before .before) .1))
-          (b .before .be32 .ensures .0) (b .be322 .ensures .0) (c .before .same-name .ensures) (c .after-entry .ensures),
+          (b .before .be32 .ensures .0) (b .be322 .ensures .0) (c .before .matches .ensures) (c .after-entry .ensures),
     )
 
 returns-3 : tie.Need-returns-3 Inv-loop μ-loop
@@ -70,5 +71,5 @@ entries-at-spec =
     tie.close
     (tie.spec
     Inv-loop μ-loop loop-holds (λ c κs. search needs) (λ c. search needs) (λ c. search needs) returns sub-if1 returns-2 (λ c κs. search needs)
-    (λ c. search needs) (λ c κs. search needs) (λ c. search needs) sub-same-name part-same-name-start part-same-name-end (λ c κs. search needs)
+    (λ c. search needs) (λ c κs. search needs) (λ c. search needs) sub-matches part-matches-start part-matches-end (λ c κs. search needs)
     (λ c κs. search needs) (λ c. search needs) (λ c. search needs) (λ c. search needs) loop-again returns-3)

@@ -1,6 +1,7 @@
 -- Each return is one case of the reading of the head: the column number, the columns, the redundant length, what is answered of the place.
 use mathlib.Core.Path.{sym, ap, _∙_}
 use native.Mathlib.Omega.{arith}
+use Rattle.names.specs.Reading.{matches}
 use Rattle.index_file.specs.Reading.{locatedBy}
 use borrow.Author.Needs.{needs}
 use Rattle.index_file.proofs.Positions.{refused, head-count, head-columns, head-redundant, head-end, head-placed}
@@ -11,7 +12,7 @@ returns : tie.Need-returns
 returns c =
     let m = c .before .before in
     let a = m .before .before .before .before .args in
-    refused (head-count (a .column .now) (a .kind .now) (a .s .now) (a .total) (m .count-at .ensures) (c .enum-told .given .1))
+    refused (head-count (matches (a .column .now)) (matches (a .kind .now)) (a .s .now) (a .total) (m .count-at .ensures) (c .enum-told .given .1))
 
 columns-at-requires : tie.Need-columns-at-requires
 columns-at-requires c κs = omega (arith, (rw (c .before .number .given .1) at (c .before .before .before .count-at .ensures)) .0)
@@ -22,7 +23,7 @@ returns-2 c =
     let f = w .before .before in
     let m = f .before .before in
     let a = m .before .before .before .before .args in
-    refused (head-columns (a .column .now) (a .kind .now) (a .s .now) (a .total) (m .count-at .ensures) (f .number .given .1) (w .columns-at .ensures) (c .enum-told2 .given .1))
+    refused (head-columns (matches (a .column .now)) (matches (a .kind .now)) (a .s .now) (a .total) (m .count-at .ensures) (f .number .given .1) (w .columns-at .ensures) (c .enum-told2 .given .1))
 
 count-at-requires-2 : tie.Need-count-at-requires-2
 count-at-requires-2 c κs = (rw (c .before .walk .given .1) at (c .before .before .before .columns-at .ensures)) .0
@@ -35,7 +36,7 @@ returns-3 c =
     let f = w .before .before in
     let m = f .before .before in
     let a = m .before .before .before .before .args in
-    refused (head-redundant (a .column .now) (a .kind .now) (a .s .now) (a .total)
+    refused (head-redundant (matches (a .column .now)) (matches (a .kind .now)) (a .s .now) (a .total)
     (m .count-at .ensures) (f .number .given .1) (v .walk .given .1) (w .columns-at .ensures) (g .count-at2 .ensures) (c .enum-told3 .given .1))
 
 add-if1-2 : tie.Need-add-if1-2
@@ -53,7 +54,7 @@ returns-4 c =
     let f = w .before .before in
     let m = f .before .before in
     let a = m .before .before .before .before .args in
-    refused (head-end (a .column .now) (a .kind .now) (a .s .now) (a .total)
+    refused (head-end (matches (a .column .now)) (matches (a .kind .now)) (a .s .now) (a .total)
     (m .count-at .ensures) (f .number .given .1) (v .walk .given .1) (w .columns-at .ensures) (r .count .given .1) (g .count-at2 .ensures) (omega arith))
 
 returns-5 : tie.Need-returns-5
@@ -65,7 +66,7 @@ returns-5 c =
     let f = w .before .before in
     let m = f .before .before in
     let a = m .before .before .before .before .args in
-    c .placed-at .ensures ∙ sym (ap locatedBy (head-placed (a .column .now) (a .kind .now) (a .s .now) (a .total)
+    c .placed-at .ensures ∙ sym (ap locatedBy (head-placed (matches (a .column .now)) (matches (a .kind .now)) (a .s .now) (a .total)
     (m .count-at .ensures) (f .number .given .1) (v .walk .given .1) (w .columns-at .ensures) (r .count .given .1) (g .count-at2 .ensures) (omega arith)))
 
 pub read-head-spec : {M : Type 1} → statement M

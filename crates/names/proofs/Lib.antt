@@ -1,0 +1,6 @@
+pub mod Bits
+pub mod StandardForm
+pub mod ModifiedForm
+pub mod Lists
+pub mod Theorems
+pub mod Steps
