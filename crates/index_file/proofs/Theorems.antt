@@ -83,7 +83,6 @@ tested asked = by (askable asked) refl
     by true e = inr (askable-is-tested asked .1 e)
     by false e = inl e
 
-
 pub other-version-is-refused : OtherVersionIsRefused
 other-version-is-refused bytes column kind other a b c h m =
     asked-file bytes column kind a b c ∙ file-version (matches column) (matches kind) bytes h refl m refl other

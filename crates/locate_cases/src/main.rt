@@ -2,6 +2,9 @@
 //   find   COLUMN KIND: prints what `find` says, the number that Locate answers, and the part that it hands back
 //   cuts   COLUMN KIND: the same of each proper prefix of the file
 //   each   COLUMN KIND AT COUNT: the same of the file with each number below COUNT as its byte AT
+//   named  KIND BYTES: asks for the column whose name the bytes are
+//   kind   COLUMN BYTES: asks for the kind whose name the bytes are
+//   long   KIND BYTE COUNT: asks for the column whose name is so many times the byte
 //   ask    COLUMN KIND TYPE EDITION NAME LITERALS: asks the file in a buffer of two bytes A5, and prints the answer and the buffer
 // A name is a word: `find  k` asks for the empty column, `find s` for the empty kind.
 use bitmap_index::Answered;
@@ -47,6 +50,26 @@ fn each<'a>(embedded: &'a [u8], file: &'a [u8], column: &[u8], kind: &[u8], line
         case_lines::say_number(b"byte ", b);
         find(embedded, case_lines::first(&copy, n), column, kind);
     }
+}
+
+// The name that a line's words from the second on spell, asked for as a column or as a kind.
+fn spelled<'a>(embedded: &'a [u8], file: &'a [u8], line: &[u8], as_kind: bool) {
+    let mut bytes = [0u8; 64];
+    let n = case_lines::push_bytes(&mut bytes, 0, case_lines::from_word(line, 2));
+    let name = case_lines::first(&bytes, n);
+    let word = case_lines::word(line, 1);
+    if as_kind {
+        find(embedded, file, word, name);
+    } else {
+        find(embedded, file, name, word);
+    }
+}
+
+fn long<'a>(embedded: &'a [u8], file: &'a [u8], line: &[u8]) {
+    let mut bytes = [0u8; 65536];
+    case_lines::fill(&mut bytes, (case_lines::number(line, 2) % 256) as u8);
+    let name = case_lines::first(&bytes, case_lines::number(line, 3) as usize);
+    find(embedded, file, name, case_lines::word(line, 1));
 }
 
 fn say_answered(answer: Answered) {
@@ -99,6 +122,18 @@ fn call<'a>(embedded: &'a [u8], file: &'a [u8], line: &[u8]) {
         }
         b'c' => cuts(embedded, file, column, kind),
         b'e' => each(embedded, file, column, kind, line),
+        b'n' => {
+            case_lines::say(line);
+            spelled(embedded, file, line, false);
+        }
+        b'k' => {
+            case_lines::say(line);
+            spelled(embedded, file, line, true);
+        }
+        b'l' => {
+            case_lines::say(line);
+            long(embedded, file, line);
+        }
         b'a' => {
             case_lines::say(line);
             ask(embedded, file, column, kind, line);

@@ -57,7 +57,7 @@ module _ (point : Reader (List ℕ)) where
 
       pub points-back : (n : ℕ) (s cs : List ℕ) → pointsIn point n s ≡ ok cs → All Scalar cs × (s ≡ inTurn form cs)
       points-back zero s cs e =
-          elim (ℕ-discrete (length s) 0) [ | yes z ↦ end-back zero s cs z e | no z ↦ absurd (not-ok (sym (points-none s (omega arith)) ∙ e)) ]
+          elim (ℕ-discrete (length s) 0) [ yes z ↦ end-back zero s cs z e | no z ↦ absurd (not-ok (sym (points-none s (omega arith)) ∙ e)) ]
       points-back (suc n) s cs e =
           elim (ℕ-discrete (length s) 0) [
             | yes z ↦ end-back (suc n) s cs z e

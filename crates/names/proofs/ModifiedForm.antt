@@ -262,7 +262,7 @@ module _ {A : Type 0} (c : ℕ) (t : List ℕ) (k : ℕ → List ℕ → Spelled
       ∙ simp (is-low (lowOf c) (omega arith) (omega arith), e))
 
   pub modified-laid : modifiedPoint (modifiedOf c ++ t) k ≡ k c t
-  modified-laid = elim (decLt c pastPlane) [ | yes h ↦ single-laid h | no g ↦ pair-laid (omega arith) ]
+  modified-laid = elim (decLt c pastPlane) [ yes h ↦ single-laid h | no g ↦ pair-laid (omega arith) ]
 
 module _ {A : Type 0} (k : ℕ → List ℕ → Spelled A) (good : A) where
   abbrev Joined : ℕ → ℕ → ℕ

@@ -123,7 +123,7 @@ module _ {A : Type 0} (c : ℕ) (t : List ℕ) (k : ℕ → List ℕ → Spelled
         | no g ↦
             elim (decLt c pastTwoBytes) [
               | yes h ↦ of-two (omega arith) h
-              | no g ↦ elim (decLt c pastPlane) [ | yes h ↦ of-three (omega arith) h | no g ↦ of-four (omega arith) ]
+              | no g ↦ elim (decLt c pastPlane) [ yes h ↦ of-three (omega arith) h | no g ↦ of-four (omega arith) ]
             ]
       ]
 
