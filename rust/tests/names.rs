@@ -36,6 +36,9 @@ fn index_file(columns: &[(&[u8], &[&[u8]])]) -> Vec<u8> {
     index_file_traced(&columns.iter().map(column).collect::<Vec<_>>(), &FileLayout::default()).bytes
 }
 
+/// Where the first column's name stands: behind magic, version, head length and column number, and its own length.
+const FIRST_NAME: usize = 8 + 4 + 4 + 4 + 2;
+
 /// The places of the bodies in such a file, which lie one behind another at its end.
 fn place(file: &[u8], number: usize, of: usize) -> (u8, u64, u64) {
     (raw::ACCEPTED, (file.len() - (of - number) * SMALL.len()) as u64, SMALL.len() as u64)
@@ -262,24 +265,28 @@ fn every_character() {
     let java = Java::compile("characters").map(|java| read(&java.written(&["characters"], &[])));
     let mut by_java = java.iter().flatten();
     let absent = (raw::ABSENT, 0, 0);
-    let (mut asked, mut count) = ([0; 4], 0);
-    let mut columns = Lender::new();
+    // A file for each width of a name, which stands behind its length of two bytes.
+    let mut files: Vec<Vec<u8>> = (0..=6).map(|width| index_file(&[(&vec![0; width], &[BITMAP])])).collect();
+    let (mut asked, mut columns, mut count) = ([0; 4], Lender::new(), 0);
     for character in '\0'..=char::MAX {
         let name = character.encode_utf8(&mut asked);
         let stored = modified(name);
         if java.is_ok() {
-            assert_eq!(by_java.next(), Some(&Some(stored.clone())), "{character:?} is stored by Java in another form");
+            let by_java = by_java.next().and_then(Option::as_ref);
+            assert_eq!(by_java, Some(&stored), "{character:?} is stored by Java in another form");
         }
-        let file = index_file(&[(&stored, &[BITMAP])]);
         let name = columns.lend(name.as_bytes());
-        assert_eq!(raw::locate(&[], &file, name, BITMAP), place(&file, 0, 1), "{character:?}");
-        let next = char::from_u32(u32::from(character) + 1).unwrap_or('\0').to_string();
-        assert_eq!(raw::locate(&[], &file, next.as_bytes(), BITMAP), absent, "{character:?}");
+        let file = &mut files[stored.len()];
+        file[FIRST_NAME..][..stored.len()].copy_from_slice(&stored);
+        assert_eq!(raw::locate(&[], file, name, BITMAP), place(file, 0, 1), "{character:?}");
+        let next = char::from_u32(u32::from(character) + 1).unwrap_or('a');
+        assert_eq!(raw::locate(&[], file, next.encode_utf8(&mut [0; 4]).as_bytes(), BITMAP), absent, "{character:?}");
         if name != stored {
             assert!(character == '\0' || character > '\u{FFFF}');
             // What UTF-8 has in its place is improper in a file.
-            let improper = index_file(&[(name, &[BITMAP])]);
-            assert_eq!(raw::locate(&[], &improper, name, BITMAP), absent, "{character:?}");
+            let file = &mut files[name.len()];
+            file[FIRST_NAME..][..name.len()].copy_from_slice(name);
+            assert_eq!(raw::locate(&[], file, name, BITMAP), absent, "{character:?}");
         }
         count += 1;
     }

@@ -1,5 +1,6 @@
 import java.io.BufferedInputStream;
 import java.io.BufferedOutputStream;
+import java.io.ByteArrayOutputStream;
 import java.io.DataInputStream;
 import java.io.DataOutputStream;
 import java.io.EOFException;
@@ -47,7 +48,7 @@ public final class Names {
     }
 
     private static void store(String name, DataOutputStream out) throws IOException {
-        java.io.ByteArrayOutputStream stored = new java.io.ByteArrayOutputStream();
+        ByteArrayOutputStream stored = new ByteArrayOutputStream();
         try {
             new DataOutputStream(stored).writeUTF(name);
         } catch (UTFDataFormatException tooLong) {

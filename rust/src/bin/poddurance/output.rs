@@ -36,8 +36,9 @@ pub enum Outcome {
 /// What a refusal is about.
 #[derive(Clone, Copy, Debug, PartialEq, Eq)]
 pub enum Part {
-    /// The column's name, whatever the file has. A word of the command line is UTF-8, so that it is too long, and the same with a kind's.
+    /// The column's name, whatever the file has. It is UTF-8, being a word of the command line, and so it is too long.
     Column,
+    /// The kind's name, likewise.
     Kind,
     /// The literals, whatever the file has.
     Literals,
