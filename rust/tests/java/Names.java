@@ -9,7 +9,7 @@ import java.io.UTFDataFormatException;
 import java.nio.charset.StandardCharsets;
 
 /**
- * Stores names as Java does, by DataOutputStream.writeUTF, for the test names.rs. Each name becomes the byte 1 and what writeUTF writes: a length of two bytes and the
+ * Stores names as Java does, by DataOutputStream.writeUTF, for the test java.rs. Each name becomes the byte 1 and what writeUTF writes: a length of two bytes and the
  * name in modified UTF-8. A name that it refuses as too long becomes the byte 0.
  */
 public final class Names {

@@ -1,6 +1,6 @@
 //! Names of columns and kinds: asked for in standard UTF-8, compared with what Java's `DataOutputStream.writeUTF` stores.
 //!
-//! The bytes that it stored are in tests/names/stored-by-java. With a JDK (`javac` on the path) tests/names/Names.java stores the names
+//! The bytes that it stored are in tests/java/stored-names. With a JDK (`javac` on the path) tests/java/Names.java stores the names
 //! anew, and every character besides; the test says which it was.
 
 mod support;
@@ -112,7 +112,7 @@ fn read(mut written: &[u8]) -> Vec<Stored> {
 }
 
 fn folder() -> PathBuf {
-    Path::new(env!("CARGO_MANIFEST_DIR")).join("tests/names")
+    Path::new(env!("CARGO_MANIFEST_DIR")).join("tests/java")
 }
 
 /// The program Names.java, compiled, or the reason why there is none.
@@ -132,7 +132,7 @@ impl Java {
         let classes = Path::new(env!("CARGO_TARGET_TMPDIR")).join(name);
         let source = folder().join("Names.java");
         let output = Command::new("javac").arg("-d").arg(&classes).arg(&source).output().expect("the compiler ran before");
-        assert!(output.status.success(), "tests/names/Names.java doesn't compile: {}", String::from_utf8_lossy(&output.stderr));
+        assert!(output.status.success(), "tests/java/Names.java doesn't compile: {}", String::from_utf8_lossy(&output.stderr));
         Ok(Java { classes })
     }
 
@@ -157,20 +157,20 @@ impl Java {
 
 /// The names and what Java stored of them, as the file in the repository has it.
 fn names_and_stored() -> Vec<(String, Stored)> {
-    let (names, stored) = (names(), read(&fs::read(folder().join("stored-by-java")).unwrap()));
+    let (names, stored) = (names(), read(&fs::read(folder().join("stored-names")).unwrap()));
     assert_eq!(
         names.len(),
         stored.len(),
-        "the names of the test changed: 'cargo test --test names -- --ignored' stores them anew"
+        "the names of the test changed: 'cargo test --test java -- --ignored' stores them anew"
     );
     names.into_iter().zip(stored).collect()
 }
 
 #[test]
-#[ignore = "writes tests/names/stored-by-java"]
+#[ignore = "writes tests/java/stored-names"]
 fn store_names_by_java() {
     let java = Java::compile("names-to-keep").expect("a JDK is needed");
-    fs::write(folder().join("stored-by-java"), java.stored(&names())).unwrap();
+    fs::write(folder().join("stored-names"), java.stored(&names())).unwrap();
 }
 
 #[test]
@@ -181,8 +181,8 @@ fn stored_names_are_java_s() {
             say(&format!("\nskipped: names stored anew by Java, since {reason}; those that it stored before are compared"))
         }
         Ok(java) => {
-            let kept = fs::read(folder().join("stored-by-java")).unwrap();
-            assert!(java.stored(&names) == kept, "Java stores other names than those in tests/names/stored-by-java");
+            let kept = fs::read(folder().join("stored-names")).unwrap();
+            assert!(java.stored(&names) == kept, "Java stores other names than those in tests/java/stored-names");
             say(&format!("\n{} names stored anew by Java, the same as before", names.len()));
         }
     }
