@@ -21,7 +21,7 @@
  *    8 TWICE     a row already placed; carries the entry that places it again
  *    9 MISSING   a row never placed; carries the lowest one
  *   10 ROOM      a lent field has fewer than (n + 7) / 8 bytes
- *   11 LITERAL   literals don't fit question and type; a type, an edition or a question is unknown
+ *   11 LITERAL   literals don't fit question and type; a type, an edition or a question is unknown; an asked name is not standard UTF-8, or too long
  *   12 LIMIT     a limit is passed (an input buffer or a row count above 2147483647, and others)
  *   13 CHECKSUM  the checksum of a bin differs
  *   14 NOBIN     the bin number is not below the number of bins
@@ -31,7 +31,7 @@
  * With any answer but 0 the counts, the record's four among them, start and length are 0. Refusals up to and including ROOM leave the field's buffer as it was;
  * later ones leave the field's (n + 7) / 8 bytes zero. In the order in which causes are tested, with a bar behind ROOM:
  *
- *    Locate          LIMIT, SHORT, MAGIC, VERSION, HEAD (no field)
+ *    Locate          LIMIT, LITERAL (either name), SHORT, MAGIC, VERSION, HEAD (no field)
  *    Audit           LIMIT, LITERAL (an unknown type), then the dictionary in byte order: SHORT, VERSION, LIMIT, DICT; ROOM | then null's and each entry's
  *                    bitmap: BITMAP, RANGE, TWICE; last MISSING
  *    Ask             LIMIT, LITERAL (an unknown type, edition or question), the literals in turn: LIMIT, LITERAL; then as Audit
@@ -154,7 +154,16 @@ uint8_t poddurance_subtract_record(uint8_t *first, size_t first_len, const uint8
 
 /* Locate: finds the index of kind `kind` on column `column` in the embedded bytes if embedded_len isn't 0, else in the index file. The other buffer isn't
  * looked at. 0: found; the body is the `length` bytes from `start` on of the buffer that was looked at, and isn't copied. 255: the column or the kind is
- * not listed. Names are UTF-8 by pointer and length, not NUL-terminated. */
+ * not listed.
+ *
+ * Names are standard UTF-8 by pointer and length, not NUL-terminated: a zero byte is the zero character. Files store names in Java's modified UTF-8, in which the
+ * zero character is C0 80, a character above U+FFFF two surrogates of three bytes each, and any other as in UTF-8. The asked names are compared in that form
+ * with the stored ones, byte for byte. A stored name that is not in it (a byte 00, UTF-8's four bytes, half a pair of surrogates) matches nothing, is no second
+ * listing and is no fault.
+ *
+ * LITERAL, before anything of the file is tested, also where both buffers are empty, and for the kind also where the column is not listed: a name that is
+ * not standard UTF-8 (an overlong form, a surrogate, a character above U+10FFFF, cut off, a byte that continues nothing), or one over 65535 bytes in
+ * modified form. LIMIT goes before it: the buffer that is looked at, or either name, over 2147483647 bytes. */
 uint8_t poddurance_locate(const uint8_t *embedded, size_t embedded_len, const uint8_t *file, size_t file_len,
                           const uint8_t *column, size_t column_len, const uint8_t *kind, size_t kind_len,
                           uint64_t *start, uint64_t *length);
@@ -171,8 +180,9 @@ uint8_t poddurance_ask(const uint8_t *body, size_t body_len, uint32_t type, uint
                        uint8_t *field, size_t field_len, poddurance_record *record, poddurance_fault *fault);
 
 /* Ask of a file: Locate, then Ask on the part that it finds, in one call. 0: Ask's answer, its rows set in the field; a record->matched of 0 says skip. 255: the
- * column or the kind is not listed. With 255 and with a refusal of Locate the field's buffer is as it was; with a refusal of Ask it is as Ask leaves it. The record
- * is all 0 with every answer but 0. With 255 and with a refusal of Locate the fault is all 0. */
+ * column or the kind is not listed. Names are given, compared and refused as in Locate: LITERAL for a name goes before anything of the file, LITERAL for type,
+ * edition, question and literals behind the file's head. With 255 and with a refusal of Locate the field's buffer is as it was; with a refusal of Ask it is as
+ * Ask leaves it. The record is all 0 with every answer but 0. With 255 and with a refusal of Locate the fault is all 0. */
 uint8_t poddurance_ask_file(const uint8_t *embedded, size_t embedded_len, const uint8_t *file, size_t file_len,
                             const uint8_t *column, size_t column_len, const uint8_t *kind, size_t kind_len,
                             uint32_t type, uint32_t edition, uint32_t question, const uint8_t *literals, size_t literals_len,

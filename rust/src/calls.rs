@@ -83,6 +83,11 @@ impl std::error::Error for Error {
 ///
 /// The body is a part of the buffer, not a copy. None says that there is no such index, so that all rows are to be read.
 ///
+/// A file stores names in Java's modified UTF-8, in which the zero character is C0 80 and a character above U+FFFF two surrogates of three
+/// bytes each. `column` and `kind` are compared in that form, byte for byte; a stored name that isn't in it matches nothing and is no fault.
+/// A `column` or `kind` that takes more than 65,535 bytes in it, so that no file can store it, is [`Refusal::Literal`], before the file is
+/// looked at.
+///
 /// ```
 /// use poddurance::{locate, Refusal};
 ///
@@ -94,6 +99,19 @@ impl std::error::Error for Error {
 /// assert_eq!(locate(&[], &file, "s", "bitmap"), Ok(Some(&file[47..])));
 /// assert_eq!(locate(&[], &file, "t", "bitmap"), Ok(None));
 /// assert_eq!(locate(&[], &file[..70], "s", "bitmap"), Err(Refusal::Head));
+///
+/// // The column is named U+1F525, stored as the surrogates D83D and DD25; its body has one row, null.
+/// let file = [
+///     0, 5, 0x4E, 0x4E, 0xD0, 0x1A, 0x35, 0xAE, 0, 0, 0, 1, 0, 0, 0, 52, 0, 0, 0, 1, // head up to the column number
+///     0, 6, 0xED, 0xA0, 0xBD, 0xED, 0xB4, 0xA5, 0, 0, 0, 1, 0, 6, b'b', b'i', b't', b'm', b'a', b'p',
+///     0, 0, 0, 52, 0, 0, 0, 14, 0, 0, 0, 0, // the head ends here
+///     1, 0, 0, 0, 1, 0, 0, 0, 0, 1, 255, 255, 255, 255,
+/// ];
+/// assert_eq!(locate(&[], &file, "\u{1F525}", "bitmap"), Ok(Some(&file[52..])));
+/// // 65,535 bytes can be stored; the zero character takes two.
+/// assert_eq!(locate(&[], &file, &"a".repeat(65_535), "bitmap"), Ok(None));
+/// assert_eq!(locate(&[], &file, &"a".repeat(65_536), "bitmap"), Err(Refusal::Literal));
+/// assert_eq!(locate(&[], &file, &"\0".repeat(32_768), "bitmap"), Err(Refusal::Literal));
 /// ```
 pub fn locate<'a>(embedded: &'a [u8], file: &'a [u8], column: &str, kind: &str) -> Result<Option<&'a [u8]>, Refusal> {
     let (answer, start, length) = raw::locate(embedded, file, column.as_bytes(), kind.as_bytes());
@@ -220,6 +238,9 @@ pub fn ask(body: &[u8], edition: Edition, question: Question, literals: &Literal
 /// is. The field is lent by value: neither without an index nor with a refusal does it come back, and none of its rows can be taken
 /// for an answer.
 ///
+/// `column` and `kind` are compared in the form in which files store names, as [`locate`] says. One that no file can store is
+/// [`Refusal::Literal`], as are literals that don't fit.
+///
 /// The edition says what becomes of null rows in NOT EQUAL and NOT IN; in the other questions it makes no difference. The type is
 /// that of the literals. An index with another row count than the field's is [`Error::RowsDiffer`], or [`Refusal::Room`] where it
 /// needs more bytes than the field has.
@@ -250,6 +271,10 @@ pub fn ask(body: &[u8], edition: Edition, question: Question, literals: &Literal
 /// let field = RowField::for_rows(row_count)?;
 /// let asked = ask_file(&[], &file, "t", "bitmap", Edition::Second, Question::NotEqual, &seven, field);
 /// assert_eq!(asked, Ok(None));
+///
+/// let (field, too_long) = (RowField::for_rows(row_count)?, "t".repeat(65_536));
+/// let asked = ask_file(&[], &file, &too_long, "bitmap", Edition::Second, Question::NotEqual, &seven, field);
+/// assert_eq!(asked, Err(Error::Refused(Refusal::Literal)));
 ///
 /// file[70] = 255; // 9 is now at row 0, where 7 is, and no longer at row 1
 /// let field = RowField::for_rows(row_count)?;

@@ -204,6 +204,11 @@ mod c {
 /// Locate: the answer, and where the body of the index of kind `kind` on column `column` starts and how long it is, in `embedded`
 /// if that isn't empty, else in `file`. The other buffer isn't looked at.
 ///
+/// `column` and `kind` are bytes, read as standard UTF-8 and compared in the form in which files store names, Java's modified UTF-8. One
+/// that isn't standard UTF-8 (an overlong form, a surrogate, a character above U+10FFFF, cut off, a byte that continues nothing) or takes
+/// more than 65,535 bytes in modified form is LITERAL (11). That is said of either name behind the length limits and before anything of
+/// the file, where both buffers are empty too.
+///
 /// ```
 /// let file = [
 ///     0, 5, 0x4E, 0x4E, 0xD0, 0x1A, 0x35, 0xAE, 0, 0, 0, 1, 0, 0, 0, 47, 0, 0, 0, 1, // head up to the column number
@@ -213,6 +218,9 @@ mod c {
 /// assert_eq!(poddurance::raw::locate(&[], &file, b"s", b"bitmap"), (0, 47, 24));
 /// assert_eq!(poddurance::raw::locate(&[], &file, b"t", b"bitmap"), (255, 0, 0));
 /// assert_eq!(poddurance::raw::locate(&[], &file[..70], b"s", b"bitmap"), (4, 0, 0));
+/// // Zero as modified UTF-8 has it: to be asked for as one byte 00.
+/// assert_eq!(poddurance::raw::locate(&[], &file, b"\xC0\x80", b"bitmap"), (11, 0, 0));
+/// assert_eq!(poddurance::raw::locate(&[], &[], b"s", b"\xC0\x80"), (11, 0, 0));
 /// ```
 #[must_use]
 pub fn locate(embedded: &[u8], file: &[u8], column: &[u8], kind: &[u8]) -> (u8, u64, u64) {
@@ -306,7 +314,8 @@ pub fn ask(body: &[u8], ty: u32, edition: u32, question: u32, literals: &[u8], f
 
 /// From the file to the answer: [`locate`], then [`ask`] on the part that it hands back. The answer, the record, and where a refusal's
 /// cause is. Accepted, the rows that the question chooses by the edition's rule of null rows are set in the field and counted as the
-/// record's `matched`, of which 0 says skip. With [`ABSENT`] and with a refusal of Locate the field's buffer is as it was.
+/// record's `matched`, of which 0 says skip. With [`ABSENT`] and with a refusal of Locate, LITERAL (11) for a name among them, the field's
+/// buffer is as it was.
 ///
 /// ```
 /// use poddurance::raw::{ask_file, Fault, Record, ABSENT};
@@ -326,6 +335,9 @@ pub fn ask(body: &[u8], ty: u32, edition: u32, question: u32, literals: &[u8], f
 /// let record = Record { matched: 2, ..record };
 /// assert_eq!(ask_file(&[], &file, b"s", b"bitmap", 0, 1, 1, &[7], &mut field), (0, record, Fault::NONE)); // edition 1
 /// assert_eq!(field, [0b110]); // 9 and null
+/// let refused = (11, Record::NONE, Fault::NONE);
+/// assert_eq!(ask_file(&[], &file, b"\xFF", b"bitmap", 0, 2, 1, &[7], &mut field), refused); // no UTF-8
+/// assert_eq!(field, [0b110]);
 /// ```
 // The archive's call has these parameters; what belongs together is put together at the top of the crate.
 #[allow(clippy::too_many_arguments)]

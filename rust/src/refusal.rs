@@ -56,7 +56,9 @@ pub enum Refusal {
     },
     /// A lent field has fewer than ceil(n/8) bytes.
     Room,
-    /// Literals don't fit question and type. A [`raw`](crate::raw) call also gives it for an unknown type, edition or question.
+    /// Literals don't fit question and type; or the asked name of a column or kind takes more than 65,535 bytes in modified UTF-8, so
+    /// that no file can store it ([`locate`](crate::locate)). A [`raw`](crate::raw) call also gives it for a name that is not standard
+    /// UTF-8 and for an unknown type, edition or question.
     Literal,
     /// A limit is passed.
     Limit,

@@ -64,7 +64,7 @@ fn says<S: AsRef<OsStr> + std::fmt::Debug>(words: &[S], status: i32, line: &str)
 
 /// Runs and expects wrong usage, with these words on standard error and nothing on standard output.
 #[track_caller]
-fn complains(words: &[&str], part: &str) {
+fn complains<S: AsRef<OsStr> + std::fmt::Debug>(words: &[S], part: &str) {
     let (status, out, err) = run(words);
     assert_eq!((status, out.as_str()), (2, ""), "{words:?}");
     assert!(err.starts_with("poddurance: ") && err.contains(part), "{err}");
@@ -72,12 +72,13 @@ fn complains(words: &[&str], part: &str) {
 
 const SMALL: [u8; 24] = [1, 0, 0, 0, 3, 0, 0, 0, 2, 1, 255, 255, 255, 253, 7, 255, 255, 255, 255, 9, 255, 255, 255, 254];
 
-/// An index file with one index on one column.
-fn index_file(column: &str, kind: &str, body: &[u8]) -> Vec<u8> {
+/// An index file with one index on one column. The names are bytes as they are stored, or text that is stored as in UTF-8.
+fn index_file(column: impl AsRef<[u8]>, kind: impl AsRef<[u8]>, body: &[u8]) -> Vec<u8> {
+    let (column, kind) = (column.as_ref(), kind.as_ref());
     let mut entry = vec![0, column.len() as u8];
-    entry.extend(column.as_bytes());
+    entry.extend(column);
     entry.extend([0, 0, 0, 1, 0, kind.len() as u8]);
-    entry.extend(kind.as_bytes());
+    entry.extend(kind);
     let head = (20 + entry.len() + 8 + 4) as u32;
     let mut file = 1_493_475_289_347_502u64.to_be_bytes().to_vec();
     for number in [1, head, 1] {
@@ -155,7 +156,7 @@ fn lists_columns() {
     says(
         &["columns", file, "--json"],
         0,
-        r#"{"answer":"listed","indexes":[{"column":"s","kind":"bitmap","start":47,"length":24}]}"#,
+        r#"{"answer":"listed","indexes":[{"column":"s","column_bytes":null,"kind":"bitmap","kind_bytes":null,"start":47,"length":24}]}"#,
     );
     // It lists what stands there, also where the library finds no sound index, and nothing of a broken head.
     let file = &folder.write("no-body", &index_file("s", "bitmap", &SMALL)[..47]);
@@ -182,11 +183,107 @@ fn names_in_a_file_do_not_control_the_terminal() {
     says(
         &["columns", file, "--json"],
         0,
-        r#"{"answer":"listed","indexes":[{"column":"\u001b[31ms\u001b]0;title\u0007","kind":"\u001b[A\u000d\u009bA\u202e","start":66,"length":24}]}"#,
+        r#"{"answer":"listed","indexes":[{"column":"\u001b[31ms\u001b]0;title\u0007","column_bytes":null,"kind":"\u001b[A\u000d\u009bA\u202e","kind_bytes":null,"start":66,"length":24}]}"#,
     );
     says(&["locate", file, "\x1B[A", "\u{9B}A"], 4, r#"absent: no \u{9b}A index on column "\u{1b}[A""#);
     says(&["locate", file, "\u{9B}A", "--json"], 4, r#"{"answer":"absent","column":"\u009bA","kind":"bitmap"}"#);
     complains(&["locate", "/no such folder/\x1B[A", "s"], r"can't read /no such folder/\u{1b}[A: ");
+}
+
+/// U+1F525 as Java stores it: two surrogates of three bytes each.
+const FIRE: &[u8] = b"\xED\xA0\xBD\xED\xB4\xA5";
+
+#[test]
+fn names_beyond_the_plain_plane() {
+    let folder = Folder::new();
+    let file = &folder.write("index", &index_file(FIRE, "bitmap", &SMALL));
+    says(&["columns", file], 0, "column \"🔥\": bitmap index, 24 bytes at 52");
+    says(&["locate", file, "🔥"], 0, "found: bitmap index on column \"🔥\", 24 bytes at 52");
+    says(&["locate", file, "🔥", "--json"], 0, r#"{"answer":"found","column":"🔥","kind":"bitmap","start":52,"length":24}"#);
+    says(&["audit", file, "🔥", "TINYINT"], 0, "accepted: 3 rows, each in exactly one place");
+    let ask = ["ask", file, "🔥", "TINYINT", "EQUAL", "9", "--rows"];
+    says(&ask, 0, "keep: drawn from 1 of 3 rows (deletions not applied, 1 null)\nrows: 1");
+    says(
+        &["ask", "none", "🔥", "TINYINT", "EQUAL", "9", "--rows", "--embedded", file],
+        0,
+        "keep: drawn from 1 of 3 rows (deletions not applied, 1 null)\nrows: 1",
+    );
+    says(&["ask", file, "🔦", "TINYINT", "EQUAL", "9"], 4, "absent: no bitmap index on column \"🔦\"");
+    let file = &folder.write("kind", &index_file("s", FIRE, &SMALL));
+    says(&["locate", file, "s", "🔥"], 0, "found: 🔥 index on column \"s\", 24 bytes at 47");
+    // The zero character can't be a word of the command line, and is shown.
+    let file = &folder.write("zero", &index_file(b"a\xC0\x80b", "bitmap", &SMALL));
+    says(&["columns", file], 0, r#"column "a\0b": bitmap index, 24 bytes at 50"#);
+}
+
+/// A stored name that is not modified UTF-8 is listed with its bytes and is found by no name, least of all by that which it may be meant for.
+#[test]
+fn improper_names_in_a_file() {
+    let folder = Folder::new();
+    let note = "its name is not modified UTF-8)";
+    for (stored, shown, hex, meant) in [
+        (&b"\xF0\x9F\x94\xA5"[..], r"\xF0\x9F\x94\xA5", "F09F94A5", "🔥"),
+        (b"\xED\xA0\xBD", r"\xED\xA0\xBD", "EDA0BD", "\u{FFFD}"),
+        (b"a\0", r"a\x00", "6100", "a"),
+        (b"\xFF", r"\xFF", "FF", r"\xFF"),
+    ] {
+        let (file, at) = (&folder.write("index", &index_file(stored, "bitmap", &SMALL)), 46 + stored.len());
+        let line = format!("column \"{shown}\": bitmap index, 24 bytes at {at} (the column can't be asked for: {note}");
+        says(&["columns", file], 0, &line);
+        let json = format!(
+            r#"{{"answer":"listed","indexes":[{{"column":null,"column_bytes":"{hex}","kind":"bitmap","kind_bytes":null,"start":{at},"length":24}}]}}"#
+        );
+        says(&["columns", file, "--json"], 0, &json);
+        says(&["locate", file, meant], 4, &format!("absent: no bitmap index on column {meant:?}"));
+        let file = &folder.write("kind", &index_file("s", stored, &SMALL));
+        let line = format!("column \"s\": {shown} index, 24 bytes at {} (the kind can't be asked for: {note}", 41 + stored.len());
+        says(&["columns", file], 0, &line);
+    }
+    // A name that is spelled as those bytes are shown.
+    let file = &folder.write("index", &index_file(r"\xFF", "bitmap", &SMALL));
+    says(&["columns", file], 0, r#"column "\\xFF": bitmap index, 24 bytes at 50"#);
+    says(&["locate", file, r"\xFF"], 0, r#"found: bitmap index on column "\\xFF", 24 bytes at 50"#);
+}
+
+/// Names that no file can store get the library's answer, whatever the file has; words that are not UTF-8 are wrong usage.
+#[test]
+fn names_that_cannot_be_asked_for() {
+    use std::os::unix::ffi::OsStrExt;
+    let folder = Folder::new();
+    let sound = folder.write("index", &index_file("s", "bitmap", &SMALL));
+    let (fits, too_long) = ("x".repeat(65_535), "x".repeat(65_536));
+    // 10,922 characters of six bytes in modified form, and four more bytes: 43,692 bytes in UTF-8.
+    let beyond = "🔥".repeat(10_922) + "xxxx";
+    let of_column = "the column's name takes more than 65535 bytes in modified UTF-8";
+    let of_kind = "the kind's name takes more than 65535 bytes in modified UTF-8";
+    for file in [&sound, &folder.write("empty", &[]), &folder.write("magic", &[1; 99])] {
+        for name in [&too_long, &beyond] {
+            let refused = format!("refused: LITERAL (11), {of_column}");
+            says(&["locate", file, name], 3, &refused);
+            says(&["locate", file, name, name], 3, &refused);
+            says(&["audit", file, name, "TINYINT"], 3, &refused);
+            says(&["ask", file, name, "TINYINT", "EQUAL", "7"], 3, &refused);
+            // Literals that don't fit, which are LITERAL too, are read when the index is found.
+            says(&["ask", file, name, "TINYINT", "EQUAL"], 3, &refused);
+            says(&["locate", file, "s", name], 3, &format!("refused: LITERAL (11), {of_kind}"));
+            says(&["locate", file, "x", name], 3, &format!("refused: LITERAL (11), {of_kind}"));
+        }
+    }
+    for words in [&["locate", &sound, &too_long][..], &["ask", &sound, &too_long, "TINYINT", "EQUAL", "7"]] {
+        let said = format!(r#"{{"answer":"refused","file":null,"name":"LITERAL","number":11,"meaning":"{of_column}"}}"#);
+        says(&[words, &["--json"]].concat(), 3, &said);
+    }
+    says(&["locate", &sound, &fits], 4, &format!("absent: no bitmap index on column \"{fits}\""));
+    says(&["locate", &sound, "s", &fits], 4, &format!("absent: no {fits} index on column \"s\""));
+
+    let bad = OsStr::from_bytes(b"s\xFF");
+    let [locate, audit, ask, file, s, ty] = ["locate", "audit", "ask", &sound, "s", "TINYINT"].map(OsStr::new);
+    complains(&[locate, file, bad], r#"COLUMN "s\xFF" is not UTF-8"#);
+    complains(&[locate, file, s, bad], r#"KIND "s\xFF" is not UTF-8"#);
+    complains(&[audit, file, bad, ty], r#"COLUMN "s\xFF" is not UTF-8"#);
+    complains(&[ask, file, bad, ty, OsStr::new("IS-NULL")], r#"COLUMN "s\xFF" is not UTF-8"#);
+    // It is said before the file is looked for.
+    complains(&[locate, OsStr::new("/no such folder/f"), bad], r#"COLUMN "s\xFF" is not UTF-8"#);
 }
 
 #[test]
@@ -801,7 +898,7 @@ fn literals_of_every_type() {
 fn wrong_usage() {
     let folder = Folder::new();
     let file = &folder.write("index", &index_file("s", "bitmap", &SMALL));
-    complains(&[], "a command: columns, locate, audit, ask or deletions is missing");
+    complains::<&str>(&[], "a command: columns, locate, audit, ask or deletions is missing");
     complains(&["audit", file, "s", "TINYINT", "--of", "3"], "\"--of\" is no option");
     complains(&["locate", "-", "s", "--embedded", "-"], "standard input can be read once, and - is there twice");
     complains(&["find", file], "\"find\" is no command");
@@ -868,6 +965,10 @@ fn help_and_version() {
         assert!(out.contains("poddurance ask FILE COLUMN TYPE QUESTION [LITERAL..] [--edition 1|2]\n"));
         // What each edition does with null rows.
         assert!(out.contains("1: they choose null rows too") && out.contains("2: they choose no null row"));
+        // What can't be asked for.
+        assert!(
+            out.contains("A name over 65535 bytes in it") && out.contains("One\nthat has the zero character can't be a word")
+        );
         // The one reader that isn't proved says so.
         assert!(out.contains("A plain reader lists them, which\n             is not proved"));
         assert!(out.lines().all(|line| line.len() <= 120 && !line.ends_with(' ')));

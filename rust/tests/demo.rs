@@ -9,7 +9,7 @@ use std::fs;
 use std::path::{Path, PathBuf};
 use std::process::Command;
 
-use demo_files::{alarm, day, files, state, DAY, DAY_STATES, DELETED, DELETED_ELSEWHERE, SAMPLES};
+use demo_files::{alarm, burner, day, files, state, BURNER, DAY, DAY_STATES, DELETED, DELETED_ELSEWHERE, SAMPLES};
 use poddurance::raw::{self, Fault, Record};
 use poddurance::{ask_file, audit, read_deletions, subtract_record};
 use poddurance::{Edition, Error, Literals, Question, Refusal, RowField, Type};
@@ -48,7 +48,7 @@ fn commands_answer_as_shown() {
     assert_eq!(others, [""; 0], "output without a command");
     let statuses: Vec<i32> = shown.iter().map(|one| one.check(&root())).collect();
     // A reader of the README that finds nothing would pass too.
-    assert_eq!(statuses, [0, 0, 0, 0, 0, 0, 0, 0, 1, 4, 3, 3, 3, 3, 0]);
+    assert_eq!(statuses, [0, 0, 0, 0, 0, 0, 0, 0, 1, 4, 3, 3, 3, 3, 0, 0, 0]);
     // Where none is shown it is 0.
     assert!(shown.iter().zip(statuses).all(|(one, status)| one.status.unwrap_or(0) == status));
 }
@@ -99,16 +99,16 @@ fn sound_files_answer_as_a_scan() {
             let literals = types::literals(cells.ty, values);
             let (expected, counted) = scan(cells, edition, question, values);
             let expected = ((raw::ACCEPTED, record(counted), Fault::NONE), expected);
-            let mut field = [0xA5; 3];
+            let mut field = vec![0xA5; cells.cells.len().div_ceil(8)];
             let answer = raw::ask(&body, cells.ty, edition, question, &literals, &mut field);
-            assert_eq!((answer, field.to_vec()), expected, "{name} {column} {edition} {question} {values:?}");
+            assert_eq!((answer, field.clone()), expected, "{name} {column} {edition} {question} {values:?}");
             // From the file, and with the same bytes embedded in a manifest.
             let file = demo(name);
             for (embedded, file) in [(&[][..], &file[..]), (&file, &[])] {
-                let mut field = [0xA5; 3];
+                field.fill(0xA5);
                 let (column, kind) = (column.as_bytes(), b"bitmap");
                 let answer = raw::ask_file(embedded, file, column, kind, cells.ty, edition, question, &literals, &mut field);
-                assert_eq!((answer, field.to_vec()), expected, "{name} {edition} {question} {values:?}");
+                assert_eq!((answer, field.clone()), expected, "{name} {edition} {question} {values:?}");
             }
         }
     }
@@ -116,6 +116,15 @@ fn sound_files_answer_as_a_scan() {
         check(name, "state", &state(), &[b"running", b"idle", b"fault", b"stopped"]);
         check(name, "alarm", &alarm(), &[&[0], &[1]]);
     }
+    check("burner.index", "🔥", &burner(), &[&[0], &[1]]);
+}
+
+/// The README's sentence on the burner has its samples.
+#[test]
+fn sentence_has_the_burner() {
+    let samples = BURNER.map(|lit| lit.map_or("null".to_string(), |lit| lit.to_string())).join(", ");
+    let readme = readme().split_whitespace().collect::<Vec<_>>().join(" ");
+    assert!(readme.contains(&format!("its {} rows are {samples}", BURNER.len())), "{samples}");
 }
 
 #[test]

@@ -45,6 +45,11 @@ static const uint8_t file[] = {0, 5, 0x4E, 0x4E, 0xD0, 0x1A, 0x35, 0xAE, 0, 0, 0
                                'b', 'i', 't', 'm', 'a', 'p', 0, 0, 0, 0x2F, 0, 0, 0, 0x18, 0, 0, 0, 0,
                                1, 0, 0, 0, 3, 0, 0, 0, 2, 1, 0xFF, 0xFF, 0xFF, 0xFD, 7, 0xFF, 0xFF, 0xFF, 0xFF, 9, 0xFF, 0xFF, 0xFF, 0xFE};
 
+/* The column U+1F525 as Java stores it, with an empty bitmap index; and the same in UTF-8's four bytes, which no name matches. */
+static const uint8_t fire[] = {0, 5, 0x4E, 0x4E, 0xD0, 0x1A, 0x35, 0xAE, 0, 0, 0, 1, 0, 0, 0, 62, 0, 0, 0, 2,
+                               0, 6, 0xED, 0xA0, 0xBD, 0xED, 0xB4, 0xA5, 0, 0, 0, 1, 0, 6, 'b', 'i', 't', 'm', 'a', 'p', 0, 0, 0, 62, 0, 0, 0, 0,
+                               0, 4, 0xF0, 0x9F, 0x94, 0xA5, 0, 0, 0, 0, 0, 0, 0, 0};
+
 static const char *named(uint8_t answer) {
     switch (answer) {
     case PODDURANCE_ACCEPTED: return "accepted";
@@ -167,6 +172,17 @@ static void ask_lent(const uint8_t *body, size_t body_length, const uint8_t *byt
     printf(", %02X\n", field[0]);
 }
 
+/* Of the file, of the same bytes embedded, and of no bytes. */
+static void locate(const char *column, size_t column_length, const char *kind, size_t kind_length) {
+    int where;
+    for (where = 0; where < 3; where++) {
+        uint64_t start = 99, length = 99;
+        uint8_t answer = poddurance_locate(fire, where == 1 ? sizeof fire : 0, fire, where == 0 ? sizeof fire : 0, (const uint8_t *)column, column_length,
+                                           (const uint8_t *)kind, kind_length, &start, &length);
+        printf("%s, %u bytes at %u%s", named(answer), (unsigned)length, (unsigned)start, where == 2 ? "\n" : "; ");
+    }
+}
+
 /* Rows 5 and 65542 as two arrays, the second cut off or not, for so many rows. */
 static void delete_rows(const uint8_t *deletions, size_t length, uint64_t rows) {
     static uint8_t field[8193];
@@ -198,6 +214,7 @@ static void subtract_record(uint64_t rows, size_t first_length, size_t second_le
 
 int main(void) {
     static const uint8_t many[1025] = {0};
+    static const char zeros[32768] = {0};
     const uint8_t seven[] = {7}, eight[] = {8};
     const size_t too_long = 2147483648u;
     /* No call touches it, so that it takes no room. */
@@ -234,6 +251,12 @@ int main(void) {
     ask_lent(file + 47, 23, file, 11, seven, sizeof seven, 1);
     ask_lent(file + 47, 0, file, 0, seven, sizeof seven, 1);
     ask_lent(file + 47, 24, file, sizeof file, seven, sizeof seven, 0);
+    locate("\xF0\x9F\x94\xA5", 4, "bitmap", 6);
+    locate("\xED\xA0\xBD\xED\xB4\xA5", 6, "bitmap", 6);
+    locate("", 0, "\xC0\x80", 2);
+    locate(zeros, 32767, "bitmap", 6);
+    locate(zeros, 32768, "bitmap", 6);
+    ask("\xFF", PODDURANCE_TYPE_TINYINT, PODDURANCE_EDITION_2, PODDURANCE_QUESTION_EQUAL, seven, sizeof seven);
     delete_rows(whole, sizeof whole, 65543);
     delete_rows(whole, sizeof whole, 65542);
     delete_rows(cut, sizeof cut, 65543);
@@ -293,6 +316,12 @@ LIMIT, 0 of 0 rows, 0 null, 0 deleted, entry 0, container 0, row 0, AA; LIMIT, 0
 SHORT, 0 of 0 rows, 0 null, 0 deleted, entry 0, container 0, row 0, AA; SHORT, 0 of 0 rows, 0 null, 0 deleted, entry 0, container 0, row 0, AA
 SHORT, 0 of 0 rows, 0 null, 0 deleted, entry 0, container 0, row 0, AA; SHORT, 0 of 0 rows, 0 null, 0 deleted, entry 0, container 0, row 0, AA
 ROOM, 0 of 0 rows, 0 null, 0 deleted, entry 0, container 0, row 0, AA; ROOM, 0 of 0 rows, 0 null, 0 deleted, entry 0, container 0, row 0, AA
+accepted, 0 bytes at 62; accepted, 0 bytes at 62; SHORT, 0 bytes at 0
+LITERAL, 0 bytes at 0; LITERAL, 0 bytes at 0; LITERAL, 0 bytes at 0
+LITERAL, 0 bytes at 0; LITERAL, 0 bytes at 0; LITERAL, 0 bytes at 0
+absent, 0 bytes at 0; absent, 0 bytes at 0; SHORT, 0 bytes at 0
+LITERAL, 0 bytes at 0; LITERAL, 0 bytes at 0; LITERAL, 0 bytes at 0
+LITERAL, 0 of 0 rows, 0 null, 0 deleted, entry 0, container 0, row 0, AA AA
 accepted, 2, entry 0, container 0, row 0
 RANGE, 0, entry 0, container 0, row 0
 BITMAP, 0, entry 0, container 1, row 0

@@ -40,6 +40,15 @@ fn locate_refuses_names_and_the_buffer_it_looks_at() {
     // Before anything else: also before SHORT.
     assert_eq!(raw::locate(&[], &[], &long, b"bitmap"), refused);
     assert_eq!(raw::locate(&[], &[], b"s", &long), refused);
+    // And before LITERAL, for the other name or with a file that is too long.
+    assert_eq!(raw::locate(&HEAD, &[], &long, b"\xFF"), refused);
+    assert_eq!(raw::locate(&HEAD, &[], b"\xFF", &long), refused);
+    for too_long in [&vec![b's'; 65_536][..], b"\xFF"] {
+        for (embedded, file) in [(&long[..], &[][..]), (&[], &long)] {
+            assert_eq!(raw::locate(embedded, file, too_long, b"bitmap"), refused);
+            assert_eq!(raw::locate(embedded, file, b"s", too_long), refused);
+        }
+    }
     assert_eq!(poddurance::locate(&[], &long, "s", "bitmap"), Err(Refusal::Limit));
 }
 
@@ -48,6 +57,8 @@ fn locate_does_not_test_the_buffer_it_does_not_look_at() {
     let long = too_long();
     assert_eq!(raw::locate(&HEAD, &long, b"s", b"bitmap"), (raw::ABSENT, 0, 0));
     assert_eq!(raw::locate(&[0], &long, b"s", b"bitmap"), (1, 0, 0));
+    assert_eq!(raw::locate(&HEAD, &long, b"\xFF", b"bitmap"), (LITERAL, 0, 0));
+    assert_eq!(raw::locate(&HEAD, &long, b"s", b"\xFF"), (LITERAL, 0, 0));
 }
 
 #[test]
@@ -128,11 +139,20 @@ fn row_fields_may_be_longer() {
     assert_eq!(raw::subtract(&mut [0b111], &long, 3), (0, 3, 0));
 }
 
+/// A stored name has at most 65,535 bytes, and an asked one that would have more is LITERAL, up to the limit of its buffer.
 #[test]
-fn names_within_the_limit_match_nothing() {
-    let long = vec![b's'; 65_536];
-    assert_eq!(raw::locate(&HEAD, &[], &long, b"bitmap"), (raw::ABSENT, 0, 0));
-    assert_eq!(raw::locate(&HEAD, &[], b"s", &long), (raw::ABSENT, 0, 0));
+fn names_that_no_file_can_store() {
+    let fits = vec![b's'; 65_535];
+    assert_eq!(raw::locate(&HEAD, &[], &fits, b"bitmap"), (raw::ABSENT, 0, 0));
+    assert_eq!(raw::locate(&HEAD, &[], b"s", &fits), (raw::ABSENT, 0, 0));
+    let mut longest = too_long();
+    longest.pop();
+    for name in [&[b's'; 65_536][..], &longest] {
+        for file in [&HEAD[..], &[], &[0]] {
+            assert_eq!(raw::locate(file, &[], name, b"bitmap"), (LITERAL, 0, 0));
+            assert_eq!(raw::locate(&[], file, b"s", name), (LITERAL, 0, 0));
+        }
+    }
 }
 
 #[test]
@@ -155,8 +175,14 @@ fn ask_file_refuses_what_locate_and_ask_refuse() {
     assert_eq!(asked(&HEAD, &long, b"s", b"bitmap", &[7]), absent);
     assert_eq!(asked(&HEAD, &long, b"s", b"bitmap", &long), absent);
     assert_eq!(asked(&[], &[], b"s", b"bitmap", &long), (1, Record::NONE, Fault::NONE));
-    // Neither is found for a name within the limit that no head can hold.
-    assert_eq!(asked(&[], &index_file(), &vec![b's'; 65_536], b"bitmap", &[7]), absent);
+    // A name within the limit that no head can hold, or that is not UTF-8, is refused before literals over the limit are looked at.
+    for name in [&[b's'; 65_536][..], b"\xFF"] {
+        for literals in [&[7][..], &long] {
+            assert_eq!(asked(&[], &index_file(), name, b"bitmap", literals), (LITERAL, Record::NONE, Fault::NONE));
+            assert_eq!(asked(&HEAD, &long, b"s", name, literals), (LITERAL, Record::NONE, Fault::NONE));
+            assert_eq!(asked(&[], &[], b"s", name, literals), (LITERAL, Record::NONE, Fault::NONE));
+        }
+    }
     assert_eq!(field, [0xAA]);
     let (none, field) = (Literals::none(Type::TinyInt), RowField::for_rows(3).unwrap());
     let found = ask_file(&[], &long, "s", "bitmap", Edition::Second, Question::IsNull, &none, field);

@@ -17,6 +17,9 @@ const LITERALS: u32 = 1_024;
 const NULLS: u32 = 1_000;
 const MOST_ROWS: u32 = VALUES + NULLS;
 
+/// The longest name that can be stored.
+const LONGEST_NAME: usize = 65_535;
+
 fn numbers(count: u32) -> impl Iterator<Item = [u8; 4]> {
     (0..count).map(u32::to_be_bytes)
 }
@@ -24,6 +27,9 @@ fn numbers(count: u32) -> impl Iterator<Item = [u8; 4]> {
 #[test]
 fn every_call_on_a_small_stack() {
     let literals = numbers(LITERALS).collect::<Vec<_>>().concat();
+    // As long as a file can store them: as they are asked for, and in modified UTF-8, with six bytes for four.
+    let name = "n".repeat(LONGEST_NAME);
+    let beyond = "\u{10000}".repeat(LONGEST_NAME / 6) + "nnn";
 
     // In each version without null rows and with some, whose bitmap is read and counted.
     let mut columns = Vec::new();
@@ -32,7 +38,7 @@ fn every_call_on_a_small_stack() {
         let values = numbers(VALUES).zip(0..).map(|(value, row)| (value.to_vec(), vec![row])).collect();
         let groups = Groups { ty: types::INT, rows, nulls: (VALUES..rows).collect(), values };
         let body = body(&groups, &Layout::version(version).with_blocks_of(500));
-        let file = index_file(&[("number", "bitmap", &body)]);
+        let file = index_file(&[(&name, &name, &body)]);
         let record = Record { rows: rows.into(), nulls: nulls.into(), deleted: 0, matched: LITERALS.into() };
         columns.push((body, file, record));
     }
@@ -44,9 +50,12 @@ fn every_call_on_a_small_stack() {
             assert_eq!(raw::audit(body, types::INT, &mut field), (raw::ACCEPTED, record.rows, Fault::NONE));
             let answer = (raw::ACCEPTED, *record, Fault::NONE);
             assert_eq!(raw::ask(body, types::INT, types::SECOND_EDITION, types::IN, &literals, &mut field), answer);
-            assert_eq!(raw::locate(&[], file, b"number", b"bitmap").0, raw::ACCEPTED);
+            let name = name.as_bytes();
+            assert_eq!(raw::locate(&[], file, name, name).0, raw::ACCEPTED);
+            assert_eq!(raw::locate(&[], file, name, beyond.as_bytes()).0, raw::ABSENT);
+            assert_eq!(raw::locate(&[], file, beyond.as_bytes(), name).0, raw::ABSENT);
             let (edition, question) = (types::SECOND_EDITION, types::IN);
-            let asked = raw::ask_file(&[], file, b"number", b"bitmap", types::INT, edition, question, &literals, &mut field);
+            let asked = raw::ask_file(&[], file, name, name, types::INT, edition, question, &literals, &mut field);
             assert_eq!(asked, answer);
         }
         let mut left = field;

@@ -1,10 +1,11 @@
-//! The files of `demo/`, made from the telemetry of two data files: three pumps for eight minutes, and one pump for a day. The example
-//! `make_demo` writes them, and the test `demo` compares them with those in the repository.
+//! The files of `demo/`, made from the telemetry of three data files: three pumps for eight minutes, one pump for a day, and a burner. The
+//! example `make_demo` writes them, and the test `demo` compares them with those in the repository.
 
 use std::ops::Range;
 
 use reference::types;
-use reference::writer::{bitmap, body, body_traced, deletion_file, index_file, BitmapForm, Column, Groups, Layout, Traced};
+use reference::writer::{bitmap, body, body_of, body_traced, deletion_file, index_file, index_file_traced};
+use reference::writer::{BitmapForm, Column, Content, FileLayout, Groups, Index, IndexedColumn, Layout, Traced};
 
 /// State and alarm of a pump at one time; an alarm that the pump didn't report is null.
 pub type Sample = (&'static str, Option<bool>);
@@ -33,6 +34,12 @@ pub const DELETED_ELSEWHERE: [u32; 2] = [7, 31];
 /// A sample of the state `fault`, which the damaged files have lost or doubled.
 const FAULT_ROW: u32 = 16;
 
+/// Whether the burner is lit, a sample a minute; null where it didn't report.
+pub const BURNER: [Option<bool>; 8] = [OFF, OFF, ON, ON, None, ON, ON, OFF];
+
+/// The name of the burner's column, U+1F525, as Java's `writeUTF` stores it: the surrogates D83D and DD25, three bytes each.
+const BURNER_COLUMN: &[u8] = b"\xED\xA0\xBD\xED\xB4\xA5";
+
 /// The seconds of a day: one sample each, of one pump, and more than the 65,536 rows of a container.
 pub const DAY: u32 = 86_400;
 
@@ -60,6 +67,11 @@ pub fn alarm() -> Column {
     Column::new(types::BOOLEAN, cells)
 }
 
+/// The burner's column, a BOOLEAN.
+pub fn burner() -> Column {
+    Column::new(types::BOOLEAN, BURNER.iter().map(|lit| lit.map(|lit| vec![u8::from(lit)])).collect())
+}
+
 /// Each file's name and bytes.
 pub fn files() -> Vec<(&'static str, Vec<u8>)> {
     let (states, alarms) = (state().groups(), alarm().groups());
@@ -70,6 +82,7 @@ pub fn files() -> Vec<(&'static str, Vec<u8>)> {
         ("pumps-row-lost.index", pumps(&row_lost(states.clone()), &alarms, 1)),
         ("pumps-row-doubled.index", pumps(&row_doubled(states), &alarms, 2)),
         ("day-broken.index", index_file(&[("state", "bitmap", &broken(day()))])),
+        ("burner.index", burner_file()),
         ("pumps.deletions", deletion_file(&deletions)),
     ]
 }
@@ -77,6 +90,14 @@ pub fn files() -> Vec<(&'static str, Vec<u8>)> {
 fn pumps(states: &Groups, alarms: &Groups, version: u8) -> Vec<u8> {
     let layout = Layout::version(version).with_form(BitmapForm::Smallest);
     index_file(&[("state", "bitmap", &body(states, &layout)), ("alarm", "bitmap", &body(alarms, &layout))])
+}
+
+/// The index on the burner's column, version 2.
+fn burner_file() -> Vec<u8> {
+    let body = body_of(&burner(), &Layout::version(2).with_form(BitmapForm::Smallest));
+    let index = Index { kind: b"bitmap".to_vec(), content: Content::Body(body) };
+    let column = IndexedColumn { name: BURNER_COLUMN.to_vec(), indexes: vec![index] };
+    index_file_traced(&[column], &FileLayout::default()).bytes
 }
 
 /// The writer adds the last `fault` sample to no bitmap. All lengths and cardinalities are those of what is there.

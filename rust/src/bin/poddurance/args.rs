@@ -325,6 +325,8 @@ impl Places {
         self.0.pop().ok_or_else(|| format!("{what} is missing"))
     }
 
+    /// A name that isn't UTF-8 the library would refuse as LITERAL. As a word it is wrong usage, as such a literal is, and that is said
+    /// before a file is read.
     fn text(&mut self, what: &str) -> Result<String, String> {
         self.next(what)?.into_string().map_err(|word| format!("{what} {word:?} is not UTF-8"))
     }
@@ -607,5 +609,7 @@ mod tests {
         let line = |words: [OsString; 3]| parse(words);
         assert!(line(["locate".into(), bad(), "s".into()]).is_ok()); // a file may have any name
         assert_eq!(line(["locate".into(), "f".into(), bad()]), Err("COLUMN \"\\xFF\" is not UTF-8".to_string()));
+        let kind = ["locate".into(), "f".into(), "s".into(), bad()];
+        assert_eq!(parse(kind), Err("KIND \"\\xFF\" is not UTF-8".to_string()));
     }
 }

@@ -9,6 +9,7 @@ mod columns;
 #[path = "../../commas.rs"]
 mod commas;
 mod literal;
+mod modified;
 mod output;
 
 use std::fs::File;
@@ -125,8 +126,18 @@ fn place(buffers: &Buffers, column: String, kind: String) -> Outcome {
         (raw::ACCEPTED, start, length) => Outcome::Found { column, kind, start, length },
         (raw::ABSENT, ..) => Outcome::Absent { column, kind },
         // What Locate refuses has no entry.
-        (number, ..) => Outcome::Refused { refusal: refusal_from(number, Fault::NONE), part: Part::Index },
+        (number, ..) => not_located(refusal_from(number, Fault::NONE), &column),
     }
+}
+
+/// What Locate refuses. LITERAL is of a name, and of which one the library says without a file.
+fn not_located(refusal: Refusal, column: &str) -> Outcome {
+    let part = match refusal {
+        Refusal::Literal if locate(&[], &[], column, BITMAP) == Err(Refusal::Literal) => Part::Column,
+        Refusal::Literal => Part::Kind,
+        _ => Part::Index,
+    };
+    Outcome::Refused { refusal, part }
 }
 
 /// Whether the bitmap index on the column gives each row one place.
@@ -134,7 +145,7 @@ fn audited(buffers: &Buffers, index: &IndexOf) -> Outcome {
     let body = match buffers.locate(&index.column) {
         Ok(Some(body)) => body,
         Ok(None) => return absent(index),
-        Err(refusal) => return Outcome::Refused { refusal, part: Part::Index },
+        Err(refusal) => return not_located(refusal, &index.column),
     };
     match audit(body, index.ty, RowField::for_body(body)) {
         Ok(audited) => differing(audited.rows(), index.data_rows).unwrap_or(Outcome::Accepted { rows: audited.rows() }),
@@ -158,12 +169,13 @@ fn asked(buffers: &Buffers, index: &IndexOf, edition: Edition, question: Questio
             differing(record.rows(), index.data_rows).unwrap_or(Outcome::Answered { record, removed: None, field })
         }
         Ok(None) => absent(index),
-        Err(error) => {
-            let refusal = refusal_of(error);
-            let part =
-                if located.is_ok() && of_literals(refusal, edition, question, &literals) { Part::Literals } else { Part::Index };
-            Outcome::Refused { refusal, part }
-        }
+        Err(error) => match (located, refusal_of(error)) {
+            (Err(_), refusal) => not_located(refusal, &index.column),
+            (Ok(_), refusal) => {
+                let of_literals = of_literals(refusal, edition, question, &literals);
+                Outcome::Refused { refusal, part: if of_literals { Part::Literals } else { Part::Index } }
+            }
+        },
     }
 }
 

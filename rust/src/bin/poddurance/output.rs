@@ -6,6 +6,7 @@ use poddurance::{Record, Refusal, RowField};
 
 use crate::columns::Column;
 use crate::commas::with_commas;
+use crate::modified::{decoded, pieces, Piece};
 
 /// What came out. Its numbers are the library's answers or the user's own, but for those of `columns`; a field is for the list of its
 /// rows alone.
@@ -35,12 +36,27 @@ pub enum Outcome {
 /// What a refusal is about.
 #[derive(Clone, Copy, Debug, PartialEq, Eq)]
 pub enum Part {
+    /// The column's name, whatever the file has. It is UTF-8, being a word of the command line, and so it is too long.
+    Column,
+    /// The kind's name, likewise.
+    Kind,
     /// The literals, whatever the file has.
     Literals,
     Index,
     Deletions,
     /// The deletion file beside an index that was accepted; the line says so, since the user named two files.
     DeletionsBesideIndex,
+}
+
+impl Part {
+    /// What a refusal says of it: document 01's words, which for LITERAL tell of literals, or the fault of a name.
+    fn meaning(self, refusal: Refusal) -> &'static str {
+        match self {
+            Part::Column => "the column's name takes more than 65535 bytes in modified UTF-8",
+            Part::Kind => "the kind's name takes more than 65535 bytes in modified UTF-8",
+            Part::Literals | Part::Index | Part::Deletions | Part::DeletionsBesideIndex => refusal.meaning(),
+        }
+    }
 }
 
 impl Outcome {
@@ -78,6 +94,9 @@ impl Outcome {
             Outcome::Deleted { count, rows, field } => {
                 writeln!(out, "deleted: {} of {}", with_commas(*count), counted_rows(*rows))?;
                 list_rows(field, list, out)
+            }
+            Outcome::Refused { refusal, part: part @ (Part::Column | Part::Kind) } => {
+                writeln!(out, "refused: {} ({}), {}", refusal.name(), refusal.number(), part.meaning(*refusal))
             }
             Outcome::Refused { refusal, part: Part::Index | Part::Literals } => writeln!(out, "refused: {refusal}"),
             Outcome::Refused { refusal, part } => {
@@ -127,11 +146,11 @@ impl Outcome {
             }
             Outcome::Refused { refusal, part } => {
                 let file = match part {
-                    Part::Literals => "null",
+                    Part::Column | Part::Kind | Part::Literals => "null",
                     Part::Index => r#""index""#,
                     Part::Deletions | Part::DeletionsBesideIndex => r#""deletions""#,
                 };
-                let (name, number, meaning) = (refusal.name(), refusal.number(), quoted(refusal.meaning()));
+                let (name, number, meaning) = (refusal.name(), refusal.number(), quoted(part.meaning(*refusal)));
                 write!(out, r#"{{"answer":"refused","file":{file},"name":"{name}","number":{number},"meaning":{meaning}"#)?;
                 for (key, number) in refusal.carried() {
                     write!(out, r#","{key}":{number}"#)?;
@@ -206,35 +225,57 @@ fn list_columns(columns: &[Column], out: &mut impl Write) -> io::Result<()> {
         writeln!(out, "no column")?;
     }
     for Column { name, indexes } in columns {
-        let name = escaped(name);
+        let column = shown(name);
         if indexes.is_empty() {
-            writeln!(out, "column \"{name}\": no index")?;
+            let improper = decoded(name).map_or(COLUMN_NOT_ASKED_FOR, |_| "");
+            writeln!(out, "column \"{column}\": no index{improper}")?;
         }
         for index in indexes {
-            let bytes = if index.length == 1 { "byte" } else { "bytes" };
-            writeln!(out, "column \"{name}\": {} index, {} {bytes} at {}", escaped(&index.kind), index.length, index.start)?;
+            let (kind, length, start) = (shown(&index.kind), index.length, index.start);
+            let bytes = if length == 1 { "byte" } else { "bytes" };
+            let improper = match (decoded(name), decoded(&index.kind)) {
+                (Some(_), Some(_)) => "",
+                (None, Some(_)) => COLUMN_NOT_ASKED_FOR,
+                (Some(_), None) => " (the kind can't be asked for: its name is not modified UTF-8)",
+                (None, None) => " (neither can be asked for: both names are not modified UTF-8)",
+            };
+            writeln!(out, "column \"{column}\": {kind} index, {length} {bytes} at {start}{improper}")?;
         }
     }
     Ok(())
 }
 
+const COLUMN_NOT_ASKED_FOR: &str = " (the column can't be asked for: its name is not modified UTF-8)";
+
 fn json_columns(columns: &[Column], out: &mut impl Write) -> io::Result<()> {
     write!(out, r#"{{"answer":"listed","indexes":["#)?;
     let mut between = "";
     for Column { name, indexes } in columns {
-        let name = quoted(&String::from_utf8_lossy(name));
+        let column = json_name("column", name);
         if indexes.is_empty() {
-            write!(out, r#"{between}{{"column":{name},"kind":null,"start":null,"length":null}}"#)?;
+            write!(out, r#"{between}{{{column},"kind":null,"kind_bytes":null,"start":null,"length":null}}"#)?;
             between = ",";
         }
         for index in indexes {
-            let kind = quoted(&String::from_utf8_lossy(&index.kind));
+            let kind = json_name("kind", &index.kind);
             let (start, length) = (index.start, index.length);
-            write!(out, r#"{between}{{"column":{name},"kind":{kind},"start":{start},"length":{length}}}"#)?;
+            write!(out, r#"{between}{{{column},{kind},"start":{start},"length":{length}}}"#)?;
             between = ",";
         }
     }
     write!(out, "]")
+}
+
+/// A stored name, and its bytes where they are no name's. One of the two is null.
+fn json_name(key: &str, stored: &[u8]) -> String {
+    let (name, bytes) = match decoded(stored) {
+        Some(name) => (quoted(&name), "null".to_string()),
+        None => {
+            let hex: String = stored.iter().map(|byte| format!("{byte:02X}")).collect();
+            ("null".to_string(), quoted(&hex))
+        }
+    };
+    format!(r#""{key}":{name},"{key}_bytes":{bytes}"#)
 }
 
 fn json_refused(meaning: &str, out: &mut impl Write) -> io::Result<()> {
@@ -242,22 +283,39 @@ fn json_refused(meaning: &str, out: &mut impl Write) -> io::Result<()> {
     write!(out, r#"{{"answer":"refused","file":"index","name":null,"number":null,"meaning":{meaning}"#)
 }
 
-/// A name as it stands in a file, UTF-8 or not, with escapes for all that doesn't print as itself: what a file calls its columns
-/// can't move the cursor or change the colours of a terminal.
-pub fn escaped(name: &[u8]) -> String {
+/// A stored name, modified UTF-8 or not, with escapes for all that doesn't print as itself: what a file calls its columns can't move the
+/// cursor or change the colours of a terminal. `\xFF` stands for a byte of no character and for nothing else: a backslash of the name is
+/// doubled.
+fn shown(stored: &[u8]) -> String {
     let mut text = String::new();
-    for chunk in name.utf8_chunks() {
-        for character in chunk.valid().chars() {
-            match character {
-                '\'' => text.push(character),
-                _ => text.extend(character.escape_debug()),
-            }
-        }
-        for byte in chunk.invalid() {
-            text.push_str(&format!("\\x{byte:02X}"));
+    for piece in pieces(stored) {
+        match piece {
+            Piece::Character(character) => escape(character, &mut text),
+            Piece::Improper(byte) => text.push_str(&escaped_byte(byte)),
         }
     }
     text
+}
+
+/// A file's path, UTF-8 or not, escaped in the same way.
+pub fn escaped(path: &[u8]) -> String {
+    let mut text = String::new();
+    for chunk in path.utf8_chunks() {
+        chunk.valid().chars().for_each(|character| escape(character, &mut text));
+        text.extend(chunk.invalid().iter().map(|byte| escaped_byte(*byte)));
+    }
+    text
+}
+
+fn escape(character: char, text: &mut String) {
+    match character {
+        '\'' => text.push(character),
+        _ => text.extend(character.escape_debug()),
+    }
+}
+
+fn escaped_byte(byte: u8) -> String {
+    format!("\\x{byte:02X}")
 }
 
 /// A JSON string. What doesn't print as itself is escaped, though JSON forbids a part of it alone, since it may go to a terminal.
@@ -283,6 +341,8 @@ fn quoted(text: &str) -> String {
 #[cfg(test)]
 mod tests {
     use super::*;
+    use std::collections::BTreeSet;
+
     use crate::columns::Index;
     use poddurance::{ask, subtract_record, Edition, Literals, Question, Type};
 
@@ -406,7 +466,9 @@ mod tests {
         let columns = vec![
             Column { name: b"state".to_vec(), indexes: vec![index(b"bitmap", 47, 24), index(b"bsi", 71, 1)] },
             Column { name: b"".to_vec(), indexes: vec![] },
-            Column { name: b"\x1B[31m\"\xFF'".to_vec(), indexes: vec![index("\u{9B}ä\n".as_bytes(), -1, i32::MIN)] },
+            Column { name: b"\x1B[31m\"'\\".to_vec(), indexes: vec![index(b"\xC2\x9B\xC3\xA4\n", -1, i32::MIN)] },
+            // Fire, and zero between letters.
+            Column { name: b"\xED\xA0\xBD\xED\xB4\xA5".to_vec(), indexes: vec![index(b"b\xC0\x80b", 0, 0)] },
         ];
         let listed = Outcome::Listed { columns };
         assert_eq!(listed.exit_status(), 0);
@@ -415,15 +477,18 @@ mod tests {
             "column \"state\": bitmap index, 24 bytes at 47\n\
              column \"state\": bsi index, 1 byte at 71\n\
              column \"\": no index\n\
-             column \"\\u{1b}[31m\\\"\\xFF'\": \\u{9b}ä\\n index, -2147483648 bytes at -1\n"
+             column \"\\u{1b}[31m\\\"'\\\\\": \\u{9b}ä\\n index, -2147483648 bytes at -1\n\
+             column \"🔥\": b\\0b index, 0 bytes at 0\n"
         );
         assert_eq!(
             json(&listed, false),
             "{\"answer\":\"listed\",\"indexes\":[\
-             {\"column\":\"state\",\"kind\":\"bitmap\",\"start\":47,\"length\":24},\
-             {\"column\":\"state\",\"kind\":\"bsi\",\"start\":71,\"length\":1},\
-             {\"column\":\"\",\"kind\":null,\"start\":null,\"length\":null},\
-             {\"column\":\"\\u001b[31m\\\"\u{FFFD}'\",\"kind\":\"\\u009bä\\u000a\",\"start\":-1,\"length\":-2147483648}]}\n"
+             {\"column\":\"state\",\"column_bytes\":null,\"kind\":\"bitmap\",\"kind_bytes\":null,\"start\":47,\"length\":24},\
+             {\"column\":\"state\",\"column_bytes\":null,\"kind\":\"bsi\",\"kind_bytes\":null,\"start\":71,\"length\":1},\
+             {\"column\":\"\",\"column_bytes\":null,\"kind\":null,\"kind_bytes\":null,\"start\":null,\"length\":null},\
+             {\"column\":\"\\u001b[31m\\\"'\\\\\",\"column_bytes\":null,\"kind\":\"\\u009bä\\u000a\",\"kind_bytes\":null,\
+             \"start\":-1,\"length\":-2147483648},\
+             {\"column\":\"🔥\",\"column_bytes\":null,\"kind\":\"b\\u0000b\",\"kind_bytes\":null,\"start\":0,\"length\":0}]}\n"
         );
         let none = Outcome::Listed { columns: vec![] };
         assert_eq!((text(&none, false).as_str(), none.exit_status()), ("no column\n", 0));
@@ -435,6 +500,76 @@ mod tests {
             json(&refused, false),
             "{\"answer\":\"refused\",\"file\":\"index\",\"name\":null,\"number\":null,\"meaning\":\"no index file\"}\n"
         );
+    }
+
+    /// A name that is not modified UTF-8 is shown with its bytes, and is said to be none that can be asked for.
+    #[test]
+    fn improper_names() {
+        let lines = |column: &[u8], kinds: &[&[u8]]| {
+            let indexes = kinds.iter().map(|kind| Index { kind: kind.to_vec(), start: 47, length: 24 }).collect();
+            let listed = Outcome::Listed { columns: vec![Column { name: column.to_vec(), indexes }] };
+            (text(&listed, false), json(&listed, false))
+        };
+        let column = "(the column can't be asked for: its name is not modified UTF-8)";
+        let kind = "(the kind can't be asked for: its name is not modified UTF-8)";
+        let both = "(neither can be asked for: both names are not modified UTF-8)";
+        let index = "index, 24 bytes at 47";
+        // Fire as in UTF-8.
+        let (text, json) = lines(b"a\xF0\x9F\x94\xA5", &[b"bitmap", b"b\0"]);
+        assert_eq!(
+            text,
+            format!("column \"a\\xF0\\x9F\\x94\\xA5\": bitmap {index} {column}\ncolumn \"a\\xF0\\x9F\\x94\\xA5\": b\\x00 {index} {both}\n")
+        );
+        assert_eq!(
+            json,
+            "{\"answer\":\"listed\",\"indexes\":[\
+             {\"column\":null,\"column_bytes\":\"61F09F94A5\",\"kind\":\"bitmap\",\"kind_bytes\":null,\"start\":47,\"length\":24},\
+             {\"column\":null,\"column_bytes\":\"61F09F94A5\",\"kind\":null,\"kind_bytes\":\"6200\",\"start\":47,\"length\":24}]}\n"
+        );
+        // Half a pair of surrogates.
+        assert_eq!(lines(b"s", &[b"\xED\xA0\xBD"]).0, format!("column \"s\": \\xED\\xA0\\xBD {index} {kind}\n"));
+        let (text, json) = lines(b"\xFF", &[]);
+        assert_eq!(text, format!("column \"\\xFF\": no index {column}\n"));
+        assert_eq!(
+            json,
+            "{\"answer\":\"listed\",\"indexes\":[{\"column\":null,\"column_bytes\":\"FF\",\"kind\":null,\"kind_bytes\":null,\"start\":null,\"length\":null}]}\n"
+        );
+        // A name that is spelled as those bytes are shown can be asked for.
+        let (text, json) = lines(b"a\\xF0\\x9F\\x94\\xA5", &[b"bitmap"]);
+        assert_eq!(text, format!("column \"a\\\\xF0\\\\x9F\\\\x94\\\\xA5\": bitmap {index}\n"));
+        assert!(json.contains(r#""column":"a\\xF0\\x9F\\x94\\xA5","column_bytes":null"#), "{json}");
+    }
+
+    /// From the text of a name its bytes can be had again, so that no two names have the same.
+    #[test]
+    fn each_name_has_a_text_of_its_own() {
+        let mut names: Vec<Vec<u8>> = vec![Vec::new()];
+        let parts: [&[u8]; 14] = [
+            b"a",
+            b"\\",
+            b"x",
+            b"0",
+            b"\"",
+            b"'",
+            b"u{0}",
+            b"\0",
+            b"\xC0\x80",
+            b"\xC0",
+            b"\x80",
+            b"\xED\xA0\xBD",
+            b"\xED\xB4\xA5",
+            b"\xF0",
+        ];
+        for from in [0, 1, 15] {
+            let longer: Vec<_> = names[from..].iter().flat_map(|name| parts.map(|part| [name, part].concat())).collect();
+            names.extend(longer);
+        }
+        let names: BTreeSet<Vec<u8>> = names.into_iter().collect();
+        assert!(names.len() > 2_000);
+        let texts: BTreeSet<String> = names.iter().map(|name| shown(name)).collect();
+        assert_eq!(texts.len(), names.len());
+        let objects: BTreeSet<String> = names.iter().map(|name| json_name("column", name)).collect();
+        assert_eq!(objects.len(), names.len());
     }
 
     #[test]
@@ -470,6 +605,19 @@ mod tests {
             assert_eq!(text(&refused(part), true), format!("refused: LIMIT (12), a limit is passed{behind}\n"));
             let rest = r#""name":"LIMIT","number":12,"meaning":"a limit is passed""#;
             assert_eq!(json(&refused(part), true), format!("{{\"answer\":\"refused\",\"file\":{file},{rest}}}\n"));
+        }
+    }
+
+    /// LITERAL of a name tells of the name and not of literals.
+    #[test]
+    fn names_that_are_too_long() {
+        for (part, whose) in [(Part::Column, "column"), (Part::Kind, "kind")] {
+            let refused = Outcome::Refused { refusal: Refusal::Literal, part };
+            let meaning = format!("the {whose}'s name takes more than 65535 bytes in modified UTF-8");
+            assert_eq!(refused.exit_status(), 3);
+            assert_eq!(text(&refused, false), format!("refused: LITERAL (11), {meaning}\n"));
+            let rest = format!(r#""file":null,"name":"LITERAL","number":11,"meaning":"{meaning}""#);
+            assert_eq!(json(&refused, false), format!("{{\"answer\":\"refused\",{rest}}}\n"));
         }
     }
 
@@ -577,12 +725,14 @@ mod tests {
             Outcome::Deleted { count: 3, rows: 6, field: three() },
             refused(Part::Index),
             refused(Part::Literals),
+            refused(Part::Column),
             Outcome::RowsDiffer { index_rows: 3, data_rows: 1000 },
         ] {
             let json = json(&outcome, false);
             let start = &json[..json.find(',').unwrap()];
-            let line = include_str!("help.txt").lines().find(|line| line.trim_start().starts_with(start));
-            assert_eq!(keys(line.expect("every answer has a line")), keys(&json), "{start}");
+            let behind = include_str!("help.txt").split_once(start).expect("every answer has its object").1;
+            let object = format!("{start}{}", behind.split_once("}\n").expect("it ends with a line").0);
+            assert_eq!(keys(&object), keys(&json), "{start}");
         }
         // The keys that a refusal has besides stand behind its name, in a sentence of their own.
         let help = include_str!("help.txt").split_whitespace().collect::<Vec<_>>().join(" ");
