@@ -412,9 +412,9 @@ pub fn long_name(random: &mut Random) -> String {
     name
 }
 
-/// The names of a column and a kind. One in a hundred is a long one, which takes long to read.
+/// The names of a column and a kind. One name in 200 is a long one, which takes long to read.
 pub fn names(random: &mut Random) -> [String; 2] {
-    [(); 2].map(|()| if random.percent(1) { long_name(random) } else { name(random) })
+    [(); 2].map(|()| if random.below(200) == 0 { long_name(random) } else { name(random) })
 }
 
 /// Bytes that standard UTF-8 doesn't have, each wrong for one reason.
