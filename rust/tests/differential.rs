@@ -52,7 +52,7 @@ const DEFAULT_SEED: u64 = 20_240_101;
 const DEFAULT_CASES: u64 = 300_000;
 /// How many fixed calls there are at least. With the random ones, and the calls of the test `faults`, they are the README's over
 /// 700,000.
-const FIXED_CALLS: u64 = 90_000;
+const FIXED_CALLS: u64 = 245_000;
 
 const MAX: u64 = 2_147_483_647;
 
@@ -102,6 +102,7 @@ fn check_column(both: &mut Comparison, random: &mut Random, column: &Column, gro
     random::add_improper(random, &mut columns, &name, &kind);
     let file = index_file_traced(&columns, &file_layout).bytes;
     let other = random.bytes(7);
+    let (wrong_name, wrong_kind) = (random::not_utf8(random, &name), random::not_utf8(random, &kind));
     let (name, kind) = (name.as_bytes(), kind.as_bytes());
     let at = match random.percent(50) {
         true => Where { embedded: &file, file: &other, column: name, kind },
@@ -151,6 +152,17 @@ fn check_column(both: &mut Comparison, random: &mut Random, column: &Column, gro
     let from_file = both.ask_file(at, Asked { ty: column.ty, edition, question, literals: &literals }, &before);
     let refused = (LITERAL, Record::NONE, before, NO_FAULT);
     both.demand(found == refused && from_file == refused, "Ask in an unknown edition", &[("body", body)]);
+
+    // Nothing but a name is wrong.
+    let wrong = match random.percent(50) {
+        true => Where { column: &wrong_name, ..at },
+        false => Where { kind: &wrong_kind, ..at },
+    };
+    let located = both.locate(wrong.embedded, wrong.file, wrong.column, wrong.kind);
+    let asked = Asked { ty: column.ty, edition: random::edition(random), question, literals: &literals };
+    let from_file = both.ask_file(wrong, asked, &refused.2);
+    let inputs = [("column", wrong.column), ("kind", wrong.kind)];
+    both.demand(located == (LITERAL, 0, 0) && from_file == refused, "a name that isn't standard UTF-8", &inputs);
 
     let (question, values, found) = last.expect("a question was asked");
     let which = random.below(EDITIONS.len());

@@ -3,6 +3,8 @@
 use reference::names::{modified, IMPROPER};
 use reference::reader::{self, ABSENT, ACCEPTED};
 
+use super::kinds::add;
+
 const LITERAL: u8 = 11;
 
 /// The most bytes of a name in modified form.
@@ -23,25 +25,41 @@ pub struct Named<'a> {
 }
 
 /// What can be wrong with an asked name.
-const FAULTS: [&str; 6] =
-    ["overlong", "a surrogate", "a character cut", "above 10FFFF", "a stray continuation byte", "over 65,535 modified bytes"];
+#[derive(Clone, Copy, PartialEq, Eq)]
+enum Fault {
+    Overlong,
+    Surrogate,
+    Cut,
+    Above,
+    Stray,
+    TooLong,
+}
 
-/// The number of what is wrong first.
-fn fault_of(name: &[u8]) -> Option<usize> {
+const FAULTS: [(&str, Fault); 6] = [
+    ("an overlong form", Fault::Overlong),
+    ("a surrogate", Fault::Surrogate),
+    ("a character cut off", Fault::Cut),
+    ("a character above 10FFFF", Fault::Above),
+    ("a stray continuation byte", Fault::Stray),
+    ("over 65,535 modified bytes", Fault::TooLong),
+];
+
+/// What is wrong first.
+fn fault_of(name: &[u8]) -> Option<Fault> {
     let text = match std::str::from_utf8(name) {
         Ok(text) => text,
         Err(error) => {
             let wrong = &name[error.valid_up_to()..];
             return Some(match (wrong[0], wrong.get(1)) {
-                (0xC0 | 0xC1, _) | (0xE0, Some(0x80..=0x9F)) | (0xF0, Some(0x80..=0x8F)) => 0,
-                (0xED, Some(0xA0..=0xBF)) => 1,
-                (0xF4, Some(0x90..=0xBF)) | (0xF5.., _) => 3,
-                (0x80..=0xBF, _) => 4,
-                _ => 2,
+                (0xC0 | 0xC1, _) | (0xE0, Some(0x80..=0x9F)) | (0xF0, Some(0x80..=0x8F)) => Fault::Overlong,
+                (0xED, Some(0xA0..=0xBF)) => Fault::Surrogate,
+                (0xF4, Some(0x90..=0xBF)) | (0xF5.., _) => Fault::Above,
+                (0x80..=0xBF, _) => Fault::Stray,
+                _ => Fault::Cut,
             });
         }
     };
-    (modified_length(text) > MOST_BYTES).then_some(5)
+    (modified_length(text) > MOST_BYTES).then_some(Fault::TooLong)
 }
 
 fn modified_length(name: &str) -> usize {
@@ -51,13 +69,13 @@ fn modified_length(name: &str) -> usize {
 /// What another name is answered where a wrong one is LITERAL.
 const ANSWERED: [(&str, u8); 5] = [("SHORT", 1), ("MAGIC", 2), ("VERSION", 3), ("HEAD", 4), ("ABSENT", ABSENT)];
 
-/// A column and kind that are standard UTF-8: whether one of them is so.
+/// What a name has, and whether one has it.
 type OfNames = (&'static str, fn(&str) -> bool);
 
 const OF_NAMES: [OfNames; 6] = [
     ("zero", |name| name.contains('\0')),
     ("a character above FFFF", |name| name.chars().any(|one| one > '\u{FFFF}')),
-    ("both", |name| name.contains('\0') && name.chars().any(|one| one > '\u{FFFF}')),
+    ("zero and a character above FFFF", |name| name.contains('\0') && name.chars().any(|one| one > '\u{FFFF}')),
     ("a character of two or three bytes", |name| name.chars().any(|one| ('\u{80}'..='\u{FFFF}').contains(&one))),
     ("no character", str::is_empty),
     ("65,535 modified bytes", |name| modified_length(name) == MOST_BYTES),
@@ -90,7 +108,7 @@ impl NameKinds {
         };
         if named.answer == ACCEPTED {
             for (counts, name) in self.found.iter_mut().zip([column, kind]) {
-                super::kinds::add(counts, OF_NAMES.map(|(_, is)| is(name)));
+                add(counts, OF_NAMES.map(|(_, is)| is(name)));
             }
         }
         let Some(outcome) = OUTCOMES.iter().position(|(_, answer)| *answer == named.answer) else {
@@ -114,14 +132,12 @@ impl NameKinds {
     fn add_literal(&mut self, named: &Named) {
         let faults = [named.column, named.kind].map(fault_of);
         for (counts, fault) in self.literal.iter_mut().zip(faults) {
-            if let Some(fault) = fault {
-                counts[fault] += 1;
-            }
+            add(counts, FAULTS.map(|(_, other)| fault == Some(other)));
         }
         self.literal_for_both += u64::from(faults[0].is_some() && faults[1].is_some());
         self.literal_without_buffers += u64::from(named.used.is_empty());
         let (answer, ..) = reader::locate(&[], named.used, b"another", b"name");
-        super::kinds::add(&mut self.literal_before, ANSWERED.map(|(_, other)| other == answer));
+        add(&mut self.literal_before, ANSWERED.map(|(_, other)| other == answer));
         if let (None, Ok(column), ABSENT) = (faults[0], std::str::from_utf8(named.column), answer) {
             let stored = modified(column);
             self.literal_for_kind_of_absent += u64::from(listed(named.used).iter().all(|(name, _)| *name != stored));
@@ -136,10 +152,11 @@ impl NameKinds {
             ("LITERAL, kind of an absent column".to_string(), self.literal_for_kind_of_absent),
         ];
         for (i, name) in NAMES.iter().enumerate() {
-            all.extend(FAULTS.iter().zip(self.literal[i]).map(|(fault, count)| (format!("LITERAL, {name} with {fault}"), count)));
+            let with = |fault: &str| format!("LITERAL, {name} with {fault}");
+            all.extend(FAULTS.iter().zip(self.literal[i]).map(|((fault, _), count)| (with(fault), count)));
             all.extend(OF_NAMES.iter().zip(self.found[i]).map(|((of, _), count)| (format!("found, {name} with {of}"), count)));
             for ((outcome, _), counts) in OUTCOMES.iter().zip(self.beside) {
-                let beside = |form: &str| format!("{outcome}, {name} beside itself in the form: {form}");
+                let beside = |form: &str| format!("{outcome}, beside an improper form of the {name}: {form}");
                 all.extend(IMPROPER.iter().zip(counts[i]).map(|(form, count)| (beside(form.name), count)));
             }
         }

@@ -1,5 +1,7 @@
-//! Names that standard and modified UTF-8 write in different ways, asked bytes that are no name, and stored bytes that no name has: fixed cases
-//! whose answers are known.
+//! Names that differ in standard and modified UTF-8, asked bytes that are no name, and stored bytes that no name has: fixed cases whose
+//! answers are known.
+
+use std::ops::RangeInclusive;
 
 use super::*;
 use reference::names::{modified, IMPROPER};
@@ -20,15 +22,16 @@ fn seven() -> Vec<u8> {
     body_of(&Column::new(TINYINT, vec![Some(vec![7])]), &Layout::version(1))
 }
 
-/// A file of columns, all with the same kinds, in stored form. Each has a body, and `seven` the last of those that are the asked one.
-fn file_of(columns: &[Vec<u8>], kinds: &[Vec<u8>], (column, kind): (&[u8], &[u8])) -> Vec<u8> {
-    let index = |name: &[u8], other: &Vec<u8>| {
-        let body = if name == column && other == kind { seven() } else { vec![0; 3] };
-        Index { kind: other.clone(), content: Content::Body(body) }
+/// A file of columns that all have the same kinds, names as they are stored. The asked kind of the asked column has the body of one
+/// row, each other one bytes that are no body.
+fn file_of(columns: &[&[u8]], kinds: &[&[u8]], asked: (&[u8], &[u8])) -> Vec<u8> {
+    let index = |column: &[u8], kind: &[u8]| {
+        let body = if (column, kind) == asked { seven() } else { vec![0; 3] };
+        Index { kind: kind.to_vec(), content: Content::Body(body) }
     };
     let columns: Vec<IndexedColumn> = columns
         .iter()
-        .map(|name| IndexedColumn { name: name.clone(), indexes: kinds.iter().map(|kind| index(name, kind)).collect() })
+        .map(|name| IndexedColumn { name: name.to_vec(), indexes: kinds.iter().map(|kind| index(name, kind)).collect() })
         .collect();
     index_file_traced(&columns, &FileLayout::default()).bytes
 }
@@ -52,7 +55,7 @@ fn answers(both: &mut Comparison, at: Where, answer: u8) {
 }
 
 /// Unicode's table of well-formed byte sequences, Table 3-7.
-const WELL_FORMED: [&[std::ops::RangeInclusive<u8>]; 9] = [
+const WELL_FORMED: [&[RangeInclusive<u8>]; 9] = [
     &[0x00..=0x7F],
     &[0xC2..=0xDF, 0x80..=0xBF],
     &[0xE0..=0xE0, 0xA0..=0xBF, 0x80..=0xBF],
@@ -65,10 +68,9 @@ const WELL_FORMED: [&[std::ops::RangeInclusive<u8>]; 9] = [
 ];
 
 fn is_standard(bytes: &[u8]) -> bool {
-    let fits = |row: &&&[std::ops::RangeInclusive<u8>]| {
-        row.len() <= bytes.len() && row.iter().zip(bytes).all(|(range, byte)| range.contains(byte))
-    };
-    bytes.is_empty() || WELL_FORMED.iter().find(fits).is_some_and(|row| is_standard(&bytes[row.len()..]))
+    let begins =
+        |row: &[RangeInclusive<u8>]| bytes.len() >= row.len() && row.iter().zip(bytes).all(|(range, byte)| range.contains(byte));
+    bytes.is_empty() || WELL_FORMED.iter().find(|row| begins(row)).is_some_and(|row| is_standard(&bytes[row.len()..]))
 }
 
 pub fn all(both: &mut Comparison) {
@@ -96,12 +98,10 @@ fn pairs_of_characters(both: &mut Comparison) {
         let by_kind = answer(&stored_kind, asked_kind, LITERAL);
         answers(both, Where::in_file(&file, asked_column, &stored_kind), by_kind);
         // And a file's standard form is no name.
-        let asked = (asked_column, &stored_kind[..]);
-        let file = file_of(&[asked_column.to_vec()], &[stored_kind.clone()], asked);
+        let file = file_of(&[asked_column], &[&stored_kind], (asked_column, &stored_kind));
         let by_column = answer(&stored_column, asked_column, ABSENT);
         answers(both, Where::in_file(&file, asked_column, asked_kind), by_column);
-        let asked = (&stored_column[..], asked_kind);
-        let file = file_of(&[stored_column.clone()], &[asked_kind.to_vec()], asked);
+        let file = file_of(&[&stored_column], &[asked_kind], (&stored_column, asked_kind));
         let by_kind = answer(&stored_kind, asked_kind, ABSENT);
         answers(both, Where::in_file(&file, asked_column, asked_kind), by_kind);
     }
@@ -165,7 +165,7 @@ fn no_utf8(both: &mut Comparison) {
         file
     };
     let (magic, version, negative_length) = (changed(7), changed(11), changed(12));
-    let twice = file_of(&[b"s".to_vec(), b"s".to_vec()], &[b"bitmap".to_vec()], (b"", b""));
+    let twice = file_of(&[b"s", b"s"], &[b"bitmap"], (b"s", b"bitmap"));
     let none = index_file(&[]);
     let files: [(&[u8], u8); 10] = [
         (&sound, ACCEPTED),
@@ -196,23 +196,22 @@ fn no_utf8(both: &mut Comparison) {
 
 /// Each improper form of a name, in its place, beside it, and twice: it isn't found, isn't in the way, and is no second listing.
 fn listed_improperly(both: &mut Comparison) {
-    let other = "state".to_string();
+    let other = b"state";
     for name in ["\0", "🔥", "\u{10000}", "\u{10FFFF}", "a\0b", "é🔥水", "\0🔥", "🔥🔥", "🔥\0🔥"] {
-        let stored = modified(name);
+        let (asked, stored) = (name.as_bytes(), &modified(name)[..]);
         for improper in IMPROPER.iter().filter_map(|form| form.of(name)) {
-            let (alone, beside) = (vec![improper.clone()], vec![improper.clone(), stored.clone(), improper.clone()]);
-            let twice = vec![stored.clone(), improper.clone(), stored.clone()];
-            for (listed, answer) in [(&alone, ABSENT), (&beside, ACCEPTED), (&twice, HEAD)] {
-                let file = file_of(listed, &[modified(&other)], (&stored, other.as_bytes()));
-                answers(both, Where::in_file(&file, name.as_bytes(), other.as_bytes()), answer);
-                let file = file_of(&[modified(&other)], listed, (other.as_bytes(), &stored));
-                answers(both, Where::in_file(&file, other.as_bytes(), name.as_bytes()), answer);
+            let (alone, beside, twice) = ([&improper[..]], [&improper[..], stored, &improper], [stored, &improper, stored]);
+            for (listed, answer) in [(&alone[..], ABSENT), (&beside, ACCEPTED), (&twice, HEAD)] {
+                let file = file_of(listed, &[other], (stored, other));
+                answers(both, Where::in_file(&file, asked, other), answer);
+                let file = file_of(&[other], listed, (other, stored));
+                answers(both, Where::in_file(&file, other, asked), answer);
             }
-            let file = file_of(&beside, &beside, (&stored, &stored));
-            answers(both, Where::in_file(&file, name.as_bytes(), name.as_bytes()), ACCEPTED);
-            // Improper in both places: what is in it isn't the asked one's.
-            let file = file_of(&alone, &[stored.clone()], (&stored, &stored));
-            answers(both, Where::in_file(&file, name.as_bytes(), name.as_bytes()), ABSENT);
+            let file = file_of(&beside, &beside, (stored, stored));
+            answers(both, Where::in_file(&file, asked, asked), ACCEPTED);
+            // The asked kind in a column that isn't the asked one.
+            let file = file_of(&alone, &[stored], (stored, stored));
+            answers(both, Where::in_file(&file, asked, asked), ABSENT);
         }
     }
 }
@@ -230,18 +229,19 @@ fn one_bit_apart(both: &mut Comparison) {
         }
         all
     };
+    let asked = name.as_bytes();
     for other in changed(&stored) {
-        let file = file_of(&[other.clone()], &[stored.clone()], (&[], &[]));
-        answers(both, Where::in_file(&file, name.as_bytes(), name.as_bytes()), ABSENT);
-        let file = file_of(&[stored.clone()], &[other], (&[], &[]));
-        answers(both, Where::in_file(&file, name.as_bytes(), name.as_bytes()), ABSENT);
+        let file = file_of(&[&other], &[&stored], (&stored, &stored));
+        answers(both, Where::in_file(&file, asked, asked), ABSENT);
+        let file = file_of(&[&stored], &[&other], (&stored, &stored));
+        answers(both, Where::in_file(&file, asked, asked), ABSENT);
     }
-    let file = file_of(&[stored.clone()], &[stored.clone()], (&stored, &stored));
-    answers(both, Where::in_file(&file, name.as_bytes(), name.as_bytes()), ACCEPTED);
-    for other in changed(name.as_bytes()) {
+    let file = file_of(&[&stored], &[&stored], (&stored, &stored));
+    answers(both, Where::in_file(&file, asked, asked), ACCEPTED);
+    for other in changed(asked) {
         let answer = if is_standard(&other) { ABSENT } else { LITERAL };
-        answers(both, Where::in_file(&file, &other, name.as_bytes()), answer);
-        answers(both, Where::in_file(&file, name.as_bytes(), &other), answer);
+        answers(both, Where::in_file(&file, &other, asked), answer);
+        answers(both, Where::in_file(&file, asked, &other), answer);
     }
 }
 
