@@ -419,20 +419,20 @@ pub fn names(random: &mut Random) -> [String; 2] {
 
 /// Bytes that standard UTF-8 doesn't have, each wrong for one reason.
 pub const NOT_UTF8: [&[u8]; 29] = [
-    // Overlong: 0, 7F, 0, 7FF, 0 and FFFF.
+    // Overlong: the least and the greatest character in each length that is one too many.
     &[0xC0, 0x80],
     &[0xC1, 0xBF],
     &[0xE0, 0x80, 0x80],
     &[0xE0, 0x9F, 0xBF],
     &[0xF0, 0x80, 0x80, 0x80],
     &[0xF0, 0x8F, 0xBF, 0xBF],
-    // Surrogates, the last two as a pair.
+    // Surrogates, alone and as a pair.
     &[0xED, 0xA0, 0x80],
     &[0xED, 0xAF, 0xBF],
     &[0xED, 0xB0, 0x80],
     &[0xED, 0xBF, 0xBF],
     &[0xED, 0xA0, 0xBD, 0xED, 0xB4, 0xA5],
-    // Cut: 80, 7FF, 800, FFFF, 10000 and 10FFFF with what is left of them.
+    // What is left of characters of two, three and four bytes.
     &[0xC2],
     &[0xDF],
     &[0xE0],
@@ -442,7 +442,7 @@ pub const NOT_UTF8: [&[u8]; 29] = [
     &[0xF0],
     &[0xF0, 0x90],
     &[0xF4, 0x8F, 0xBF],
-    // Above 10FFFF, and bytes that begin nothing.
+    // Above 10FFFF, and bytes that begin no character.
     &[0xF4, 0x90, 0x80, 0x80],
     &[0xF5, 0x80, 0x80, 0x80],
     &[0xF7, 0xBF, 0xBF, 0xBF],
@@ -470,13 +470,13 @@ pub fn not_utf8(random: &mut Random, name: &str) -> Vec<u8> {
     bytes
 }
 
-/// The name with as many letters more that its modified form is just too long, or by a few bytes.
+/// The name and so many letters that its modified form is too long by one to three bytes.
 pub fn too_long(random: &mut Random, name: &str) -> String {
     let missing = LONGEST_NAME + random.between(1, 3) - modified(name).len();
     name.to_string() + &"n".repeat(missing)
 }
 
-/// What a caller asks for: mostly the name, also another, one that begins as it does, too long a one, and no name at all.
+/// What a caller asks for: mostly the name, also another, one that begins as it does, too long a one, and bytes that aren't standard UTF-8.
 pub fn asked_name(random: &mut Random, name: &str) -> Vec<u8> {
     match random.below(200) {
         0..=15 => self::name(random).into_bytes(),
@@ -559,7 +559,7 @@ fn other_index(random: &mut Random, kind: Vec<u8>) -> Index {
     Index { kind, content }
 }
 
-/// Lists columns and kinds whose names are no names, but nearly the asked ones: they are no second listing of these.
+/// Lists columns, and kinds in the asked column, under names that are nearly the asked ones: they are no second listing of these.
 pub fn add_improper(random: &mut Random, columns: &mut Vec<IndexedColumn>, column: &str, kind: &str) {
     let (stored_column, stored_kind) = (modified(column), modified(kind));
     for _ in 0..*random.pick(&[0, 0, 1, 3]) {
