@@ -10,6 +10,7 @@
 
 mod comparison;
 mod large;
+mod names;
 mod support;
 
 use std::fmt::Debug;
@@ -21,6 +22,7 @@ use comparison::{
     SUBTRACT, SUBTRACT_RECORD,
 };
 use poddurance::raw;
+use reference::names::modified;
 use reference::random::{self, Random};
 use reference::reader::{self, Fault, NO_FAULT};
 use reference::record::Record;
@@ -35,9 +37,9 @@ use reference::writer::{
 };
 use support::{hex, number_from_environment, say, Lender, Tally, CALLS};
 
-/// The answers that each call can give, as document 01's orders list them.
+/// The answers that each call can give, as the orders of documents 01 and 02 list them.
 const POSSIBLE: [&[u8]; CALLS.len()] = [
-    &[0, 1, 2, 3, 4, 12, 255],
+    &[0, 1, 2, 3, 4, 11, 12, 255],
     &[0, 1, 3, 5, 6, 7, 8, 9, 10, 11, 12],
     &[0, 1, 3, 5, 6, 7, 8, 9, 10, 11, 12],
     &[0, 1, 2, 3, 4, 5, 6, 7, 8, 9, 10, 11, 12, 255],
@@ -50,7 +52,7 @@ const DEFAULT_SEED: u64 = 20_240_101;
 const DEFAULT_CASES: u64 = 300_000;
 /// How many fixed calls there are at least. With the random ones, and the calls of the test `faults`, they are the README's over
 /// 700,000.
-const FIXED_CALLS: u64 = 90_000;
+const FIXED_CALLS: u64 = 245_000;
 
 const MAX: u64 = 2_147_483_647;
 
@@ -95,16 +97,19 @@ fn sound_column(both: &mut Comparison, random: &mut Random) {
 /// A body of the column is found, accepted, and answers as the scan does.
 fn check_column(both: &mut Comparison, random: &mut Random, column: &Column, groups: &Groups, body: &[u8]) {
     let rows = column.cells.len();
-    let (name, kind) = (random::name(random), random::name(random));
-    let (columns, file_layout) = random::index_file(random, &name, &kind, body);
+    let [name, kind] = random::names(random);
+    let (mut columns, file_layout) = random::index_file(random, &name, &kind, body);
+    random::add_improper(random, &mut columns, &name, &kind);
     let file = index_file_traced(&columns, &file_layout).bytes;
     let other = random.bytes(7);
+    let (wrong_name, wrong_kind) = (random::not_utf8(random, &name), random::not_utf8(random, &kind));
+    let (name, kind) = (name.as_bytes(), kind.as_bytes());
     let at = match random.percent(50) {
-        true => Where { embedded: &file, file: &other, column: &name, kind: &kind },
-        false => Where::in_file(&file, &name, &kind),
+        true => Where { embedded: &file, file: &other, column: name, kind },
+        false => Where::in_file(&file, name, kind),
     };
     let (answer, start, length) = both.locate(at.embedded, at.file, at.column, at.kind);
-    both.demand(answer == 0, "Locate of a sound file", &[("file", &file), ("column", &name), ("kind", &kind)]);
+    both.demand(answer == 0, "Locate of a sound file", &[("file", &file), ("column", name), ("kind", kind)]);
     let part = &file[start as usize..][..length as usize];
     both.demand(part == body, "the part that Locate hands back", &[("file", &file), ("body", body)]);
 
@@ -147,6 +152,17 @@ fn check_column(both: &mut Comparison, random: &mut Random, column: &Column, gro
     let from_file = both.ask_file(at, Asked { ty: column.ty, edition, question, literals: &literals }, &before);
     let refused = (LITERAL, Record::NONE, before, NO_FAULT);
     both.demand(found == refused && from_file == refused, "Ask in an unknown edition", &[("body", body)]);
+
+    // Nothing but a name is wrong.
+    let wrong = match random.percent(50) {
+        true => Where { column: &wrong_name, ..at },
+        false => Where { kind: &wrong_kind, ..at },
+    };
+    let located = both.locate(wrong.embedded, wrong.file, wrong.column, wrong.kind);
+    let asked = Asked { ty: column.ty, edition: random::edition(random), question, literals: &literals };
+    let from_file = both.ask_file(wrong, asked, &refused.2);
+    let inputs = [("column", wrong.column), ("kind", wrong.kind)];
+    both.demand(located == (LITERAL, 0, 0) && from_file == refused, "a name that isn't standard UTF-8", &inputs);
 
     let (question, values, found) = last.expect("a question was asked");
     let which = random.below(EDITIONS.len());
@@ -276,21 +292,22 @@ fn misfit_questions(both: &mut Comparison, random: &mut Random) {
 }
 
 fn index_files(both: &mut Comparison, random: &mut Random) {
-    let (name, kind) = (random::name(random), random::name(random));
+    let [name, kind] = random::names(random);
     let length = random.below(40);
     let body = random.bytes(length);
     let (mut columns, layout) = random::index_file(random, &name, &kind, &body);
+    random::add_improper(random, &mut columns, &name, &kind);
     match random.below(20) {
         0..=2 => random::list_twice(random, &mut columns, &name),
-        3 => columns.retain(|column| column.name != name),
-        4 => columns.clear(),
+        3..=5 => random::store_improperly(random, &mut columns, &name, &kind),
+        6 => columns.retain(|column| column.name != modified(&name)),
+        7 => columns.clear(),
         _ => {}
     }
     let traced = index_file_traced(&columns, &layout);
     for _ in 0..10 {
         let file = if random.percent(20) { traced.bytes.clone() } else { random::damage(random, &traced) };
-        let name = if random.percent(85) { name.clone() } else { random::name(random) };
-        let kind = if random.percent(85) { kind.clone() } else { random::name(random) };
+        let (name, kind) = (random::asked_name(random, &name), random::asked_name(random, &kind));
         let other = random.bytes(length);
         let at = match random.percent(20) {
             true => Where { embedded: &file, file: &other, column: &name, kind: &kind },
@@ -845,7 +862,7 @@ fn bitmap_rules(both: &mut Comparison) {
     }
 }
 
-/// Numbers of values, blocks, literals and bytes of strings and names at and past their limits.
+/// Numbers of values, blocks, literals and bytes of strings at and past their limits.
 fn limits(both: &mut Comparison, random: &mut Random) {
     let numbers = |count: i32| Column::new(INT, (0..count).map(|number| Some(int(7 * number - 100_000))).collect());
     for (version, most) in [(1, 4096), (2, 65536)] {
@@ -904,14 +921,6 @@ fn limits(both: &mut Comparison, random: &mut Random) {
         literals[1023] = 9;
         assert_eq!(both.ask(&body, BOOLEAN, edition, IN, &literals, &[0xFF]).0, 11);
     }
-
-    // A name of the most bytes is found; a longer asked name matches nothing.
-    let long = "n".repeat(65535);
-    let file = index_file(&[(&long, &long, b"body")]);
-    assert_eq!(both.locate(&[], &file, long.as_bytes(), long.as_bytes()).0, 0);
-    let longer = "n".repeat(65536);
-    assert_eq!(both.locate(&[], &file, longer.as_bytes(), long.as_bytes()).0, 255);
-    assert_eq!(both.locate(&[], &file, long.as_bytes(), longer.as_bytes()).0, 255);
 }
 
 /// Bitmaps of 65,536 containers, of 65,535 runs in one, and at the edges of containers.
@@ -1053,19 +1062,28 @@ fn buffers_past_the_limit(both: &mut Comparison) {
     let file = index_file(&[("s", "bitmap", &small)]);
 
     type Triple = (u8, u64, u64);
-    let locates: [[&[u8]; 4]; 6] = [
-        [long, &[], b"s", b"bitmap"],
-        [&[], long, b"s", b"bitmap"],
-        [&[], &file, long, b"bitmap"],
-        [&[], &file, b"s", long],
-        [long, &file, b"s", b"bitmap"],
+    /// No standard UTF-8.
+    const WRONG: &[u8] = &[0xC0, 0x80];
+    let locates: [([&[u8]; 4], u8); 12] = [
+        ([long, &[], b"s", b"bitmap"], LIMIT),
+        ([&[], long, b"s", b"bitmap"], LIMIT),
+        ([&[], &file, long, b"bitmap"], LIMIT),
+        ([&[], &file, b"s", long], LIMIT),
+        ([long, &file, b"s", b"bitmap"], LIMIT),
+        // LIMIT goes before LITERAL.
+        ([long, &[], WRONG, b"bitmap"], LIMIT),
+        ([&[], long, b"s", WRONG], LIMIT),
+        ([&[], &file, long, WRONG], LIMIT),
+        ([&[], &[], WRONG, long], LIMIT),
         // The buffer that isn't looked at may be too long.
-        [&file, long, b"s", b"bitmap"],
+        ([&file, long, b"s", b"bitmap"], 0),
+        ([&file, long, WRONG, b"bitmap"], LITERAL),
+        ([&file, long, b"s", WRONG], LITERAL),
     ];
-    for (i, [embedded, file, column, kind]) in locates.iter().copied().enumerate() {
+    for ([embedded, file, column, kind], answer) in locates {
         let found: Triple = raw::locate(embedded, file, column, kind);
         assert_eq!(found, reader::locate(embedded, file, column, kind));
-        assert_eq!(found.0, if i == 5 { 0 } else { 12 });
+        assert_eq!(found.0, answer);
         both.tally.add(LOCATE, found.0);
     }
     let refused = (12, 0, NO_FAULT);
@@ -1093,12 +1111,13 @@ fn buffers_past_the_limit(both: &mut Comparison) {
             both.tally.add(ASK_FILE, answer);
         }
     };
-    for buffers in &locates[..5] {
-        ask_file(*buffers, &[7], 12);
+    for (buffers, answer) in locates.into_iter().filter(|(_, answer)| *answer != 0) {
+        ask_file(buffers, &[7], answer);
+        // Without a body the question isn't looked at.
+        ask_file(buffers, long, answer);
     }
     ask_file([&[], &file, b"s", b"bitmap"], long, 12);
     ask_file([&file, long, b"s", b"bitmap"], long, 12);
-    // Without a body the question isn't looked at.
     ask_file([&[], &none, b"s", b"bitmap"], long, 255);
     ask_file([&[], &[], b"s", b"bitmap"], long, 1);
     assert_eq!(said(raw::read_deletions(long, 0, 8, &mut field)), refused);
@@ -1155,6 +1174,7 @@ fn library_and_reference_reader_agree() {
         subtract_orders(&mut both);
         bitmap_rules(&mut both);
         limits(&mut both, random);
+        names::all(&mut both);
         containers(&mut both, random);
         bitmap_inside_bits(&mut both, random);
         large::values_listed_twice(&mut both);

@@ -3,7 +3,7 @@
 //! It is written from the rules of the formats alone and shares no code with the proved library, so that the two can
 //! be compared: `reader` has the library's calls, `writer` makes files in every permitted layout, `scan` answers
 //! questions from the column itself, and `random` draws columns, questions, layouts and damage. Reader and scan say
-//! what they found as a `record`.
+//! what they found as a `record`. `names` has the form of names in files.
 //!
 //! ```
 //! use reference::reader;
@@ -38,6 +38,7 @@
 #![forbid(unsafe_code)]
 
 pub mod crc32;
+pub mod names;
 pub mod random;
 pub mod reader;
 pub mod record;

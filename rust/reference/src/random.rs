@@ -1,7 +1,8 @@
-//! Random columns, layouts, questions of both editions and damage, repeated by a seed.
+//! Random columns, layouts, names, questions of both editions and damage, repeated by a seed.
 
 use std::collections::HashSet;
 
+use crate::names::{modified, IMPROPER};
 use crate::record::Record;
 use crate::types::{self, Width};
 use crate::writer::{
@@ -349,36 +350,180 @@ pub fn add_unused_values(random: &mut Random, groups: &mut Groups) {
 
 // Index files
 
+/// The first and last characters of each length: one to four bytes in standard UTF-8, but zero two and those above U+FFFF six in
+/// modified form. And what is next to the surrogates, or where the first of two changes.
+pub const EDGES: [char; 14] = [
+    '\u{0}',
+    '\u{1}',
+    '\u{7F}',
+    '\u{80}',
+    '\u{7FF}',
+    '\u{800}',
+    '\u{D7FF}',
+    '\u{E000}',
+    '\u{FFFF}',
+    '\u{10000}',
+    '\u{103FF}',
+    '\u{10400}',
+    '\u{1F525}',
+    '\u{10FFFF}',
+];
+
+/// A character: mostly one of the edges, else a letter or any.
+fn character(random: &mut Random) -> char {
+    match random.below(10) {
+        0..=6 => *random.pick(&EDGES),
+        7 => *random.pick(&['a', 'b']),
+        // A surrogate is no character.
+        _ => char::from_u32(random.below(char::MAX as usize + 1) as u32).unwrap_or('\u{FFFD}'),
+    }
+}
+
 /// A name of a column or kind: often one that others have too.
-pub fn name(random: &mut Random) -> Vec<u8> {
-    match random.below(8) {
-        0 => b"state".to_vec(),
-        1 => b"bitmap".to_vec(),
-        2 => b"bsi".to_vec(),
-        3 => "Füllstand 水位".as_bytes().to_vec(),
-        4 => Vec::new(),
-        5 => b"s".to_vec(),
-        6 => (0..random.between(1, 3)).map(|_| *random.pick(b"ab")).collect(),
+pub fn name(random: &mut Random) -> String {
+    match random.below(12) {
+        0 => "state".to_string(),
+        1 => "bitmap".to_string(),
+        2 => "bsi".to_string(),
+        3 => "Füllstand 水位".to_string(),
+        4 => String::new(),
+        5 => "s".to_string(),
+        6 => (0..random.between(1, 3)).map(|_| *random.pick(&['a', 'b'])).collect(),
+        7 => random.pick(&EDGES).to_string(),
+        8..=10 => (0..random.between(1, 5)).map(|_| character(random)).collect(),
         _ => {
             let length = random.between(0, 300);
-            (0..length).map(|_| *random.pick(b"abcdefgh")).collect()
+            (0..length).map(|_| *random.pick(&['a', 'b', 'c', 'd', 'e', 'f', 'g', 'h'])).collect()
         }
     }
 }
 
-/// An index file in which the asked column and kind stand once with this body, among other columns and kinds whose
-/// starts and lengths may be anything.
-pub fn index_file(random: &mut Random, column: &[u8], kind: &[u8], body: &[u8]) -> (Vec<IndexedColumn>, FileLayout) {
+/// The most bytes of a name in modified form.
+const LONGEST_NAME: usize = 65_535;
+
+/// A name of the most bytes in modified form, or a few less: one character again and again, and letters.
+pub fn long_name(random: &mut Random) -> String {
+    let repeated = character(random).to_string();
+    let width = modified(&repeated).len();
+    let length = LONGEST_NAME - random.below(4);
+    let mut name = repeated.repeat(length / width);
+    let at = if random.percent(50) { 0 } else { name.len() };
+    name.insert_str(at, &"n".repeat(length % width));
+    name
+}
+
+/// The names of a column and a kind. One name in 200 is a long one, which takes long to read.
+pub fn names(random: &mut Random) -> [String; 2] {
+    [(); 2].map(|()| if random.below(200) == 0 { long_name(random) } else { name(random) })
+}
+
+/// Bytes that standard UTF-8 doesn't have, each wrong for one reason.
+pub const NOT_UTF8: [&[u8]; 29] = [
+    // Overlong: the least and the greatest character in each length that is one too many.
+    &[0xC0, 0x80],
+    &[0xC1, 0xBF],
+    &[0xE0, 0x80, 0x80],
+    &[0xE0, 0x9F, 0xBF],
+    &[0xF0, 0x80, 0x80, 0x80],
+    &[0xF0, 0x8F, 0xBF, 0xBF],
+    // Surrogates, alone and as a pair.
+    &[0xED, 0xA0, 0x80],
+    &[0xED, 0xAF, 0xBF],
+    &[0xED, 0xB0, 0x80],
+    &[0xED, 0xBF, 0xBF],
+    &[0xED, 0xA0, 0xBD, 0xED, 0xB4, 0xA5],
+    // What is left of characters of two, three and four bytes.
+    &[0xC2],
+    &[0xDF],
+    &[0xE0],
+    &[0xE0, 0xA0],
+    &[0xEF, 0xBF],
+    &[0xED],
+    &[0xF0],
+    &[0xF0, 0x90],
+    &[0xF4, 0x8F, 0xBF],
+    // Above 10FFFF, and bytes that begin no character.
+    &[0xF4, 0x90, 0x80, 0x80],
+    &[0xF5, 0x80, 0x80, 0x80],
+    &[0xF7, 0xBF, 0xBF, 0xBF],
+    &[0xF8, 0x88, 0x80, 0x80, 0x80],
+    &[0xFE],
+    &[0xFF],
+    // A stray continuation byte.
+    &[0x80],
+    &[0xBF],
+    &[0xC2, 0x80, 0x80],
+];
+
+/// Bytes that aren't standard UTF-8: the name's with others between two characters, or those of its modified form.
+pub fn not_utf8(random: &mut Random, name: &str) -> Vec<u8> {
+    let stored = modified(name);
+    if std::str::from_utf8(&stored).is_err() && random.percent(30) {
+        return stored;
+    }
+    let mut bytes = name.as_bytes().to_vec();
+    let mut at = random.below(name.len() + 1);
+    while !name.is_char_boundary(at) {
+        at -= 1;
+    }
+    bytes.splice(at..at, random.pick(&NOT_UTF8).iter().copied());
+    bytes
+}
+
+/// The name and so many letters that its modified form is too long by one to three bytes.
+pub fn too_long(random: &mut Random, name: &str) -> String {
+    let missing = LONGEST_NAME + random.between(1, 3) - modified(name).len();
+    name.to_string() + &"n".repeat(missing)
+}
+
+/// What a caller asks for: mostly the name, also another, one that begins as it does, too long a one, and bytes that aren't standard UTF-8.
+pub fn asked_name(random: &mut Random, name: &str) -> Vec<u8> {
+    match random.below(200) {
+        0..=15 => self::name(random).into_bytes(),
+        16..=19 => (name.to_string() + &character(random).to_string()).into_bytes(),
+        20..=23 => {
+            let mut shorter = name.to_string();
+            shorter.pop();
+            shorter.into_bytes()
+        }
+        24 => too_long(random, name).into_bytes(),
+        25..=37 => not_utf8(random, name),
+        _ => name.as_bytes().to_vec(),
+    }
+}
+
+/// Stored bytes that aren't the name: one of the improper forms if it has such, or a byte changed, lost or added.
+pub fn improper(random: &mut Random, name: &str) -> Vec<u8> {
+    let form = random.pick(&IMPROPER).of(name).filter(|_| random.percent(85));
+    form.unwrap_or_else(|| {
+        let mut bytes = modified(name);
+        if bytes.is_empty() {
+            return vec![0; random.between(1, 2)];
+        }
+        let at = random.below(bytes.len());
+        match random.below(6) {
+            0 => drop(bytes.remove(at)),
+            1 if bytes.len() < LONGEST_NAME => bytes.push(*random.pick(&[0x00, 0x80, b'a'])),
+            _ => bytes[at] ^= 1 << random.below(8),
+        }
+        bytes
+    })
+}
+
+/// An index file in which the asked column and kind stand once with this body, in modified form, among other columns and kinds
+/// whose starts and lengths may be anything.
+pub fn index_file(random: &mut Random, column: &str, kind: &str, body: &[u8]) -> (Vec<IndexedColumn>, FileLayout) {
+    let (column, kind) = (modified(column), modified(kind));
     let mut columns: Vec<IndexedColumn> = (0..*random.pick(&[0, 0, 1, 2, 5]))
         .map(|_| {
-            let name = name(random);
+            let name = modified(&name(random));
             other_column(random, name)
         })
         .filter(|other| other.name != column)
         .collect();
-    let mut asked = other_column(random, column.to_vec());
+    let mut asked = other_column(random, column);
     asked.indexes.retain(|index| index.kind != kind);
-    let index = Index { kind: kind.to_vec(), content: Content::Body(body.to_vec()) };
+    let index = Index { kind, content: Content::Body(body.to_vec()) };
     let at = random.between(0, asked.indexes.len());
     asked.indexes.insert(at, index);
     let at = random.between(0, columns.len());
@@ -397,28 +542,69 @@ pub fn index_file(random: &mut Random, column: &[u8], kind: &[u8], body: &[u8]) 
 fn other_column(random: &mut Random, name_of: Vec<u8>) -> IndexedColumn {
     let indexes = (0..random.below(4))
         .map(|_| {
-            let kind = name(random);
-            let content = if random.percent(50) {
-                let count = random.below(30);
-                Content::Body(random.bytes(count))
-            } else {
-                Content::At { start: random.number() as i32, length: random.number() as i32 }
-            };
-            Index { kind, content }
+            let kind = modified(&name(random));
+            other_index(random, kind)
         })
         .collect();
     IndexedColumn { name: name_of, indexes }
 }
 
+fn other_index(random: &mut Random, kind: Vec<u8>) -> Index {
+    let content = if random.percent(50) {
+        let count = random.below(30);
+        Content::Body(random.bytes(count))
+    } else {
+        Content::At { start: random.number() as i32, length: random.number() as i32 }
+    };
+    Index { kind, content }
+}
+
+/// Lists columns, and kinds in the asked column, under names that are nearly the asked ones: they are no second listing of these.
+pub fn add_improper(random: &mut Random, columns: &mut Vec<IndexedColumn>, column: &str, kind: &str) {
+    let (stored_column, stored_kind) = (modified(column), modified(kind));
+    for _ in 0..*random.pick(&[0, 0, 1, 3]) {
+        let name = improper(random, column);
+        let mut other = other_column(random, name);
+        if random.percent(50) {
+            other.indexes.push(other_index(random, stored_kind.clone()));
+        }
+        let at = random.between(0, columns.len());
+        columns.insert(at, other);
+    }
+    for asked in columns.iter_mut().filter(|other| other.name == stored_column) {
+        for _ in 0..*random.pick(&[0, 0, 1, 3]) {
+            let name = improper(random, kind);
+            let other = other_index(random, name);
+            let at = random.between(0, asked.indexes.len());
+            asked.indexes.insert(at, other);
+        }
+    }
+}
+
+/// Stores the asked column's name, or the asked kind's in it, in another form, so that it is listed no more.
+pub fn store_improperly(random: &mut Random, columns: &mut [IndexedColumn], column: &str, kind: &str) {
+    let (stored_column, stored_kind) = (modified(column), modified(kind));
+    for asked in columns.iter_mut().filter(|other| other.name == stored_column) {
+        if random.percent(50) {
+            asked.name = improper(random, column);
+            continue;
+        }
+        for index in asked.indexes.iter_mut().filter(|index| index.kind == stored_kind) {
+            index.kind = improper(random, kind);
+        }
+    }
+}
+
 /// Lists the asked column twice, or the asked kind twice in it.
-pub fn list_twice(random: &mut Random, columns: &mut Vec<IndexedColumn>, column: &[u8]) {
+pub fn list_twice(random: &mut Random, columns: &mut Vec<IndexedColumn>, column: &str) {
+    let column = modified(column);
     let Some(at) = columns.iter().position(|other| other.name == column) else {
         return;
     };
     let copy = columns[at].clone();
     match random.below(3) {
         0 => columns.push(copy),
-        1 => columns.push(IndexedColumn { name: column.to_vec(), indexes: Vec::new() }),
+        1 => columns.push(IndexedColumn { name: column, indexes: Vec::new() }),
         _ => {
             let again = random.pick(&copy.indexes).clone();
             columns[at].indexes.push(again);

@@ -7,6 +7,7 @@ use std::cmp::Ordering;
 use std::collections::HashSet;
 
 use crate::crc32::crc32;
+use crate::names;
 use crate::record::Record;
 use crate::roaring::{count_ones, Bitmap, Broken};
 use crate::types::{self, Width};
@@ -67,6 +68,8 @@ const MAX_VALUES_V2: i32 = 65_536;
 const MAX_BLOCKS: i32 = 65_536;
 const MAX_STRING: i32 = 65_535;
 const MAX_LITERALS: usize = 1_024;
+/// The most bytes of a name in modified form, whose length is stored in 2 bytes.
+const MAX_NAME: usize = 65_535;
 
 const INDEX_MAGIC: u64 = 1_493_475_289_347_502;
 const INDEX_VERSION: u32 = 1;
@@ -78,7 +81,8 @@ const BIN_MAGIC: u32 = 1_581_511_376;
 /// The entry that a fault in a bin names: it has none.
 const BIN_ENTRY: u64 = 0;
 
-/// Finds the index of kind `kind` on column `column`: answer, start and length in the buffer that was looked at.
+/// Finds the index of kind `kind` on column `column`, names in standard UTF-8: answer, start and length in the buffer that was
+/// looked at.
 pub fn locate(embedded: &[u8], file: &[u8], column: &[u8], kind: &[u8]) -> (u8, u64, u64) {
     let file = if embedded.is_empty() { file } else { embedded };
     match locate_in(file, column, kind) {
@@ -171,6 +175,7 @@ fn locate_in(file: &[u8], column: &[u8], kind: &[u8]) -> Result<Option<(usize, u
     for buffer in [file, column, kind] {
         within_limit(buffer)?;
     }
+    let (column, kind) = (stored_name(column)?, stored_name(kind)?);
     if file.len() < 16 {
         return Err(Refusal::Short);
     }
@@ -187,7 +192,7 @@ fn locate_in(file: &[u8], column: &[u8], kind: &[u8]) -> Result<Option<(usize, u
         .filter(|length| *length >= SHORTEST_HEAD)
         .and_then(|length| file.get(..length))
         .ok_or(Refusal::Head)?;
-    let asked = asked_entry(head, column, kind).ok_or(Refusal::Head)?;
+    let asked = asked_entry(head, &column, &kind).ok_or(Refusal::Head)?;
 
     // The whole head is right; only now the asked entry's place counts.
     let Some((start, length)) = asked else {
@@ -202,9 +207,20 @@ fn locate_in(file: &[u8], column: &[u8], kind: &[u8]) -> Result<Option<(usize, u
     Ok(Some((start, length)))
 }
 
+/// An asked name as files store it.
+fn stored_name(asked: &[u8]) -> Result<Vec<u8>, Refusal> {
+    let name = std::str::from_utf8(asked).map_err(|_| Refusal::Literal)?;
+    let stored = names::modified(name);
+    if stored.len() > MAX_NAME {
+        return Err(Refusal::Literal);
+    }
+    Ok(stored)
+}
+
 type Place = (i32, i32);
 
-/// Walks the whole head and gives the asked entry's start and length if it is listed. Nothing where a rule is broken.
+/// Walks the whole head and gives the asked entry's start and length if it is listed. Nothing where a rule is broken. Names in the
+/// head aren't decoded: one that no name has in modified form differs from each that is asked.
 fn asked_entry(head: &[u8], column: &[u8], kind: &[u8]) -> Option<Option<Place>> {
     let mut input = Input { bytes: head, at: 16 };
     let mut column_seen = false;

@@ -8,6 +8,7 @@
 use std::collections::HashMap;
 
 use crate::crc32::crc32;
+use crate::names::modified;
 use crate::types;
 
 /// A type and, per row from 0, null or a value: the bytes of a number, big-endian, or of a string, without its length.
@@ -430,6 +431,7 @@ fn overlap(old: &[u8], new: &[u8]) -> Option<(usize, usize)> {
 /// A column of an index file's head.
 #[derive(Clone, Debug, Default)]
 pub struct IndexedColumn {
+    /// As it is stored, in modified form or not.
     pub name: Vec<u8>,
     pub indexes: Vec<Index>,
 }
@@ -437,6 +439,7 @@ pub struct IndexedColumn {
 /// One index of a column.
 #[derive(Clone, Debug)]
 pub struct Index {
+    /// As it is stored, in modified form or not.
     pub kind: Vec<u8>,
     pub content: Content,
 }
@@ -462,15 +465,15 @@ pub struct FileLayout {
     pub tail: Vec<u8>,
 }
 
-/// An index file of columns, kinds and bodies. Entries of one column must follow each other.
+/// An index file of columns, kinds and bodies, names in modified form. Entries of one column must follow each other.
 pub fn index_file(indexes: &[(&str, &str, &[u8])]) -> Vec<u8> {
     let columns: Vec<IndexedColumn> = indexes
         .chunk_by(|a, b| a.0 == b.0)
         .map(|indexes| IndexedColumn {
-            name: indexes[0].0.as_bytes().to_vec(),
+            name: modified(indexes[0].0),
             indexes: indexes
                 .iter()
-                .map(|(_, kind, body)| Index { kind: kind.as_bytes().to_vec(), content: Content::Body(body.to_vec()) })
+                .map(|(_, kind, body)| Index { kind: modified(kind), content: Content::Body(body.to_vec()) })
                 .collect(),
         })
         .collect();

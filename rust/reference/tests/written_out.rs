@@ -4,7 +4,10 @@ use reference::reader::{ask, ask_file, audit, locate, read_deletions, subtract, 
 use reference::record::Record;
 use reference::scan::{scan, scan_without};
 use reference::types::*;
-use reference::writer::{bitmap, body_of, deletion_file, index_file, BitmapForm, Column, ContainerForm, Layout};
+use reference::writer::{
+    bitmap, body_of, deletion_file, index_file, index_file_traced, BitmapForm, Column, ContainerForm, Content, FileLayout, Index,
+    IndexedColumn, Layout,
+};
 
 fn hex(text: &str) -> Vec<u8> {
     text.split_whitespace().map(|byte| u8::from_str_radix(byte, 16).unwrap()).collect()
@@ -39,6 +42,149 @@ fn small_file_is_found_and_written() {
     assert_eq!(locate(&[], &file[..23], b"s", b"bitmap"), (4, 0, 0));
     assert_eq!(index_file(&[("s", "bitmap", &body)]), file);
     assert_eq!(body_of(&small_column(), &Layout::version(1)), body);
+}
+
+/// The small file's head with names in place of `s` and `bitmap`, as they are stored; and its body.
+fn small_file(column: &[u8], kind: &[u8]) -> Vec<u8> {
+    let small = hex(HEAD);
+    let length = |name: &[u8]| (name.len() as u16).to_be_bytes();
+    let head_length = (small.len() - "s".len() - "bitmap".len() + column.len() + kind.len()) as u32;
+    let start = head_length.to_be_bytes();
+    [&small[..12], &start, &small[16..20], &length(column), column, &small[23..27], &length(kind), kind, &start, &small[39..]]
+        .concat()
+        .into_iter()
+        .chain(hex(VERSION_1))
+        .collect()
+}
+
+/// A name in standard UTF-8 and as files have it.
+const NAMES: [(&str, &str); 8] = [
+    ("s", "73"),
+    ("", ""),
+    ("\0", "C0 80"),
+    ("é", "C3 A9"),
+    ("水", "E6 B0 B4"),
+    ("🔥", "ED A0 BD ED B4 A5"),
+    ("\u{10FFFF}", "ED AF BF ED BF BF"),
+    ("a\0🔥", "61 C0 80 ED A0 BD ED B4 A5"),
+];
+
+#[test]
+fn names_are_compared_and_written_in_modified_form() {
+    let body = hex(VERSION_1);
+    for (name, stored) in NAMES {
+        let stored = hex(stored);
+        // The body stands right behind the head.
+        let start = |file: &[u8]| (file.len() - body.len()) as u64;
+        let file = small_file(&stored, b"bitmap");
+        assert_eq!(index_file(&[(name, "bitmap", &body)]), file);
+        assert_eq!(locate(&[], &file, name.as_bytes(), b"bitmap"), (0, start(&file), 24), "{name:?}");
+        let file = small_file(b"s", &stored);
+        assert_eq!(index_file(&[("s", name, &body)]), file);
+        assert_eq!(locate(&file, &[], b"s", name.as_bytes()), (0, start(&file), 24), "{name:?}");
+        // A caller's modified form is no standard UTF-8 where the two differ.
+        if stored != name.as_bytes() {
+            assert_eq!(locate(&[], &file, b"s", &stored), (11, 0, 0), "{name:?}");
+            let unlisted = small_file(b"s", name.as_bytes());
+            assert_eq!(locate(&[], &unlisted, b"s", name.as_bytes()), (255, 0, 0), "{name:?}");
+        }
+    }
+}
+
+/// Stored names that no name has in modified form are no fault and no second listing.
+#[test]
+fn improper_stored_names() {
+    let file = |columns: &[&str], kinds: &[&str]| {
+        let index = |kind: &str| Index { kind: hex(kind), content: Content::Body(hex(VERSION_1)) };
+        let columns: Vec<IndexedColumn> = columns
+            .iter()
+            .map(|name| IndexedColumn { name: hex(name), indexes: kinds.iter().map(|kind| index(kind)).collect() })
+            .collect();
+        index_file_traced(&columns, &FileLayout::default()).bytes
+    };
+    let fire = "ED A0 BD ED B4 A5";
+    // Four bytes, the surrogates swapped, each alone, one cut, one more byte, and no UTF-8 of any kind.
+    let improper =
+        ["F0 9F 94 A5", "ED B4 A5 ED A0 BD", "ED A0 BD", "ED B4 A5", "ED A0 BD ED B4", "ED A0 BD ED B4 A5 00", "FF FE", "00"];
+    let asked = |file: &[u8]| locate(&[], file, "🔥".as_bytes(), "🔥".as_bytes()).0;
+    assert_eq!(asked(&file(&improper, &[fire])), 255);
+    assert_eq!(asked(&file(&[fire], &improper)), 255);
+    assert_eq!(asked(&file(&[&improper[..], &[fire]].concat(), &[&[fire], &improper[..]].concat())), 0);
+    assert_eq!(asked(&file(&[fire, "F0 9F 94 A5", fire], &[])), 4);
+    assert_eq!(asked(&file(&[fire], &[fire, "F0 9F 94 A5", fire])), 4);
+    // A raw zero, beside the one in two bytes.
+    let asked = |file: &[u8]| locate(&[], file, b"\0", b"\0").0;
+    assert_eq!(asked(&file(&["00"], &["C0 80"])), 255);
+    assert_eq!(asked(&file(&["C0 80"], &["00"])), 255);
+    assert_eq!(asked(&file(&["00", "C0 80", "00"], &["C0 80", "00"])), 0);
+}
+
+/// A name that isn't standard UTF-8 is LITERAL before the file is looked at.
+#[test]
+fn asked_names_that_are_no_utf_8() {
+    let file = [hex(HEAD), hex(VERSION_1)].concat();
+    let [mut wrong_magic, mut wrong_version] = [(); 2].map(|()| file.clone());
+    (wrong_magic[0], wrong_version[11]) = (1, 2);
+    for (file, answer) in [(&file[..], 0), (&[], 1), (&file[..15], 1), (&wrong_magic, 2), (&wrong_version, 3), (&file[..46], 4)] {
+        assert_eq!(locate(&[], file, b"s", b"bitmap").0, answer);
+    }
+    for name in [
+        "C0 80",
+        "C1 BF",
+        "E0 9F BF",
+        "F0 8F BF BF",
+        "ED A0 80",
+        "ED BF BF",
+        "ED A0 BD ED B4 A5",
+        "F4 90 80 80",
+        "F5 80 80 80",
+        "FF",
+        "80",
+        "73 BF",
+        "C3",
+        "E6 B0",
+        "F0 9F 94",
+        "C3 73",
+    ] {
+        let name = hex(name);
+        for file in [&file[..], &[], &file[..15], &wrong_magic, &wrong_version, &file[..46]] {
+            assert_eq!(locate(&[], file, &name, b"bitmap"), (11, 0, 0), "{name:X?}");
+            assert_eq!(locate(file, &[], b"s", &name), (11, 0, 0), "{name:X?}");
+            // The kind of a column that isn't listed, and both.
+            assert_eq!(locate(&[], file, b"t", &name), (11, 0, 0), "{name:X?}");
+            assert_eq!(locate(&[], file, &name, &name), (11, 0, 0), "{name:X?}");
+        }
+        let mut field = [0xAA];
+        let found = ask_file(&[], &file, &name, b"bitmap", TINYINT, SECOND_EDITION, EQUAL, &[7], &mut field);
+        assert_eq!((found, field), ((11, Record::NONE, NO_FAULT), [0xAA]));
+    }
+}
+
+/// 65,535 bytes are counted in modified form.
+#[test]
+fn the_longest_names() {
+    for (name, answer) in [
+        ("n".repeat(65_535), 0),
+        ("n".repeat(65_536), 11),
+        ("\0".repeat(32_767), 0),
+        ("\0".repeat(32_767) + "n", 0),
+        ("\0".repeat(32_768), 11),
+        ("é".repeat(32_767) + "n", 0),
+        ("é".repeat(32_768), 11),
+        ("水".repeat(21_845), 0),
+        ("水".repeat(21_845) + "n", 11),
+        ("🔥".repeat(10_922) + "nnn", 0),
+        ("🔥".repeat(10_922) + "nnnn", 11),
+        ("🔥".repeat(10_923), 11),
+    ] {
+        let file = match answer {
+            0 => index_file(&[(&name, &name, &[])]),
+            _ => Vec::new(),
+        };
+        assert_eq!(locate(&[], &file, name.as_bytes(), name.as_bytes()).0, answer);
+        let (of_column, of_kind) = (locate(&[], &file, name.as_bytes(), b"s").0, locate(&[], &file, b"s", name.as_bytes()).0);
+        assert_eq!((of_column, of_kind), if answer == 0 { (255, 255) } else { (11, 11) });
+    }
 }
 
 #[test]

@@ -1,8 +1,12 @@
-//! The kinds of answers with a record, counted, so that a test can demand that each of them occurred.
+//! The kinds of answers with a record, and of names, counted, so that a test can demand that each of them occurred.
 
 use reference::reader::ACCEPTED;
 use reference::record::Record;
 use reference::types;
+
+use super::names::{NameKinds, Named};
+use super::{ASK_FILE, LOCATE};
+use crate::support::CALLS;
 
 const ROOM: u8 = 10;
 const LIMIT: u8 = 12;
@@ -96,8 +100,12 @@ const OF_SUBTRACT: [OfSubtract; 26] = [
 /// The questions of both editions.
 const QUESTIONS: usize = types::EDITIONS.len() * (types::IS_NOT_NULL as usize + 1);
 
+/// The calls that take names.
+const WITH_NAMES: [usize; 2] = [LOCATE, ASK_FILE];
+
 /// How often each kind occurred.
 pub struct Kinds {
+    of_names: [NameKinds; WITH_NAMES.len()],
     of_ask: [u64; OF_ASK.len()],
     /// Answers of a column with null rows, by edition and question.
     with_nulls: [u64; QUESTIONS],
@@ -106,7 +114,17 @@ pub struct Kinds {
 
 impl Kinds {
     pub fn new() -> Kinds {
-        Kinds { of_ask: [0; OF_ASK.len()], with_nulls: [0; QUESTIONS], of_subtract: [0; OF_SUBTRACT.len()] }
+        Kinds {
+            of_names: Default::default(),
+            of_ask: [0; OF_ASK.len()],
+            with_nulls: [0; QUESTIONS],
+            of_subtract: [0; OF_SUBTRACT.len()],
+        }
+    }
+
+    pub fn add_named(&mut self, call: usize, named: &Named) {
+        let call = WITH_NAMES.iter().position(|other| *other == call).expect("a call with names");
+        self.of_names[call].add(named);
     }
 
     pub fn add_asked(&mut self, asked: &Asked) {
@@ -124,6 +142,9 @@ impl Kinds {
     /// Each kind and how often it occurred.
     pub fn all(&self) -> Vec<(String, u64)> {
         let mut all = Vec::new();
+        for (call, kinds) in WITH_NAMES.into_iter().zip(&self.of_names) {
+            all.extend(kinds.all().into_iter().map(|(kind, count)| (format!("{}: {kind}", CALLS[call]), count)));
+        }
         all.extend(OF_ASK.iter().zip(self.of_ask).map(|((name, _), count)| (format!("Ask: {name}"), count)));
         for (i, count) in self.with_nulls.into_iter().enumerate() {
             let (question, edition) = (i / types::EDITIONS.len(), types::EDITIONS[i % types::EDITIONS.len()]);
@@ -136,7 +157,7 @@ impl Kinds {
     }
 }
 
-fn add<const N: usize>(counts: &mut [u64; N], occurred: [bool; N]) {
+pub fn add<const N: usize>(counts: &mut [u64; N], occurred: [bool; N]) {
     for (count, occurred) in counts.iter_mut().zip(occurred) {
         *count += u64::from(occurred);
     }

@@ -5,8 +5,10 @@
 #![allow(dead_code)]
 
 pub mod kinds;
+pub mod names;
 
 use kinds::{Kinds, Subtracted};
+use names::Named;
 use poddurance::raw;
 use reference::reader::{self, Fault, ACCEPTED};
 use reference::record::Record;
@@ -104,6 +106,8 @@ impl Comparison {
             self.fail("Locate", &inputs, &format!("library {found:?}, reference reader {expected:?}"));
         }
         self.tally.add(LOCATE, found.0);
+        let used = if embedded.is_empty() { file } else { embedded };
+        self.kinds.add_named(LOCATE, &Named { used, column, kind, answer: found.0 });
         found
     }
 
@@ -179,6 +183,10 @@ impl Comparison {
             self.fail("Ask file", &inputs, &answers);
         }
         self.tally.add(ASK_FILE, found.0);
+        let used = if embedded.is_empty() { file } else { embedded };
+        // What Locate says of the names, with which the answer agrees.
+        let (answer, ..) = reader::locate(&[], used, column, kind);
+        self.kinds.add_named(ASK_FILE, &Named { used, column, kind, answer });
         if found.0 == ACCEPTED {
             self.kinds.add_asked(&kinds::Asked { edition, question, record: found.1 });
         }
