@@ -128,9 +128,9 @@ module _ (good : Sought Part) where
   unfolding find withinLimits
   answered bytes column kind b g =
       on-check _ Refusal.Limit _ g (λ _ g. on-check _ Refusal.Limit _ g (λ _ g. on-check _ Refusal.Limit _ g (λ _ g.
-      on-check _ Refusal.Literal _ g (λ _ g. on-check _ Refusal.Literal _ g (λ _ g.
+      on-check _ Refusal.Literal _ g (λ _ g.
       let h = headed column kind bytes b g in
-      (h, sym (headed-file column kind h) ∙ g))))))
+      (h, sym (headed-file column kind h) ∙ g)))))
 
 -- ---- found
 

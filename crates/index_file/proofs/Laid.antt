@@ -126,7 +126,7 @@ headed-file column kind h =
 pub asked-file : (bytes column kind : List ℕ) → length bytes ≤ limit → Askable column → Askable kind → find bytes column kind ≡ file (matches column) (matches kind) bytes
 asked-file bytes column kind a b c =
     find-file bytes column kind a (omega (arith, askable-short column b)) (omega (arith, askable-short kind c))
-    (askable-is-tested column .0 b) (askable-is-tested kind .0 c)
+    (simp (askable-is-tested column .0 b, askable-is-tested kind .0 c))
 
 -- a head that does not list what is asked for
 pub unlisted-file : {column kind bytes : List ℕ} (h : Headed bytes) → Unlisted column kind (h .columns) → file (matches column) (matches kind) bytes ≡ ok absent

@@ -1,7 +1,7 @@
 -- Laws of the reading of a file: the limits, and the fields in front of the columns, in their order.
 use Prim.Native.Nat.{ℕ, _<_, _≤_}
 use mathlib.Core.Path.{_≡_, _∙_}
-use mathlib.Core.Bool.{Bool, true, false}
+use mathlib.Core.Bool.{Bool, true, false, _&&_}
 use mathlib.Core.List.{List}
 use native.Mathlib.Omega.{arith}
 use lib.Dec.{leb, eqb}
@@ -63,14 +63,10 @@ module _ (bytes column kind : List ℕ) where
   find-kind a b h = simp (le-leb, lt-leb)
 
   module _ (a : length bytes ≤ limit) (b : length column ≤ limit) (c : length kind ≤ limit) where
-    pub find-other-column : askable column ≡ false → find bytes column kind ≡ refuse Refusal.Literal
+    pub find-unaskable : askable column && askable kind ≡ false → find bytes column kind ≡ refuse Refusal.Literal
     unfolding find withinLimits check
-    find-other-column e = simp (le-leb, e)
+    find-unaskable e = simp (le-leb, e)
 
-    pub find-other-kind : askable column ≡ true → askable kind ≡ false → find bytes column kind ≡ refuse Refusal.Literal
+    pub find-file : askable column && askable kind ≡ true → find bytes column kind ≡ file (matches column) (matches kind) bytes
     unfolding find withinLimits check
-    find-other-kind e f = simp (le-leb, e, f)
-
-    pub find-file : askable column ≡ true → askable kind ≡ true → find bytes column kind ≡ file (matches column) (matches kind) bytes
-    unfolding find withinLimits check
-    find-file e f = simp (le-leb, e, f)
+    find-file e = simp (le-leb, e)

@@ -1,13 +1,14 @@
 -- The claims, proved; and that what is found lies within the bytes.
 use Prim.Native.Nat.{ℕ, _+_, _≤_}
 use mathlib.Core.Path.{_≡_, refl, sym, ap, _∙_, fun-ext}
-use mathlib.Core.Bool.{Bool, true, false}
+use mathlib.Core.Bool.{Bool, true, false, _&&_}
 use mathlib.Core.List.{List}
 use mathlib.Core.Logic.{_⊎_, inl, inr, ⊎-elim}
 use native.Mathlib.Decide.{decLe, ℕ-discrete}
 use native.Mathlib.Omega.{arith}
 use lib.ListN.{length}
 use Rattle.numbers.specs.Meaning.{beAt, Bytes, same}
+use Rattle.numbers.proofs.Booleans.{and-both}
 use Rattle.refusal.specs.Meaning.{numberOf, limit}
 use Rattle.refusal.specs.declared.Refusal.{Refusal}
 use Rattle.refusal.specs.Reading.{refuse, ok, check, numbersOf}
@@ -18,7 +19,7 @@ use Rattle.names.proofs.Theorems.{askable-is-tested, plain-is-compared, plain-i
 use Rattle.index_file.specs.Layout.{magic, fileVersion, frontSize}
 use Rattle.index_file.specs.Reading.{found, absent, Part, bytesOf, withinLimits, find, soughtNumbers}
 use Rattle.index_file.specs.Claims.{LaidOutIsFound, FoundIsLaidOut, OneBody, UnlistedIsAbsent, AbsentIsUnlisted, NumberOfFound, NumberOfAbsent, UnaskableIsLiteral, AskableIsLookedUp, PlainAsBefore, OtherVersionIsRefused, OtherVersionIsNotFound, FindCarriesNothing}
-use Rattle.index_file.proofs.Laws.{file-short, file-magic, file-version, find-long, find-column, find-kind, find-other-column, find-other-kind}
+use Rattle.index_file.proofs.Laws.{file-short, file-magic, file-version, find-long, find-column, find-kind, find-unaskable}
 use Rattle.index_file.proofs.Laid.{partOf, laid-find, asked-file, unlisted-file}
 use Rattle.index_file.proofs.Accepted.{accepted, within, unlisted}
 use Rattle.index_file.proofs.CarriesNothing.{find-bare}
@@ -75,12 +76,12 @@ number-of-absent (ok (found p)) e = absurd (omega arith)
 
 -- ---- versions
 
--- a name may be asked for, or the test says no
-tested : (asked : List ℕ) → (askable asked ≡ false) ⊎ Askable asked
-tested asked = by (askable asked) refl
+-- both names may be asked for, or the test says no
+both-tested : (column kind : List ℕ) → (askable column && askable kind ≡ false) ⊎ (Askable column × Askable kind)
+both-tested column kind = by (askable column && askable kind) refl
   where
-    by : (b : Bool) → askable asked ≡ b → (askable asked ≡ false) ⊎ Askable asked
-    by true e = inr (askable-is-tested asked .1 e)
+    by : (b : Bool) → askable column && askable kind ≡ b → (askable column && askable kind ≡ false) ⊎ (Askable column × Askable kind)
+    by true e = let x = and-both (askable column) (askable kind) e in inr (askable-is-tested column .1 (x .0), askable-is-tested kind .1 (x .1))
     by false e = inl e
 
 pub other-version-is-refused : OtherVersionIsRefused
@@ -113,9 +114,8 @@ other-version-is-not-found bytes column kind other =
                   | no l ↦ inl (find-kind bytes column kind a b (omega arith))
                   | yes c ↦
                       inr
-                      (⊎-elim (λ e. inl (find-other-column bytes column kind a b c e)) (λ x.
-                      ⊎-elim (λ f. inl (find-other-kind bytes column kind a b c (askable-is-tested column .0 x) f)) (λ y.
-                      inr (other-version-looked-at bytes column kind other a x y)) (tested kind)) (tested column))
+                      (⊎-elim (λ e. inl (find-unaskable bytes column kind a b c e)) (λ x. inr (other-version-looked-at bytes column kind other a (x .0) (x .1)))
+                      (both-tested column kind))
                 ]
           ]
     ]
@@ -123,9 +123,7 @@ other-version-is-not-found bytes column kind other =
 -- ---- names
 
 pub unaskable-is-literal : UnaskableIsLiteral
-unaskable-is-literal bytes column kind a b c n =
-    ⊎-elim (λ e. find-other-column bytes column kind a b c e) (λ x.
-    ⊎-elim (λ f. find-other-kind bytes column kind a b c (askable-is-tested column .0 x) f) (λ y. absurd (n (x, y))) (tested kind)) (tested column)
+unaskable-is-literal bytes column kind a b c n = ⊎-elim (λ e. find-unaskable bytes column kind a b c e) (λ x. absurd (n x)) (both-tested column kind)
 
 pub askable-is-looked-up : AskableIsLookedUp
 askable-is-looked-up = asked-file

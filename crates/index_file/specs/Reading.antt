@@ -1,7 +1,7 @@
 -- 01, "Index file head": what Locate finds in one buffer, for any bytes. A cursor `s` is what is left of the head's bytes, so that a field that passes the head
 -- finds too few; for magic, version and head length it is what is left of the file. `k` is what follows of what was read.
 use Prim.Native.Nat.{ℕ, zero, suc, _+_}
-use mathlib.Core.Bool.{Bool, true, false, _||_}
+use mathlib.Core.Bool.{Bool, true, false, _&&_, _||_}
 use mathlib.Core.List.{List}
 use lib.ListN.{length, take, drop}
 use lib.Dec.{leb, ltb, eqb}
@@ -103,7 +103,7 @@ withinLimits bytes column kind o =
 -- is the asked one where `matches` says so
 unfoldable pub find : List ℕ → List ℕ → List ℕ → Out Refusal (Sought Part)
 find bytes column kind =
-    withinLimits bytes column kind (check (askable column) Literal (check (askable kind) Literal (file (matches column) (matches kind) bytes)))
+    withinLimits bytes column kind (check (askable column && askable kind) Literal (file (matches column) (matches kind) bytes))
 
 -- the bytes of a part
 abbrev pub bytesOf : Part → List ℕ → List ℕ

@@ -1,9 +1,9 @@
 // The head of an index file (document 01): where in the file the asked index of the asked column lies. Which of two buffers is looked at is chosen above.
 ghost use mathlib.Core.Path.{_≡_};
-ghost use mathlib.Core.Bool.{false};
+ghost use mathlib.Core.Bool.{false, _&&_};
 ghost use Prim.Native.Nat.{_≤_};
 ghost use lib.ListN.{length, drop};
-ghost use Rattle.names.specs.Reading.{matches};
+ghost use Rattle.names.specs.Reading.{askable, matches};
 ghost use Rattle.index_file.specs.Layout.{frontSize};
 ghost use Rattle.index_file.specs.Reading.{afterEntry, afterColumn, entries, columns, placed, head, file, locatedBy};
 ghost use Rattle.index_file.specs.Promises.{nameAt, countAt, walkAt, FindPromise};
@@ -261,6 +261,16 @@ fn read_file(bytes: &[u8], column: &[u8], kind: &[u8]) -> Located
     read_head(&bytes[..n], column, kind, bytes.len())
 }
 
+// Whether both names may be asked for.
+fn both_askable(column: &[u8], kind: &[u8]) -> bool
+    ensures { λ r. ⌜ r ≡ (askable (now (column .entry)) && askable (now (kind .entry))) ⌝ }
+{
+    if !names::askable(column) {
+        return false;
+    }
+    names::askable(kind)
+}
+
 // Where the body of the asked kind of the asked column lies in an index file. The names are looked at before the file, and compared by `names` alone.
 pub fn find(bytes: &[u8], column: &[u8], kind: &[u8]) -> Located
     ensures { λ r. ⌜ FindPromise (now (bytes .entry)) (now (column .entry)) (now (kind .entry)) r ⌝ }
@@ -274,12 +284,8 @@ pub fn find(bytes: &[u8], column: &[u8], kind: &[u8]) -> Located
     if refusal::LIMIT < kind.len() as u64 {
         return Located::Refused(Refusal::Limit);
     }
-    let column_askable = names::askable(column);
-    let kind_askable = names::askable(kind);
-    if !column_askable {
-        return Located::Refused(Refusal::Literal);
-    }
-    if !kind_askable {
+    let named = both_askable(column, kind);
+    if !named {
         return Located::Refused(Refusal::Literal);
     }
     if bytes.len() < FRONT_SIZE {

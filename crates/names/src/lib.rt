@@ -44,6 +44,11 @@ const TWELVE_BITS: u64 = 4096;
 
 const TEN_BITS: u64 = 1024;
 
+// The bytes of zero, and of a code point above FFFF, in modified form.
+const ZERO_SIZE: usize = 2;
+
+const PAIR_SIZE: usize = 6;
+
 // The most bytes that a name may have in modified form.
 const NAME_LIMIT: usize = 65_535;
 
@@ -149,7 +154,7 @@ fn modified_size(value: u64) -> usize
     ensures { λ r. ⌜ (r ≡ length (modifiedOf value)) × (r ≤ 6) ⌝ }
 {
     if value == 0 {
-        return 2;
+        return ZERO_SIZE;
     }
     if value < PAST_ONE_BYTE {
         return 1;
@@ -160,7 +165,7 @@ fn modified_size(value: u64) -> usize
     if value < PAST_PLANE {
         return 3;
     }
-    6
+    PAIR_SIZE
 }
 
 // Whether the two bytes of a value stand at `at`.
@@ -229,18 +234,19 @@ fn modified_at(s: &[u8], at: Position, value: u64) -> bool
 pub fn askable(asked: &[u8]) -> bool
     ensures { λ r. ⌜ r ≡ reading.askable (now (asked .entry)) ⌝ }
 {
-    let mut at = Position(0);
+    let mut p: usize = 0;
     let mut size: usize = 0;
-    while at.0 < asked.len() {
-        let point = point_at(asked, at);
+    while p < asked.len() {
+        let point = point_at(asked, Position(p));
         let Point::Is { value, next } = point else {
             return false;
         };
+        let end = next.0;
         size = size + modified_size(value);
         if NAME_LIMIT < size {
             return false;
         }
-        at = next;
+        p = end;
     }
     true
 }
@@ -249,10 +255,10 @@ pub fn askable(asked: &[u8]) -> bool
 pub fn matches(asked: &[u8], stored: &[u8]) -> bool
     ensures { λ r. ⌜ r ≡ reading.matches (now (asked .entry)) (now (stored .entry)) ⌝ }
 {
-    let mut at = Position(0);
+    let mut p: usize = 0;
     let mut q: usize = 0;
-    while at.0 < asked.len() {
-        let point = point_at(asked, at);
+    while p < asked.len() {
+        let point = point_at(asked, Position(p));
         let Point::Is { value, next } = point else {
             return false;
         };
@@ -264,7 +270,7 @@ pub fn matches(asked: &[u8], stored: &[u8]) -> bool
             return false;
         }
         q = q + size;
-        at = next;
+        p = next.0;
     }
     q == stored.len()
 }

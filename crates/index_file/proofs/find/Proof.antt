@@ -5,7 +5,7 @@ use borrow.Author.Needs.{needs}
 use borrow.Author.Tests.{not-true, not-false}
 use Rattle.names.specs.Reading.{matches}
 use Rattle.index_file.specs.Reading.{locatedBy}
-use Rattle.index_file.proofs.Laws.{file-short, find-long, find-column, find-kind, find-other-column, find-other-kind, find-file}
+use Rattle.index_file.proofs.Laws.{file-short, find-long, find-column, find-kind, find-unaskable, find-file}
 use Rattle.index_file.proofs.Positions.{refused, promised}
 use Rattle.index_file.proofs.find.Statement.{statement}
 use Rattle.index_file.proofs.find.Tie as tie
@@ -27,48 +27,35 @@ returns-3 c =
 
 returns-4 : tie.Need-returns-4
 returns-4 c =
-    let k = c .before in
-    let n = k .before in
+    let n = c .before in
     let a = n .before .before .before .before .before .before .before .args in
     promised (a .bytes .now) (a .column .now) (a .kind .now)
     (refused
-    (find-other-column (a .bytes .now) (a .column .now) (a .kind .now) (omega arith) (omega arith) (omega arith)
-    (sym (n .askable .ensures) ∙ not-true (n .askable .result) (c .if4 .taken))))
+    (find-unaskable (a .bytes .now) (a .column .now) (a .kind .now) (omega arith) (omega arith) (omega arith)
+    (sym (n .both-askable .ensures) ∙ not-true (n .both-askable .result) (c .if4 .taken))))
 
 returns-5 : tie.Need-returns-5
 returns-5 c =
-    let k = c .before .before in
-    let n = k .before in
-    let a = n .before .before .before .before .before .before .before .args in
-    promised (a .bytes .now) (a .column .now) (a .kind .now)
-    (refused
-    (find-other-kind (a .bytes .now) (a .column .now) (a .kind .now) (omega arith) (omega arith) (omega arith)
-    (sym (n .askable .ensures) ∙ not-false (n .askable .result) (c .before .if4 .left)) (sym (k .askable2 .ensures) ∙ not-true (k .askable2 .result) (c .if5 .taken))))
-
-returns-6 : tie.Need-returns-6
-returns-6 c =
-    let k = c .before .before .before in
-    let n = k .before in
+    let n = c .before .before in
     let a = n .before .before .before .before .before .before .before .args in
     promised (a .bytes .now) (a .column .now) (a .kind .now)
     (refused
     (find-file (a .bytes .now) (a .column .now) (a .kind .now) (omega arith) (omega arith) (omega arith)
-    (sym (n .askable .ensures) ∙ not-false (n .askable .result) (c .before .before .if4 .left)) (sym (k .askable2 .ensures) ∙ not-false (k .askable2 .result) (c .before .if5 .left))
-    ∙ file-short (matches (a .column .now)) (matches (a .kind .now)) (a .bytes .now) (c .if6 .taken)))
+    (sym (n .both-askable .ensures) ∙ not-false (n .both-askable .result) (c .before .if4 .left))
+    ∙ file-short (matches (a .column .now)) (matches (a .kind .now)) (a .bytes .now) (c .if5 .taken)))
 
-returns-7 : tie.Need-returns-7
-returns-7 c =
+returns-6 : tie.Need-returns-6
+returns-6 c =
     let f = c .before in
-    let k = f .before .before .before in
-    let n = k .before in
+    let n = f .before .before in
     let a = n .before .before .before .before .before .before .before .args in
     promised (a .bytes .now) (a .column .now) (a .kind .now)
     (c .read-file .ensures ∙ sym (ap locatedBy
     (find-file (a .bytes .now) (a .column .now) (a .kind .now) (omega arith) (omega arith) (omega arith)
-    (sym (n .askable .ensures) ∙ not-false (n .askable .result) (f .before .before .if4 .left)) (sym (k .askable2 .ensures) ∙ not-false (k .askable2 .result) (f .before .if5 .left)))))
+    (sym (n .both-askable .ensures) ∙ not-false (n .both-askable .result) (f .before .if4 .left)))))
 
 pub find-spec : {M : Type 1} → statement M
 find-spec =
     tie.close
     (tie.spec
-    returns returns-2 returns-3 (λ c κs. search needs) (λ c κs. search needs) returns-4 returns-5 returns-6 (λ c κs. search needs) returns-7)
+    returns returns-2 returns-3 (λ c κs. search needs) returns-4 returns-5 (λ c κs. search needs) returns-6)

@@ -3,6 +3,7 @@ use Prim.Native.Nat.{_≤_, _-_}
 use native.Mathlib.Omega.{arith}
 use borrow.Author.Needs.{needs}
 use lib.ListN.{length}
+use Rattle.numbers.specs.Meaning.{position}
 use Rattle.names.specs.declared.Point.{Point}
 use Rattle.names.specs.Layout.{nameLimit}
 use Rattle.names.specs.Reading.{standardPoint}
@@ -12,10 +13,10 @@ use Rattle.names.proofs.askable.Statement.{statement}
 use Rattle.names.proofs.askable.Tie as tie
 
 abbrev Inv-loop : tie.InvT-loop
-Inv-loop asked at₀ size₀ at size = (at .0 ≤ length asked) × (size ≤ nameLimit) × Sized asked (at .0) size
+Inv-loop asked p₀ size₀ p size = (p ≤ length asked) × (size ≤ nameLimit) × Sized asked p size
 
 abbrev μ-loop : tie.MeasureT-loop
-μ-loop asked at₀ size₀ at size = length asked - at .0
+μ-loop asked p₀ size₀ p size = length asked - p
 
 loop-holds : tie.Need-loop-holds Inv-loop μ-loop
 loop-holds c = (omega arith, omega arith, sized-first (c .before .args .asked .now))
@@ -24,11 +25,11 @@ returns : tie.Need-returns Inv-loop μ-loop
 returns c =
     let t = c .before .before in
     let f = t .before in
-    sized-broken (f .before .before .loop .inv .2) (f .if1 .taken) (t .point-at .ensures) (c .enum-told .given .1)
+    sized-broken (f .before .loop .inv .2) (f .loop-test .taken) (t .point-at .ensures) (c .enum-told .given .1)
 
 -- the code point that was read takes a byte and ends within the name
 ends : (c : tie.After-known-told Inv-loop μ-loop) → pointAt (Point.Is (c .before .point .given .0 .0) (c .before .point .given .0 .1 .0)) standardPoint 1
-    (c .before .before .before .before .before .before .loop .at) (c .before .before .before .before .before .before .before .before .args .asked .now)
+    (position (c .before .before .before .before .before .loop .p)) (c .before .before .before .before .before .before .before .args .asked .now)
 ends c = rw (c .before .point .given .1) at (c .before .before .before .point-at .ensures)
 
 returns-2 : tie.Need-returns-2 Inv-loop μ-loop
@@ -37,7 +38,7 @@ returns-2 c =
     let p = z .before .before in
     let t = p .before .before in
     let f = t .before in
-    sized-over (f .before .before .loop .inv .2) (f .if1 .taken) (t .point-at .ensures) (p .point .given .1) (z .modified-size .ensures .0) (c .if2 .taken)
+    sized-over (f .before .loop .inv .2) (f .loop-test .taken) (t .point-at .ensures) (p .point .given .1) (z .modified-size .ensures .0) (c .if1 .taken)
 
 loop-less : tie.Need-loop-less Inv-loop μ-loop
 loop-less c = let n = ends (c .before .before) in omega (arith, n .0, n .1)
@@ -50,11 +51,11 @@ loop-again c =
     let f = t .before in (
       ends (z .before) .1,
       omega arith,
-      sized-next (f .before .before .loop .inv .2) (f .if1 .taken) (t .point-at .ensures) (p .point .given .1) (z .modified-size .ensures .0),
+      sized-next (f .before .loop .inv .2) (f .loop-test .taken) (t .point-at .ensures) (p .point .given .1) (z .modified-size .ensures .0),
     )
 
 returns-3 : tie.Need-returns-3 Inv-loop μ-loop
-returns-3 c = let l = c .before .before .loop in sized-done (l .inv .2) (c .if1 .left) (l .inv .1)
+returns-3 c = let l = c .before .loop in sized-done (l .inv .2) (c .loop-test .left) (l .inv .1)
 
 pub askable-spec : {M : Type 1} → statement M
 askable-spec =

@@ -1,9 +1,10 @@
 -- One surrogate after the other.
-use mathlib.Core.Path.{sym, _∙_}
+use mathlib.Core.Path.{_≡_, sym, _∙_}
 use native.Mathlib.Omega.{arith}
 use borrow.Author.Needs.{needs}
 use borrow.Author.Tests.{not-true, not-false}
 use Rattle.names.specs.Layout.{inThree, highOf, lowOf}
+use Rattle.names.specs.Promises.{standsAt}
 use Rattle.names.proofs.Steps.{stands-both}
 use Rattle.names.proofs.pair_at.Statement.{statement}
 use Rattle.names.proofs.pair_at.Tie as tie
@@ -12,16 +13,18 @@ returns : tie.Need-returns
 returns c =
     let t = c .before in
     let a = t .before .before .args in
-    sym (stands-both (inThree (highOf (a .value))) (inThree (lowOf (a .value))) (a .at) (a .s .now) ∙ simp (← t .three-at .ensures, not-true (t .three-at .result) (c .if1 .taken)))
+    let h : t .three-at .result ≡ standsAt (inThree (highOf (a .value))) (a .at) (a .s .now) = t .three-at .ensures in
+    sym (stands-both (inThree (highOf (a .value))) (inThree (lowOf (a .value))) (a .at) (a .s .now) ∙ simp (← h, not-true (t .three-at .result) (c .if1 .taken)))
 
 returns-2 : tie.Need-returns-2
 returns-2 c =
     let t = c .before .before in
     let a = t .before .before .args in
+    let h : t .three-at .result ≡ standsAt (inThree (highOf (a .value))) (a .at) (a .s .now) = t .three-at .ensures in
     c .three-at2 .ensures
     ∙ sym
     (stands-both (inThree (highOf (a .value))) (inThree (lowOf (a .value))) (a .at) (a .s .now)
-    ∙ simp (← t .three-at .ensures, not-false (t .three-at .result) (c .before .if1 .left)))
+    ∙ simp (← h, not-false (t .three-at .result) (c .before .if1 .left)))
 
 pub pair-at-spec : {M : Type 1} → statement M
 pair-at-spec =
