@@ -20,7 +20,7 @@ use Rattle.stored_value.specs.Reading.{valueSize, valueOf, literals}
 use Rattle.dictionary.specs.Layout.{Entry}
 use Rattle.dictionary.specs.Reading.{countAtMost, entriesOne, listings, past, isDue, entriesTwo, behind, blocksOf, blocked, nullOf, dictionary}
 use Rattle.names.specs.Layout.{Scalar, standardOf, modifiedOf, Named}
-use Rattle.names.specs.Reading.{standardPoint, pointsIn, standardPoints, holds, askable, matches}
+use Rattle.names.specs.Reading.{standardPoint, pointsIn, standardPoints, told, askedSize, askable, matches}
 use Rattle.index_file.specs.Layout.{ListedIndex, ListedColumn}
 use Rattle.index_file.specs.Reading.{soughtNumbers}
 use Rattle.index_file.specs.Reading as head
@@ -136,7 +136,7 @@ unfolding placeAt
 named-last = (refl, λ entry extent n region field. refl, λ c extent region h. single 2147483647 refl (omega arith) refl h)
 
 pub starred : StarredHolds
-unfolding number askable matches holds standardPoints pointsIn standardPoint standardOf modifiedOf head.find head.withinLimits head.file head.count head.name head.entries head.afterEntry head.columns head.afterColumn head.placed head.head soughtNumbers numbersOf used askFile askPart read readPlain readFlagged contents containers offsetIs body bodySize bodyValues sound valuesOf runsOf valuesRise runsRise bit mark markAll anySet zeroed upTo rowsFrom entryNumber nextNumber placeAt placeEntry placeEntries rowsFor rowsAt markEntries check andThen valueSize valueOf literals width isString booleanOk same sameCell signedNumber less listed countAtMost entriesOne listings past isDue entriesTwo behind blocksOf blocked nullOf dictionary knownEdition chosen takes scanFrom scan scanRecord roomFor prepared audited audit chosenOf markedFor matchedFor answered auditedAnswer wellFormed ask answeredBy keeps
+unfolding number askedSize askable matches told standardPoints pointsIn standardPoint standardOf modifiedOf head.find head.withinLimits head.file head.count head.name head.entries head.afterEntry head.columns head.afterColumn head.placed head.head soughtNumbers numbersOf used askFile askPart read readPlain readFlagged contents containers offsetIs body bodySize bodyValues sound valuesOf runsOf valuesRise runsRise bit mark markAll anySet zeroed upTo rowsFrom entryNumber nextNumber placeAt placeEntry placeEntries rowsFor rowsAt markEntries check andThen valueSize valueOf literals width isString booleanOk same sameCell signedNumber less listed countAtMost entriesOne listings past isDue entriesTwo behind blocksOf blocked nullOf dictionary knownEdition chosen takes scanFrom scan scanRecord roomFor prepared audited audit chosenOf markedFor matchedFor answered auditedAnswer wellFormed ask answeredBy keeps
 starred = (
   (refl, refl, its-file, refl),
   (

@@ -1,18 +1,21 @@
 -- Laws of the reading of a file: the limits, and the fields in front of the columns, in their order.
 use Prim.Native.Nat.{ℕ, _<_, _≤_}
-use mathlib.Core.Path.{_≡_, _∙_}
+use mathlib.Core.Path.{_≡_, sym, _∙_}
 use mathlib.Core.Bool.{Bool, true, false, _&&_}
 use mathlib.Core.List.{List}
 use native.Mathlib.Omega.{arith}
 use lib.Dec.{leb, eqb}
 use lib.ListN.{length, take, drop}
-use borrow.Author.Tests.{le-leb, lt-leb, eq-eqb, ne-eqb}
+use borrow.Author.Tests.{le-leb, lt-leb, eq-eqb, ne-eqb, leb-true}
+use Rattle.numbers.proofs.Booleans.{and-both}
 use Rattle.numbers.specs.Meaning.{beAt, number, big}
 use Rattle.numbers.proofs.Laws.{number-at}
 use Rattle.refusal.specs.Meaning.{limit}
 use Rattle.refusal.specs.declared.Refusal.{Refusal}
 use Rattle.refusal.specs.Reading.{refuse, check}
-use Rattle.names.specs.Reading.{askable, matches}
+use Rattle.names.specs.Layout.{nameLimit}
+use Rattle.names.specs.Reading.{askedSize, askable, matches}
+use Rattle.names.specs.Promises.{HasSize}
 use Rattle.index_file.specs.Layout.{magic, fileVersion, frontSize, leastHead}
 use Rattle.index_file.specs.Reading.{count, head, file, withinLimits, find}
 
@@ -70,3 +73,15 @@ module _ (bytes column kind : List ℕ) where
     pub find-file : askable column && askable kind ≡ true → find bytes column kind ≡ file (matches column) (matches kind) bytes
     unfolding find withinLimits check
     find-file e = simp (le-leb, e)
+
+-- ---- the names by their sizes
+
+module _ (column kind : List ℕ) {a b : ℕ} (e : a ≡ askedSize column) (f : b ≡ askedSize kind) {r : Bool} (g : r ≡ leb a nameLimit && leb b nameLimit) where
+  pub by-sizes : askable column && askable kind ≡ r
+  unfolding askable
+  by-sizes = sym (g ∙ rw (e, f))
+
+  pub have-sizes : r ≡ true → HasSize a column × HasSize b kind
+  have-sizes h =
+      let x = and-both (leb a nameLimit) (leb b nameLimit) (sym g ∙ h) in
+      ((e, leb-true a nameLimit (x .0)), (f, leb-true b nameLimit (x .1)))

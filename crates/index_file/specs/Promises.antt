@@ -7,7 +7,9 @@ use Rattle.numbers.specs.Meaning.{signBit}
 use Rattle.numbers.specs.declared.Position.{Position}
 use Rattle.refusal.specs.declared.Refusal.{Refusal}
 use Rattle.refusal.specs.Reading.{Out, refuse}
+use Rattle.names.specs.Promises.{HasSize}
 use Rattle.index_file.specs.declared.Located.{Located}
+use Rattle.index_file.specs.declared.Sizes.{Sizes}
 use Rattle.index_file.specs.declared.Place.{Place}
 use Rattle.index_file.specs.declared.Name.{Name}
 use Rattle.index_file.specs.declared.Count.{Count}
@@ -35,6 +37,10 @@ countAt (Count.Is v) at s =
 abbrev pub walkAt : Walk → List ℕ → (Rest Place → Out Refusal (Sought Part)) → Type 0
 walkAt Walk.Broken s reading = (k : Rest Place) → reading k ≡ refuse Refusal.Head
 walkAt (Walk.Past next place) s reading = (next .0 ≤ length s) × ((k : Rest Place) → reading k ≡ k place (drop (next .0) s))
+
+-- these are the bytes of the asked names in modified form, and both may be asked for
+abbrev pub HaveSizes : Sizes → List ℕ → List ℕ → Type 0
+HaveSizes sizes column kind = HasSize (sizes .column) column × HasSize (sizes .kind) kind
 
 -- `find`: its answer, and that answer's numbers
 pub record FindPromise (bytes column kind : List ℕ) (r : Located) : Type 0 where

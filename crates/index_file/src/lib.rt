@@ -3,10 +3,13 @@ ghost use mathlib.Core.Path.{_≡_};
 ghost use mathlib.Core.Bool.{false, _&&_};
 ghost use Prim.Native.Nat.{_≤_};
 ghost use lib.ListN.{length, drop};
-ghost use Rattle.names.specs.Reading.{askable, matches};
+ghost use lib.Dec.{leb};
+ghost use Rattle.names.specs.Layout.{nameLimit};
+ghost use Rattle.names.specs.Reading.{matches};
+ghost use Rattle.names.specs.Promises.{HasSize};
 ghost use Rattle.index_file.specs.Layout.{frontSize};
 ghost use Rattle.index_file.specs.Reading.{afterEntry, afterColumn, entries, columns, placed, head, file, locatedBy};
-ghost use Rattle.index_file.specs.Promises.{nameAt, countAt, walkAt, FindPromise};
+ghost use Rattle.index_file.specs.Promises.{nameAt, countAt, walkAt, HaveSizes, FindPromise};
 use numbers::Position;
 use refusal::Refusal;
 
@@ -29,6 +32,12 @@ pub enum Located {
     Found { start: Position, length: usize },
     Absent,
     Refused(Refusal),
+}
+
+// The bytes of the asked names in modified form.
+struct Sizes {
+    column: usize,
+    kind: usize,
 }
 
 // Where the asked kind stands, as far as the head was read: in no entry, in one; or it, or the asked column, is there twice.
@@ -119,9 +128,9 @@ fn count_at(s: &[u8], at: Position) -> Count
     Count::Is(v)
 }
 
-// The n entries of one column, from `at` on.
-fn entries_at(s: &[u8], at: Position, n: u64, kind: &[u8]) -> Walk
-    requires { ⌜ at .0 ≤ length (now s) ⌝ }
+// The n entries of one column, from `at` on; the asked kind has so many bytes in modified form.
+fn entries_at(s: &[u8], at: Position, n: u64, kind: &[u8], size: usize) -> Walk
+    requires { ⌜ (at .0 ≤ length (now s)) × HasSize size (now kind) ⌝ }
     ensures { λ r. ⌜ walkAt r (now (s .entry)) (entries (matches (now (kind .entry))) n Place.Nowhere (drop (at .0) (now (s .entry)))) ⌝ }
 {
     let mut place = Place::Nowhere;
@@ -139,7 +148,7 @@ fn entries_at(s: &[u8], at: Position, n: u64, kind: &[u8]) -> Walk
         let start = numbers::be32(s, Position(e)) as usize;
         let length = numbers::be32(s, Position(e + 4)) as usize;
         let from = next.0 + 2;
-        let hit = names::matches(kind, &s[from..e]);
+        let hit = names::named(kind, size, &s[from..e]);
         place = after_entry(hit, Position(start), length, place);
         next = Position(e + 8);
         i = i + 1;
@@ -148,10 +157,12 @@ fn entries_at(s: &[u8], at: Position, n: u64, kind: &[u8]) -> Walk
 }
 
 // The n columns from `at` on.
-fn columns_at(s: &[u8], at: Position, n: u64, column: &[u8], kind: &[u8]) -> Walk
-    requires { ⌜ at .0 ≤ length (now s) ⌝ }
+fn columns_at(s: &[u8], at: Position, n: u64, column: &[u8], kind: &[u8], sizes: Sizes) -> Walk
+    requires { ⌜ (at .0 ≤ length (now s)) × HaveSizes sizes (now column) (now kind) ⌝ }
     ensures { λ r. ⌜ walkAt r (now (s .entry)) (columns (matches (now (column .entry))) (matches (now (kind .entry))) n false Place.Nowhere (drop (at .0) (now (s .entry)))) ⌝ }
 {
+    let column_size = sizes.column;
+    let kind_size = sizes.kind;
     let mut place = Place::Nowhere;
     let mut seen = false;
     let mut next = at;
@@ -167,8 +178,8 @@ fn columns_at(s: &[u8], at: Position, n: u64, column: &[u8], kind: &[u8]) -> Wal
         };
         let e = end.0;
         let from = next.0 + 2;
-        let hit = names::matches(column, &s[from..e]);
-        let walk = entries_at(s, Position(e + 4), m, kind);
+        let hit = names::named(column, column_size, &s[from..e]);
+        let walk = entries_at(s, Position(e + 4), m, kind, kind_size);
         let Walk::Past {
             next: past,
             place: new,
@@ -211,15 +222,15 @@ fn placed_at(place: Place, head: usize, total: usize) -> Located
 }
 
 // The whole head, of which the column number is the next field.
-fn read_head(s: &[u8], column: &[u8], kind: &[u8], total: usize) -> Located
-    requires { ⌜ frontSize ≤ length (now s) ⌝ }
+fn read_head(s: &[u8], column: &[u8], kind: &[u8], sizes: Sizes, total: usize) -> Located
+    requires { ⌜ (frontSize ≤ length (now s)) × HaveSizes sizes (now column) (now kind) ⌝ }
     ensures { λ r. ⌜ r ≡ locatedBy (head (matches (now (column .entry))) (matches (now (kind .entry))) (length (now (s .entry))) total (drop frontSize (now (s .entry)))) ⌝ }
 {
     let number = count_at(s, Position(FRONT_SIZE));
     let Count::Is(n) = number else {
         return Located::Refused(Refusal::Head);
     };
-    let walk = columns_at(s, Position(FRONT_SIZE + 4), n, column, kind);
+    let walk = columns_at(s, Position(FRONT_SIZE + 4), n, column, kind, sizes);
     let Walk::Past { next, place } = walk else {
         return Located::Refused(Refusal::Head);
     };
@@ -235,8 +246,8 @@ fn read_head(s: &[u8], column: &[u8], kind: &[u8], total: usize) -> Located
 }
 
 // The file, which has the bytes in front of the columns, from its magic on.
-fn read_file(bytes: &[u8], column: &[u8], kind: &[u8]) -> Located
-    requires { ⌜ frontSize ≤ length (now bytes) ⌝ }
+fn read_file(bytes: &[u8], column: &[u8], kind: &[u8], sizes: Sizes) -> Located
+    requires { ⌜ (frontSize ≤ length (now bytes)) × HaveSizes sizes (now column) (now kind) ⌝ }
     ensures { λ r. ⌜ r ≡ locatedBy (file (matches (now (column .entry))) (matches (now (kind .entry))) (now (bytes .entry))) ⌝ }
 {
     let magic = numbers::be64(bytes, Position(0));
@@ -258,17 +269,17 @@ fn read_file(bytes: &[u8], column: &[u8], kind: &[u8]) -> Located
     if bytes.len() < n {
         return Located::Refused(Refusal::Head);
     }
-    read_head(&bytes[..n], column, kind, bytes.len())
+    read_head(&bytes[..n], column, kind, sizes, bytes.len())
 }
 
 // Whether both names may be asked for.
-fn both_askable(column: &[u8], kind: &[u8]) -> bool
-    ensures { λ r. ⌜ r ≡ (askable (now (column .entry)) && askable (now (kind .entry))) ⌝ }
+fn both_askable(sizes: Sizes) -> bool
+    ensures { λ r. ⌜ r ≡ (leb (sizes .column) nameLimit && leb (sizes .kind) nameLimit) ⌝ }
 {
-    if !names::askable(column) {
+    if names::NAME_LIMIT < sizes.column {
         return false;
     }
-    names::askable(kind)
+    sizes.kind <= names::NAME_LIMIT
 }
 
 // Where the body of the asked kind of the asked column lies in an index file. The names are looked at before the file, and compared by `names` alone.
@@ -284,12 +295,16 @@ pub fn find(bytes: &[u8], column: &[u8], kind: &[u8]) -> Located
     if refusal::LIMIT < kind.len() as u64 {
         return Located::Refused(Refusal::Limit);
     }
-    let named = both_askable(column, kind);
+    let sizes = Sizes {
+        column: names::asked_size(column),
+        kind: names::asked_size(kind),
+    };
+    let named = both_askable(sizes);
     if !named {
         return Located::Refused(Refusal::Literal);
     }
     if bytes.len() < FRONT_SIZE {
         return Located::Refused(Refusal::Short);
     }
-    read_file(bytes, column, kind)
+    read_file(bytes, column, kind, sizes)
 }

@@ -1,5 +1,5 @@
 -- The reading's steps at a position of the bytes: what a step of the code finds.
-use Prim.Native.Nat.{ℕ, zero, suc, _+_, _-_, _*_, _/_, _%_, _^_, _<_, _≤_}
+use Prim.Native.Nat.{ℕ, zero, suc, _+_, _-_, _*_, _/_, _%_, _^_, _<_, _≤_, min}
 use mathlib.Core.Path.{_≡_, refl, sym, ap, _∙_}
 use mathlib.Core.Bool.{Bool, true, false, _&&_, cond, and-true, and-assoc}
 use mathlib.Core.List.{List, [], _∷_, _++_}
@@ -16,7 +16,7 @@ use Rattle.numbers.proofs.SameBytes.{same-refl, same-sym, same-other}
 use Rattle.refusal.specs.Reading.{refuse, ok, check, andThen}
 use Rattle.names.specs.declared.Point.{Point}
 use Rattle.names.specs.Layout.{firstHigh, pastSurrogates, pastPlane, pastLast, pastOneByte, pastTwoBytes, nameLimit, inTwo, inThree, standardOf, highOf, lowOf, modifiedOf, modified}
-use Rattle.names.specs.Reading.{Spelled, continued, isScalar, longer, standardPoint, pointsIn, standardPoints, holds, askable, matches}
+use Rattle.names.specs.Reading.{Spelled, continued, isScalar, longer, standardPoint, pointsIn, standardPoints, told, askedSize, matches}
 use Rattle.names.specs.Promises.{pointAt, standsAt}
 use Rattle.names.proofs.StandardForm.{one-form, two-form, three-form}
 use Rattle.names.proofs.Lists.{with-rest, points-end, points-turn}
@@ -240,111 +240,109 @@ module _ (s : List ℕ) (at : Position) (h : at .0 < length s) {a : ℕ} (e : a 
 
 -- ---- the code points of a name
 
--- what is left from p on: whether the test holds of the whole is whether `left` holds of the code points that are left
-pub record Points (asked : List ℕ) (test : List ℕ → Bool) (p : ℕ) (left : List ℕ → Bool) : Type 0 where
+-- what is left from p on: what is told of the whole is what `left` says of the code points that are left
+pub record Points {B : Type 0} (asked : List ℕ) (none : B) (f : List ℕ → B) (p : ℕ) (left : List ℕ → B) : Type 0 where
   pub turns : ℕ
   pub enough : length asked ≤ p + turns
-  pub so : holds test (standardPoints asked) ≡ holds left (pointsIn standardPoint turns (drop p asked))
+  pub so : told none f (standardPoints asked) ≡ told none left (pointsIn standardPoint turns (drop p asked))
 
-pub points-first : (asked : List ℕ) (test : List ℕ → Bool) → Points asked test 0 test
+pub points-first : {B : Type 0} (asked : List ℕ) (none : B) (f : List ℕ → B) → Points asked none f 0 f
 unfolding standardPoints
-points-first asked test = record { turns = length asked; enough = omega arith; so = refl }
+points-first asked none f = record { turns = length asked; enough = omega arith; so = refl }
 
 -- a code point in front
-in-front : (test : List ℕ → Bool) (c : ℕ) (o : Spelled (List ℕ)) → holds test (andThen o (λ cs. ok (c ∷ cs))) ≡ holds (λ cs. test (c ∷ cs)) o
-unfolding holds andThen
-in-front test c (refuse r) = refl
-in-front test c (ok cs) = refl
+in-front : {B : Type 0} (none : B) (f : List ℕ → B) (c : ℕ) (o : Spelled (List ℕ)) → told none f (andThen o (λ cs. ok (c ∷ cs))) ≡ told none (λ cs. f (c ∷ cs)) o
+unfolding told andThen
+in-front none f c (refuse r) = refl
+in-front none f c (ok cs) = refl
 
-holds-never : (test : List ℕ → Bool) → ((cs : List ℕ) → test cs ≡ false) → (o : Spelled (List ℕ)) → holds test o ≡ false
-unfolding holds
-holds-never test h (refuse r) = refl
-holds-never test h (ok cs) = h cs
+told-none : {B : Type 0} (none : B) (f : List ℕ → B) → ((cs : List ℕ) → f cs ≡ none) → (o : Spelled (List ℕ)) → told none f o ≡ none
+unfolding told
+told-none none f h (refuse r) = refl
+told-none none f h (ok cs) = h cs
 
-holds-same : (test other : List ℕ → Bool) → ((cs : List ℕ) → test cs ≡ other cs) → (o : Spelled (List ℕ)) → holds test o ≡ holds other o
-unfolding holds
-holds-same test other h (refuse r) = refl
-holds-same test other h (ok cs) = h cs
+told-same : {B : Type 0} (none : B) (f g : List ℕ → B) → ((cs : List ℕ) → f cs ≡ g cs) → (o : Spelled (List ℕ)) → told none f o ≡ told none g o
+unfolding told
+told-same none f g h (refuse r) = refl
+told-same none f g h (ok cs) = h cs
 
-module _ {asked : List ℕ} {test : List ℕ → Bool} {p : ℕ} {left : List ℕ → Bool} (st : Points asked test p left) where
-  pub points-done : length asked ≤ p → holds test (standardPoints asked) ≡ left []
-  unfolding holds
+module _ {B : Type 0} {asked : List ℕ} {none : B} {f : List ℕ → B} {p : ℕ} {left : List ℕ → B} (st : Points asked none f p left) where
+  pub points-done : length asked ≤ p → told none f (standardPoints asked) ≡ left []
+  unfolding told
   points-done h =
       let e : length (drop p asked) ≡ 0 = length-drop p asked ∙ omega arith in
-      st .so ∙ ap (holds left) (points-end standardPoint (st .turns) (drop p asked) e)
+      st .so ∙ ap (told none left) (points-end standardPoint (st .turns) (drop p asked) e)
 
-  pub points-never : ((cs : List ℕ) → left cs ≡ false) → holds test (standardPoints asked) ≡ false
-  points-never h = st .so ∙ holds-never left h (pointsIn standardPoint (st .turns) (drop p asked))
+  pub points-none : ((cs : List ℕ) → left cs ≡ none) → told none f (standardPoints asked) ≡ none
+  points-none h = st .so ∙ told-none none left h (pointsIn standardPoint (st .turns) (drop p asked))
 
   module _ (h : p < length asked) where
-    one-turn : holds test (standardPoints asked) ≡ holds left (standardPoint (drop p asked) (with-rest standardPoint (st .turns - 1)))
+    one-turn : told none f (standardPoints asked) ≡ told none left (standardPoint (drop p asked) (with-rest standardPoint (st .turns - 1)))
     one-turn =
         let n = st .turns in
         let e : n ≡ suc (n - 1) = omega (arith, st .enough) in
         let l : 0 < length (drop p asked) = rw (length-drop p asked) (omega arith) in
-        st .so ∙ ap (λ (m : ℕ). holds left (pointsIn standardPoint m (drop p asked))) e ∙ ap (holds left) (points-turn standardPoint (n - 1) (drop p asked) l)
+        st .so ∙ ap (λ (m : ℕ). told none left (pointsIn standardPoint m (drop p asked))) e ∙ ap (told none left) (points-turn standardPoint (n - 1) (drop p asked) l)
 
-    pub points-broken : {f : Point} → pointAt f standardPoint 1 (position p) asked → f ≡ Point.Broken → holds test (standardPoints asked) ≡ false
-    unfolding holds
-    points-broken g e = one-turn ∙ ap (holds left) ((rw e at g) _)
+    pub points-broken : {x : Point} → pointAt x standardPoint 1 (position p) asked → x ≡ Point.Broken → told none f (standardPoints asked) ≡ none
+    unfolding told
+    points-broken g e = one-turn ∙ ap (told none left) ((rw e at g) _)
 
-    pub points-next : {f : Point} → pointAt f standardPoint 1 (position p) asked → {v : ℕ} {next : Position} → f ≡ Point.Is v next
-        → (after : List ℕ → Bool) → ((cs : List ℕ) → left (v ∷ cs) ≡ after cs) → Points asked test (next .0) after
+    pub points-next : {x : Point} → pointAt x standardPoint 1 (position p) asked → {v : ℕ} {next : Position} → x ≡ Point.Is v next
+        → (after : List ℕ → B) → ((cs : List ℕ) → left (v ∷ cs) ≡ after cs) → Points asked none f (next .0) after
     points-next g {v} {next} e after q =
         let x = rw e at g in
         let n = st .turns in
         record {
           turns = n - 1;
           enough = omega (arith, st .enough, x .0);
-          so = one-turn ∙ ap (holds left) (x .2 _) ∙ in-front left v (pointsIn standardPoint (n - 1) (drop (next .0) asked))
-              ∙ holds-same (λ cs. left (v ∷ cs)) after q (pointsIn standardPoint (n - 1) (drop (next .0) asked));
+          so = one-turn ∙ ap (told none left) (x .2 _) ∙ in-front none left v (pointsIn standardPoint (n - 1) (drop (next .0) asked))
+              ∙ told-same none (λ cs. left (v ∷ cs)) after q (pointsIn standardPoint (n - 1) (drop (next .0) asked));
         }
 
--- no code points behind this one let the test hold
-pub points-dead : {asked : List ℕ} {test : List ℕ → Bool} {p : ℕ} {left : List ℕ → Bool} → Points asked test p left → p < length asked
-    → {f : Point} → pointAt f standardPoint 1 (position p) asked → {v : ℕ} {next : Position} → f ≡ Point.Is v next
-    → ((cs : List ℕ) → left (v ∷ cs) ≡ false) → holds test (standardPoints asked) ≡ false
-points-dead {left = left} st h g {v} e x = points-never (points-next st h g e (λ cs. left (v ∷ cs)) (λ cs. refl)) x
+-- no code points behind this one are told of otherwise
+pub points-dead : {B : Type 0} {asked : List ℕ} {none : B} {f : List ℕ → B} {p : ℕ} {left : List ℕ → B} → Points asked none f p left → p < length asked
+    → {x : Point} → pointAt x standardPoint 1 (position p) asked → {v : ℕ} {next : Position} → x ≡ Point.Is v next
+    → ((cs : List ℕ) → left (v ∷ cs) ≡ none) → told none f (standardPoints asked) ≡ none
+points-dead {left = left} st h g {v} e x = points-none (points-next st h g e (λ cs. left (v ∷ cs)) (λ cs. refl)) x
 
--- ---- whether a name may be asked for
+-- ---- the size of an asked name
 
--- the code points that are left fit behind so many bytes
-abbrev pub fitsBehind : ℕ → List ℕ → Bool
-fitsBehind size cs = leb (size + length (modified cs)) nameLimit
+-- the size of the code points that are left, behind so many bytes
+abbrev pub sizeBehind : ℕ → List ℕ → ℕ
+sizeBehind size cs = min (size + length (modified cs)) (nameLimit + 1)
 
 -- what is left from p on, of a name of which so many modified bytes stand before
 pub record Sized (asked : List ℕ) (p size : ℕ) : Type 0 where
-  pub points : Points asked (fitsBehind 0) p (fitsBehind size)
+  pub points : Points asked (nameLimit + 1) (sizeBehind 0) p (sizeBehind size)
 
 pub sized-first : (asked : List ℕ) → Sized asked 0 0
-sized-first asked = record { points = points-first asked (fitsBehind 0) }
+sized-first asked = record { points = points-first asked (nameLimit + 1) (sizeBehind 0) }
 
-pub askable-is : (asked : List ℕ) → askable asked ≡ holds (fitsBehind 0) (standardPoints asked)
-unfolding askable
-askable-is asked = holds-same _ (fitsBehind 0) (λ cs. let e : length (modified cs) ≡ 0 + length (modified cs) = omega arith in ap (λ (n : ℕ). leb n nameLimit) e) (standardPoints asked)
+size-is : (asked : List ℕ) → askedSize asked ≡ told (nameLimit + 1) (sizeBehind 0) (standardPoints asked)
+unfolding askedSize
+size-is asked = told-same (nameLimit + 1) _ (sizeBehind 0) (λ cs. omega arith) (standardPoints asked)
 
-more-size : (size v : ℕ) {m : ℕ} → m ≡ length (modifiedOf v) → (cs : List ℕ) → fitsBehind size (v ∷ cs) ≡ fitsBehind (size + m) cs
-more-size size v {m} e cs =
-    let x : size + length (modifiedOf v ++ modified cs) ≡ size + m + length (modified cs) = rw (length-append (modifiedOf v) (modified cs)) (omega arith) in
-    ap (λ (n : ℕ). leb n nameLimit) x
+more-size : (size v : ℕ) {m : ℕ} → m ≡ length (modifiedOf v) → (cs : List ℕ) → sizeBehind size (v ∷ cs) ≡ sizeBehind (size + m) cs
+more-size size v {m} e cs = omega (arith, length-append (modifiedOf v) (modified cs))
 
 module _ {asked : List ℕ} {p size : ℕ} (st : Sized asked p size) where
-  pub sized-done : length asked ≤ p → size ≤ nameLimit → true ≡ askable asked
-  sized-done h l = let g : size + 0 ≤ nameLimit = omega arith in sym (askable-is asked ∙ points-done (st .points) h ∙ le-leb (size + 0) nameLimit g)
+  pub sized-done : length asked ≤ p → size ≤ nameLimit → size ≡ askedSize asked
+  sized-done h l = let e : sizeBehind size [] ≡ size = omega arith in sym (size-is asked ∙ points-done (st .points) h ∙ e)
 
-  module _ (h : p < length asked) {f : Point} (g : pointAt f standardPoint 1 (position p) asked) where
-    pub sized-broken : f ≡ Point.Broken → false ≡ askable asked
-    sized-broken e = sym (askable-is asked ∙ points-broken (st .points) h g e)
+  module _ (h : p < length asked) {x : Point} (g : pointAt x standardPoint 1 (position p) asked) where
+    pub sized-broken : x ≡ Point.Broken → nameLimit + 1 ≡ askedSize asked
+    sized-broken e = sym (size-is asked ∙ points-broken (st .points) h g e)
 
-    module _ {v : ℕ} {next : Position} (e : f ≡ Point.Is v next) {m : ℕ} (q : m ≡ length (modifiedOf v)) where
-      pub sized-over : nameLimit < size + m → false ≡ askable asked
-      sized-over l = sym (askable-is asked ∙ points-dead (st .points) h g e (λ cs. more-size size v q cs ∙ over cs))
+    module _ {v : ℕ} {next : Position} (e : x ≡ Point.Is v next) {m : ℕ} (q : m ≡ length (modifiedOf v)) where
+      pub sized-over : nameLimit < size + m → nameLimit + 1 ≡ askedSize asked
+      sized-over l = sym (size-is asked ∙ points-dead (st .points) h g e (λ cs. more-size size v q cs ∙ over cs))
         where
-          over : (cs : List ℕ) → fitsBehind (size + m) cs ≡ false
-          over cs = let o : nameLimit < size + m + length (modified cs) = omega arith in lt-leb (size + m + length (modified cs)) nameLimit o
+          over : (cs : List ℕ) → sizeBehind (size + m) cs ≡ nameLimit + 1
+          over cs = omega arith
 
       pub sized-next : Sized asked (next .0) (size + m)
-      sized-next = record { points = points-next (st .points) h g e (fitsBehind (size + m)) (λ cs. more-size size v q cs) }
+      sized-next = record { points = points-next (st .points) h g e (sizeBehind (size + m)) (λ cs. more-size size v q cs) }
 
 -- ---- whether a stored name is the asked one
 
@@ -353,12 +351,12 @@ abbrev pub storedFrom : List ℕ → ℕ → List ℕ → Bool
 storedFrom stored q cs = same (modified cs) (drop q stored)
 
 pub record Matched (asked stored : List ℕ) (p q : ℕ) : Type 0 where
-  pub points : Points asked (storedFrom stored 0) p (storedFrom stored q)
+  pub points : Points asked false (storedFrom stored 0) p (storedFrom stored q)
 
 pub matched-first : (asked stored : List ℕ) → Matched asked stored 0 0
-matched-first asked stored = record { points = points-first asked (storedFrom stored 0) }
+matched-first asked stored = record { points = points-first asked false (storedFrom stored 0) }
 
-pub matches-is : (asked stored : List ℕ) → matches asked stored ≡ holds (storedFrom stored 0) (standardPoints asked)
+pub matches-is : (asked stored : List ℕ) → matches asked stored ≡ told false (storedFrom stored 0) (standardPoints asked)
 unfolding matches
 matches-is asked stored = refl
 
@@ -396,17 +394,17 @@ module _ {asked stored : List ℕ} {p q : ℕ} (st : Matched asked stored p q) w
           ap (λ (x : List ℕ). same [] x) (drop-of-length-le stored g) ∙ same-refl [] ∙ sym (eq-eqb q (length stored) e)
       ends (no n) = same-other [] (drop q stored) (λ e. n (omega (arith, length-drop q stored))) ∙ sym (ne-eqb q (length stored) n)
 
-  module _ (h : p < length asked) {f : Point} (g : pointAt f standardPoint 1 (position p) asked) where
-    pub matched-broken : f ≡ Point.Broken → false ≡ matches asked stored
+  module _ (h : p < length asked) {x : Point} (g : pointAt x standardPoint 1 (position p) asked) where
+    pub matched-broken : x ≡ Point.Broken → false ≡ matches asked stored
     matched-broken e = sym (matches-is asked stored ∙ points-broken (st .points) h g e)
 
-    module _ {v : ℕ} {next : Position} (e : f ≡ Point.Is v next) {m : ℕ} (r : m ≡ length (modifiedOf v)) where
+    module _ {v : ℕ} {next : Position} (e : x ≡ Point.Is v next) {m : ℕ} (r : m ≡ length (modifiedOf v)) where
       pub matched-short : length stored - q < m → false ≡ matches asked stored
       matched-short l = sym (matches-is asked stored ∙ points-dead (st .points) h g e (stored-short stored q v (omega arith)))
 
-      module _ {b : Bool} (x : b ≡ standsAt (modifiedOf v) (position q) stored) where
+      module _ {b : Bool} (y : b ≡ standsAt (modifiedOf v) (position q) stored) where
         pub matched-other : b ≡ false → false ≡ matches asked stored
-        matched-other y = sym (matches-is asked stored ∙ points-dead (st .points) h g e (stored-other stored q v x y))
+        matched-other z = sym (matches-is asked stored ∙ points-dead (st .points) h g e (stored-other stored q v y z))
 
         pub matched-next : b ≡ true → Matched asked stored (next .0) (q + m)
-        matched-next y = record { points = points-next (st .points) h g e (storedFrom stored (q + m)) (stored-next stored q v x y r) }
+        matched-next z = record { points = points-next (st .points) h g e (storedFrom stored (q + m)) (stored-next stored q v y z r) }

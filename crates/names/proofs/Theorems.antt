@@ -1,8 +1,9 @@
 -- The claims, proved.
-use Prim.Native.Nat.{ℕ, zero, suc, _+_, _<_, _≤_}
-use mathlib.Core.Path.{_≡_, refl, sym, ap, _∙_}
+use Prim.Native.Nat.{ℕ, zero, suc, _+_, _<_, _≤_, min}
+use mathlib.Core.Path.{_≡_, refl, sym, ap, ap₂, _∙_}
 use mathlib.Core.Bool.{Bool, true, false}
 use mathlib.Core.List.{List, [], _∷_, _++_}
+use mathlib.Core.Logic.{_⊎_, inl, inr, ⊎-elim}
 use native.Mathlib.Decide.{decLt, ℕ-discrete}
 use native.Mathlib.Omega.{arith}
 use lib.Dec.{leb}
@@ -10,11 +11,12 @@ use lib.ListN.{length, length-append}
 use borrow.Author.Tests.{lt-ltb, le-leb, ne-eqb, leb-true}
 use Rattle.numbers.specs.Meaning.{All, Bytes, same}
 use Rattle.numbers.proofs.ByteLists.{bytes-append}
-use Rattle.numbers.proofs.SameBytes.{same-refl, same→eq}
+use Rattle.numbers.proofs.SameBytes.{same-refl, same→eq, same-other}
 use Rattle.refusal.specs.Reading.{refuse, ok}
 use Rattle.refusal.proofs.Laws.{ok-same}
 use Rattle.names.specs.Layout.{pastOneByte, pastTwoBytes, pastPlane, Scalar, standardOf, standard, modifiedOf, modified, nameLimit, Named, Askable, Proper, PlainPoint, inTurn}
-use Rattle.names.specs.Reading.{Spelled, standardPoint, modifiedPoint, standardPoints, modifiedPoints, holds, askable, matches}
+use Rattle.names.specs.Reading.{Spelled, standardPoint, modifiedPoint, standardPoints, modifiedPoints, told, askedSize, askable, matches}
+use Rattle.names.specs.Promises.{HasSize}
 use Rattle.names.specs.Claims.{StandardIsRead, ModifiedIsRead, ReadIsStandard, ReadIsModified, ModifiedTellsApart, StandardTellsApart, OneAsked, OneStored, PlainIsTheSame, StandardIsBytes, ModifiedIsBytes, NamedIsAskable, AskableIsTested, NamedIsTested, PlainIsCompared, PlainIsAskable, ImproperMatchesNothing}
 use Rattle.names.proofs.StandardForm.{one-form, four-form, standard-laid, standard-back, standard-some, standard-bytes}
 use Rattle.names.proofs.ModifiedForm.{modified-laid, modified-back, modified-some, modified-bytes}
@@ -87,33 +89,51 @@ named-is-askable asked stored n h = record { points = n .points; scalars = n .sc
 
 -- ---- the tests
 
--- what holds of code points that were read
-held : (test : List ℕ → Bool) (asked : List ℕ) → holds test (standardPoints asked) ≡ true
-    → (cs : List ℕ) × All Scalar cs × (asked ≡ standard cs) × (test cs ≡ true)
-unfolding holds
-held test asked e = by (standardPoints asked) refl e
+-- either the bytes spell code points, or nothing is told of them
+read-or : (asked : List ℕ) → ((cs : List ℕ) × All Scalar cs × (asked ≡ standard cs) × (standardPoints asked ≡ ok cs)) ⊎ (standardPoints asked ≡ refuse tt)
+read-or asked = by (standardPoints asked) refl
   where
-    by : (o : Spelled (List ℕ)) → standardPoints asked ≡ o → holds test o ≡ true → (cs : List ℕ) × All Scalar cs × (asked ≡ standard cs) × (test cs ≡ true)
-    by (refuse r) q e = absurd (let z : _≡_ {A = ℕ} 0 1 = cc in omega arith)
-    by (ok cs) q e = let x = read-is-standard asked cs q in (cs, x .0, x .1, e)
+    by : (o : Spelled (List ℕ)) → standardPoints asked ≡ o
+        → ((cs : List ℕ) × All Scalar cs × (asked ≡ standard cs) × (standardPoints asked ≡ ok cs)) ⊎ (standardPoints asked ≡ refuse tt)
+    by (refuse r) q = inr q
+    by (ok cs) q = let x = read-is-standard asked cs q in inl (cs, x .0, x .1, q)
 
-holding : (test : List ℕ → Bool) (asked cs : List ℕ) → All Scalar cs → asked ≡ standard cs → holds test (standardPoints asked) ≡ test cs
-unfolding holds
-holding test asked cs h e = ap (λ (s : List ℕ). holds test (standardPoints s)) e ∙ ap (holds test) (standard-is-read cs h)
+telling : {B : Type 0} (none : B) (f : List ℕ → B) (asked cs : List ℕ) → All Scalar cs → asked ≡ standard cs → told none f (standardPoints asked) ≡ f cs
+unfolding told
+telling none f asked cs h e = ap (λ (s : List ℕ). told none f (standardPoints s)) e ∙ ap (told none f) (standard-is-read cs h)
+
+-- the size of a name whose code points are known
+size-told : (asked cs : List ℕ) → All Scalar cs → asked ≡ standard cs → askedSize asked ≡ min (length (modified cs)) (nameLimit + 1)
+unfolding askedSize
+size-told asked cs h e = telling (nameLimit + 1) _ asked cs h e
+
+no-size : (asked : List ℕ) → standardPoints asked ≡ refuse tt → askedSize asked ≡ nameLimit + 1
+unfolding askedSize told
+no-size asked e = rw e
+
+-- a size within the limit is that of code points
+pub sized-points : (asked : List ℕ) → askedSize asked ≤ nameLimit → (cs : List ℕ) × All Scalar cs × (asked ≡ standard cs) × (askedSize asked ≡ length (modified cs))
+sized-points asked h =
+    ⊎-elim (λ x. (x .0, x .1, x .2, omega (arith, size-told asked (x .0) (x .1) (x .2)))) (λ e. absurd (omega (arith, no-size asked e))) (read-or asked)
 
 pub askable-is-tested : AskableIsTested
 unfolding askable
 askable-is-tested asked = (
-  λ a. holding _ asked (a .points) (a .scalars) (a .asked-is) ∙ le-leb (length (modified (a .points))) nameLimit (a .fits),
-  λ e. let x = held _ asked e in record { points = x .0; scalars = x .1; asked-is = x .2; fits = leb-true (length (modified (x .0))) nameLimit (x .3) },
+  λ a. le-leb (askedSize asked) nameLimit (omega (arith, size-told asked (a .points) (a .scalars) (a .asked-is), a .fits)),
+  λ e. let h = leb-true (askedSize asked) nameLimit e in let x = sized-points asked h in record { points = x .0; scalars = x .1; asked-is = x .2; fits = omega (arith, x .3) },
 )
 
 pub named-is-tested : NamedIsTested
-unfolding matches
+unfolding matches told
 named-is-tested asked stored = (
-  λ n. holding _ asked (n .points) (n .scalars) (n .asked-is) ∙ rw (n .stored-is) (same-refl (modified (n .points))),
-  λ e. let x = held _ asked e in record { points = x .0; scalars = x .1; asked-is = x .2; stored-is = sym (same→eq (modified (x .0)) stored (x .3)) },
+  λ n. telling false _ asked (n .points) (n .scalars) (n .asked-is) ∙ rw (n .stored-is) (same-refl (modified (n .points))),
+  λ e. ⊎-elim (λ x. let q = sym (telling false _ asked (x .0) (x .1) (x .2)) ∙ e in
+      record { points = x .0; scalars = x .1; asked-is = x .2; stored-is = sym (same→eq (modified (x .0)) stored q) })
+      (λ r. absurd (clash (sym (ap (told false _) r) ∙ e))) (read-or asked),
 )
+  where
+    clash : false ≡ true → ⊥
+    clash e = let z : _≡_ {A = ℕ} 0 1 = cc in omega arith
 
 plain-scalars : (cs : List ℕ) → All PlainPoint cs → All Scalar cs
 plain-scalars [] h = tt
@@ -123,7 +143,7 @@ pub plain-is-compared : PlainIsCompared
 unfolding matches
 plain-is-compared asked p stored =
     let e : modified (p .points) ≡ asked = plain-is-the-same (p .points) (p .plain) ∙ sym (p .asked-is) in
-    holding _ asked (p .points) (plain-scalars (p .points) (p .plain)) (p .asked-is) ∙ ap (λ (s : List ℕ). same s stored) e
+    telling false _ asked (p .points) (plain-scalars (p .points) (p .plain)) (p .asked-is) ∙ ap (λ (s : List ℕ). same s stored) e
 
 pub plain-is-askable : PlainIsAskable
 plain-is-askable asked p h =
@@ -157,3 +177,40 @@ standard-short (c ∷ cs) =
 
 pub askable-short : (asked : List ℕ) → Askable asked → length asked ≤ nameLimit
 askable-short asked a = omega (arith, ap length (a .asked-is), standard-short (a .points), a .fits)
+
+form-same : (c : ℕ) → length (modifiedOf c) ≡ length (standardOf c) → modifiedOf c ≡ standardOf c
+form-same c l =
+    elim (ℕ-discrete c 0) [
+      | yes e ↦ absurd (omega (arith, ap length (one-form c (omega arith)), ap length (modified-zero c e)))
+      | no n ↦
+          elim (decLt c pastPlane) [
+            | yes h ↦ as-standard c n h
+            | no g ↦ absurd (omega (arith, ap length (four-form c (omega arith)), ap length (modified-pair c n (omega arith))))
+          ]
+    ]
+
+-- forms of the same length are the same
+same-length : (cs : List ℕ) → length (modified cs) ≡ length (standard cs) → modified cs ≡ standard cs
+same-length [] l = refl
+same-length (c ∷ cs) l =
+    let a = length-append (standardOf c) (standard cs) in
+    let b = length-append (modifiedOf c) (modified cs) in
+    let x = form-short c in
+    let y = standard-short cs in
+    ap₂ (λ (s t : List ℕ). s ++ t) (form-same c (omega arith)) (same-length cs (omega arith))
+
+-- ---- a name whose size is known
+
+module _ (asked stored : List ℕ) {size : ℕ} (h : HasSize size asked) where
+  pub other-length : (length stored ≡ size → ⊥) → false ≡ matches asked stored
+  unfolding matches
+  other-length n =
+      let x = sized-points asked (omega (arith, h .0, h .1)) in
+      sym (telling false _ asked (x .0) (x .1) (x .2) ∙ same-other (modified (x .0)) stored (λ e. n (omega (arith, h .0, x .3))))
+
+  pub one-length : length asked ≡ size → same asked stored ≡ matches asked stored
+  unfolding matches
+  one-length l =
+      let x = sized-points asked (omega (arith, h .0, h .1)) in
+      let e : modified (x .0) ≡ asked = same-length (x .0) (omega (arith, h .0, x .3, ap length (x .2))) ∙ sym (x .2) in
+      sym (telling false _ asked (x .0) (x .1) (x .2) ∙ ap (λ (s : List ℕ). same s stored) e)

@@ -1,6 +1,6 @@
 -- 02, Ticket 5: which code points any bytes spell, in standard and in modified UTF-8; whether a name may be asked for, and whether a stored name is the asked one.
 -- A cursor `s` is what is left of the bytes, `k` is what follows of what was read. Bytes that are not of the form are refused, and nothing more is said of them.
-use Prim.Native.Nat.{ℕ, zero, suc, _+_, _-_, _*_}
+use Prim.Native.Nat.{ℕ, zero, suc, _+_, _-_, _*_, min}
 use mathlib.Core.Bool.{Bool, false, _&&_, _||_, not, cond}
 use mathlib.Core.List.{List, [], _∷_}
 use lib.Dec.{eqb, leb, ltb}
@@ -78,15 +78,19 @@ modifiedPoints s = pointsIn modifiedPoint (length s) s
 
 -- ---- names
 
--- whether something was read of which the test holds
-unfoldable pub holds : {A : Type 0} → (A → Bool) → Spelled A → Bool
-holds test (refuse r) = false
-holds test (ok a) = test a
+-- what `f` says of what was read, or `none`
+unfoldable pub told : {A B : Type 0} → B → (A → B) → Spelled A → B
+told none f (refuse r) = none
+told none f (ok a) = f a
+
+-- the bytes of an asked name in modified form; one more than it may have stands for more, and for a name that isn't standard UTF-8
+unfoldable pub askedSize : List ℕ → ℕ
+askedSize asked = told (nameLimit + 1) (λ points. min (length (modified points)) (nameLimit + 1)) (standardPoints asked)
 
 -- "One that isn't standard UTF-8, or is over 65,535 modified bytes, is LITERAL"
 unfoldable pub askable : List ℕ → Bool
-askable asked = holds (λ points. leb (length (modified points)) nameLimit) (standardPoints asked)
+askable asked = leb (askedSize asked) nameLimit
 
 -- "The caller's names are read as standard UTF-8 and compared .. in modified form", byte for byte; "Improper file names don't match"
 unfoldable pub matches : List ℕ → List ℕ → Bool
-matches asked stored = holds (λ points. same (modified points) stored) (standardPoints asked)
+matches asked stored = told false (λ points. same (modified points) stored) (standardPoints asked)

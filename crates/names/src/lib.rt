@@ -5,9 +5,9 @@ ghost use mathlib.Core.List.{_++_};
 ghost use Prim.Native.Nat.{_+_, _<_, _≤_};
 ghost use lib.ListN.{length};
 ghost use Rattle.names.specs.Layout.{inTwo, inThree, highOf, lowOf, pastPlane, modifiedOf};
-ghost use Rattle.names.specs.Reading.{continued, isScalar, standardPoint};
+ghost use Rattle.names.specs.Reading.{continued, isScalar, standardPoint, askedSize};
 ghost use Rattle.names.specs.Reading as reading;
-ghost use Rattle.names.specs.Promises.{pointAt, standsAt};
+ghost use Rattle.names.specs.Promises.{pointAt, HasSize, standsAt};
 use numbers::Position;
 
 // The first surrogate of a pair's first half, the first of its second half, the first code point behind both, and one past the last.
@@ -49,8 +49,10 @@ const ZERO_SIZE: usize = 2;
 
 const PAIR_SIZE: usize = 6;
 
-// The most bytes that a name may have in modified form.
-const NAME_LIMIT: usize = 65_535;
+// The most bytes that a name may have in modified form, and what stands for more.
+pub const NAME_LIMIT: usize = 65_535;
+
+pub const UNASKABLE: usize = 65_536;
 
 // A code point: the bytes are none, or what it is and where its bytes end.
 enum Point {
@@ -230,25 +232,25 @@ fn modified_at(s: &[u8], at: Position, value: u64) -> bool
 
 // ---- Names
 
-// Whether a name may be asked for: it is standard UTF-8, and no longer than 65,535 bytes in modified form.
-pub fn askable(asked: &[u8]) -> bool
-    ensures { λ r. ⌜ r ≡ reading.askable (now (asked .entry)) ⌝ }
+// The bytes of an asked name in modified form; UNASKABLE where they are more than NAME_LIMIT, and where it isn't standard UTF-8.
+pub fn asked_size(asked: &[u8]) -> usize
+    ensures { λ r. ⌜ r ≡ askedSize (now (asked .entry)) ⌝ }
 {
     let mut p: usize = 0;
     let mut size: usize = 0;
     while p < asked.len() {
         let point = point_at(asked, Position(p));
         let Point::Is { value, next } = point else {
-            return false;
+            return UNASKABLE;
         };
         let end = next.0;
         size = size + modified_size(value);
         if NAME_LIMIT < size {
-            return false;
+            return UNASKABLE;
         }
         p = end;
     }
-    true
+    size
 }
 
 // Whether the stored name is the asked one. It ends at the first code point that differs, so that it takes no longer than the stored name is.
@@ -273,4 +275,18 @@ pub fn matches(asked: &[u8], stored: &[u8]) -> bool
         p = next.0;
     }
     q == stored.len()
+}
+
+// The same for a name whose size is known: where both forms have the same number of bytes they are the same bytes.
+pub fn named(asked: &[u8], size: usize, stored: &[u8]) -> bool
+    requires { ⌜ HasSize size (now asked) ⌝ }
+    ensures { λ r. ⌜ r ≡ reading.matches (now (asked .entry)) (now (stored .entry)) ⌝ }
+{
+    if stored.len() != size {
+        return false;
+    }
+    if asked.len() == size {
+        return numbers::same(asked, stored);
+    }
+    matches(asked, stored)
 }

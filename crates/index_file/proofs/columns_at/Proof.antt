@@ -12,10 +12,10 @@ use Rattle.index_file.proofs.columns_at.Statement.{statement}
 use Rattle.index_file.proofs.columns_at.Tie as tie
 
 abbrev Inv-loop : tie.InvT-loop
-Inv-loop s n column kind place₀ seen₀ at i₀ place seen next i = (next .0 ≤ length s) × Columns (matches column) (matches kind) s n at place seen next i
+Inv-loop s n column kind column-size kind-size place₀ seen₀ at i₀ place seen next i = (next .0 ≤ length s) × Columns (matches column) (matches kind) s n at place seen next i
 
 abbrev μ-loop : tie.MeasureT-loop
-μ-loop s n column kind place₀ seen₀ at i₀ place seen next i = n - i
+μ-loop s n column kind column-size kind-size place₀ seen₀ at i₀ place seen next i = n - i
 
 -- the turn in which a name was read
 abbrev turn : tie.After-known-told Inv-loop μ-loop → tie.At-loop Inv-loop μ-loop
@@ -52,17 +52,17 @@ returns-2 c =
     let l = n .before .before .loop in
     columns-count (l .inv .1) (n .before .loop-test .taken) (n .name-at .ensures) (f .name .given .1) (m .count-at .ensures) (c .enum-told2 .given .1)
 
-sub-matches : tie.Need-sub-matches Inv-loop μ-loop
-sub-matches c = omega (arith, ends (c .before .before .before .before .before) .0)
+sub-named : tie.Need-sub-named Inv-loop μ-loop
+sub-named c = omega (arith, ends (c .before .before .before .before .before) .0)
 
-part-matches-start : tie.Need-part-matches-start Inv-loop μ-loop
-part-matches-start c = omega (arith, ends (c .before .before .before .before .before) .0)
+part-named-start : tie.Need-part-named-start Inv-loop μ-loop
+part-named-start c = omega (arith, ends (c .before .before .before .before .before) .0)
 
-part-matches-end : tie.Need-part-matches-end Inv-loop μ-loop
-part-matches-end c = omega (arith, ends (c .before .before .before .before .before) .1)
+part-named-end : tie.Need-part-named-end Inv-loop μ-loop
+part-named-end c = omega (arith, ends (c .before .before .before .before .before) .1)
 
-add-t22 : tie.Need-add-t22 Inv-loop μ-loop
-add-t22 c = omega (arith, room (c .before .before .before) .0)
+add-t25 : tie.Need-add-t25 Inv-loop μ-loop
+add-t25 c = omega (arith, room (c .before .before .before) .0)
 
 entries-at-requires : tie.Need-entries-at-requires Inv-loop μ-loop
 entries-at-requires c κs = omega (arith, room (c .before .before .before) .0)
@@ -96,7 +96,7 @@ loop-again c =
     let l = n .before .before .loop in (
       (rw (v .walk .given .1) at (w .entries-at .ensures)) .0,
       columns-next (l .inv .1) (n .before .loop-test .taken) (n .name-at .ensures) (f .name .given .1) (m .count-at .ensures) (g .count .given .1)
-          (w .entries-at .ensures) (v .walk .given .1) (w .before .matches .ensures) (c .after-column .ensures),
+          (w .entries-at .ensures) (v .walk .given .1) (w .before .named .ensures) (c .after-column .ensures),
     )
 
 returns-4 : tie.Need-returns-4 Inv-loop μ-loop
@@ -107,5 +107,5 @@ columns-at-spec =
     tie.close
     (tie.spec
     Inv-loop μ-loop loop-holds (λ c κs. search needs) (λ c. search needs) (λ c. search needs) returns count-at-requires (λ c. search needs)
-    (λ c. search needs) returns-2 (λ c. search needs) sub-matches part-matches-start part-matches-end (λ c κs. search needs) add-t22
+    (λ c. search needs) returns-2 (λ c. search needs) sub-named part-named-start part-named-end (λ c κs. search needs) add-t25
     entries-at-requires (λ c. search needs) (λ c. search needs) returns-3 (λ c κs. search needs) add-i (λ c. search needs) loop-again returns-4)

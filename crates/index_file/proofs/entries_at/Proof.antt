@@ -11,10 +11,10 @@ use Rattle.index_file.proofs.entries_at.Statement.{statement}
 use Rattle.index_file.proofs.entries_at.Tie as tie
 
 abbrev Inv-loop : tie.InvT-loop
-Inv-loop s n kind place₀ at i₀ place next i = (next .0 ≤ length s) × Entries (matches kind) s n at place next i
+Inv-loop s n kind size place₀ at i₀ place next i = (next .0 ≤ length s) × Entries (matches kind) s n at place next i
 
 abbrev μ-loop : tie.MeasureT-loop
-μ-loop s n kind place₀ at i₀ place next i = n - i
+μ-loop s n kind size place₀ at i₀ place next i = n - i
 
 -- the turn in which a name was read
 abbrev turn : tie.After-known-told Inv-loop μ-loop → tie.At-loop Inv-loop μ-loop
@@ -43,14 +43,14 @@ returns-2 c =
     let l = n .before .before .loop in
     entries-short (l .inv .1) (n .before .loop-test .taken) (n .name-at .ensures) (f .name .given .1) (c .if1 .taken)
 
-sub-matches : tie.Need-sub-matches Inv-loop μ-loop
-sub-matches c = omega (arith, ends (c .before .before .before .before) .0)
+sub-named : tie.Need-sub-named Inv-loop μ-loop
+sub-named c = omega (arith, ends (c .before .before .before .before) .0)
 
-part-matches-start : tie.Need-part-matches-start Inv-loop μ-loop
-part-matches-start c = omega (arith, ends (c .before .before .before .before) .0)
+part-named-start : tie.Need-part-named-start Inv-loop μ-loop
+part-named-start c = omega (arith, ends (c .before .before .before .before) .0)
 
-part-matches-end : tie.Need-part-matches-end Inv-loop μ-loop
-part-matches-end c = omega (arith, ends (c .before .before .before .before) .1)
+part-named-end : tie.Need-part-named-end Inv-loop μ-loop
+part-named-end c = omega (arith, ends (c .before .before .before .before) .1)
 
 loop-again : tie.Need-loop-again Inv-loop μ-loop
 loop-again c =
@@ -60,7 +60,7 @@ loop-again c =
     let l = n .before .before .loop in (
       omega (arith, ends (b .before .before .before) .1),
       entries-next (l .inv .1) (n .before .loop-test .taken) (n .name-at .ensures) (f .name .given .1) (omega (arith, ends (b .before .before .before) .1))
-          (b .before .be32 .ensures .0) (b .be322 .ensures .0) (c .before .matches .ensures) (c .after-entry .ensures),
+          (b .before .be32 .ensures .0) (b .be322 .ensures .0) (c .before .named .ensures) (c .after-entry .ensures),
     )
 
 returns-3 : tie.Need-returns-3 Inv-loop μ-loop
@@ -71,5 +71,5 @@ entries-at-spec =
     tie.close
     (tie.spec
     Inv-loop μ-loop loop-holds (λ c κs. search needs) (λ c. search needs) (λ c. search needs) returns sub-if1 returns-2 (λ c κs. search needs)
-    (λ c. search needs) (λ c κs. search needs) (λ c. search needs) sub-matches part-matches-start part-matches-end (λ c κs. search needs)
+    (λ c. search needs) (λ c κs. search needs) (λ c. search needs) sub-named part-named-start part-named-end (λ c κs. search needs)
     (λ c κs. search needs) (λ c. search needs) (λ c. search needs) (λ c. search needs) loop-again returns-3)

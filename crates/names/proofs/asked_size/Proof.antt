@@ -9,8 +9,8 @@ use Rattle.names.specs.Layout.{nameLimit}
 use Rattle.names.specs.Reading.{standardPoint}
 use Rattle.names.specs.Promises.{pointAt}
 use Rattle.names.proofs.Steps.{Sized, sized-first, sized-done, sized-broken, sized-over, sized-next}
-use Rattle.names.proofs.askable.Statement.{statement}
-use Rattle.names.proofs.askable.Tie as tie
+use Rattle.names.proofs.asked_size.Statement.{statement}
+use Rattle.names.proofs.asked_size.Tie as tie
 
 abbrev Inv-loop : tie.InvT-loop
 Inv-loop asked p₀ size₀ p size = (p ≤ length asked) × (size ≤ nameLimit) × Sized asked p size
@@ -57,8 +57,8 @@ loop-again c =
 returns-3 : tie.Need-returns-3 Inv-loop μ-loop
 returns-3 c = let l = c .before .loop in sized-done (l .inv .2) (c .loop-test .left) (l .inv .1)
 
-pub askable-spec : {M : Type 1} → statement M
-askable-spec =
+pub asked-size-spec : {M : Type 1} → statement M
+asked-size-spec =
     tie.close
     (tie.spec
     Inv-loop μ-loop loop-holds (λ c κs. search needs) (λ c. search needs) (λ c. search needs) returns (λ c κs. search needs) (λ c. search needs) returns-2
