@@ -148,7 +148,12 @@ fn entries_at(s: &[u8], at: Position, n: u64, kind: &[u8], size: usize) -> Walk
         let start = numbers::be32(s, Position(e)) as usize;
         let length = numbers::be32(s, Position(e + 4)) as usize;
         let from = next.0 + 2;
-        let hit = names::named(kind, size, &s[from..e]);
+        let stored = &s[from..e];
+        let hit = if kind.len() == size {
+            numbers::same(kind, stored)
+        } else {
+            names::matches(kind, stored)
+        };
         place = after_entry(hit, Position(start), length, place);
         next = Position(e + 8);
         i = i + 1;
@@ -178,7 +183,12 @@ fn columns_at(s: &[u8], at: Position, n: u64, column: &[u8], kind: &[u8], sizes:
         };
         let e = end.0;
         let from = next.0 + 2;
-        let hit = names::named(column, column_size, &s[from..e]);
+        let stored = &s[from..e];
+        let hit = if column.len() == column_size {
+            numbers::same(column, stored)
+        } else {
+            names::matches(column, stored)
+        };
         let walk = entries_at(s, Position(e + 4), m, kind, kind_size);
         let Walk::Past {
             next: past,

@@ -11,7 +11,7 @@ use lib.ListN.{length, length-append}
 use borrow.Author.Tests.{lt-ltb, le-leb, ne-eqb, leb-true}
 use Rattle.numbers.specs.Meaning.{All, Bytes, same}
 use Rattle.numbers.proofs.ByteLists.{bytes-append}
-use Rattle.numbers.proofs.SameBytes.{same-refl, same→eq, same-other}
+use Rattle.numbers.proofs.SameBytes.{same-refl, same→eq}
 use Rattle.refusal.specs.Reading.{refuse, ok}
 use Rattle.refusal.proofs.Laws.{ok-same}
 use Rattle.names.specs.Layout.{pastOneByte, pastTwoBytes, pastPlane, Scalar, standardOf, standard, modifiedOf, modified, nameLimit, Named, Askable, Proper, PlainPoint, inTurn}
@@ -199,18 +199,10 @@ same-length (c ∷ cs) l =
     let y = standard-short cs in
     ap₂ (λ (s t : List ℕ). s ++ t) (form-same c (omega arith)) (same-length cs (omega arith))
 
--- ---- a name whose size is known
-
-module _ (asked stored : List ℕ) {size : ℕ} (h : HasSize size asked) where
-  pub other-length : (length stored ≡ size → ⊥) → false ≡ matches asked stored
-  unfolding matches
-  other-length n =
-      let x = sized-points asked (omega (arith, h .0, h .1)) in
-      sym (telling false _ asked (x .0) (x .1) (x .2) ∙ same-other (modified (x .0)) stored (λ e. n (omega (arith, h .0, x .3))))
-
-  pub one-length : length asked ≡ size → same asked stored ≡ matches asked stored
-  unfolding matches
-  one-length l =
-      let x = sized-points asked (omega (arith, h .0, h .1)) in
-      let e : modified (x .0) ≡ asked = same-length (x .0) (omega (arith, h .0, x .3, ap length (x .2))) ∙ sym (x .2) in
-      sym (telling false _ asked (x .0) (x .1) (x .2) ∙ ap (λ (s : List ℕ). same s stored) e)
+-- where both forms have the same number of bytes they are the same bytes, so that an asked name is compared as it is
+pub one-length : (asked stored : List ℕ) {size : ℕ} → HasSize size asked → length asked ≡ size → same asked stored ≡ matches asked stored
+unfolding matches
+one-length asked stored h l =
+    let x = sized-points asked (omega (arith, h .0, h .1)) in
+    let e : modified (x .0) ≡ asked = same-length (x .0) (omega (arith, h .0, x .3, ap length (x .2))) ∙ sym (x .2) in
+    sym (telling false _ asked (x .0) (x .1) (x .2) ∙ ap (λ (s : List ℕ). same s stored) e)

@@ -7,7 +7,7 @@ ghost use lib.ListN.{length};
 ghost use Rattle.names.specs.Layout.{inTwo, inThree, highOf, lowOf, pastPlane, modifiedOf};
 ghost use Rattle.names.specs.Reading.{continued, isScalar, standardPoint, askedSize};
 ghost use Rattle.names.specs.Reading as reading;
-ghost use Rattle.names.specs.Promises.{pointAt, HasSize, standsAt};
+ghost use Rattle.names.specs.Promises.{pointAt, standsAt};
 use numbers::Position;
 
 // The first surrogate of a pair's first half, the first of its second half, the first code point behind both, and one past the last.
@@ -275,18 +275,4 @@ pub fn matches(asked: &[u8], stored: &[u8]) -> bool
         p = next.0;
     }
     q == stored.len()
-}
-
-// The same for a name whose size is known: where both forms have the same number of bytes they are the same bytes.
-pub fn named(asked: &[u8], size: usize, stored: &[u8]) -> bool
-    requires { ⌜ HasSize size (now asked) ⌝ }
-    ensures { λ r. ⌜ r ≡ reading.matches (now (asked .entry)) (now (stored .entry)) ⌝ }
-{
-    if stored.len() != size {
-        return false;
-    }
-    if asked.len() == size {
-        return numbers::same(asked, stored);
-    }
-    matches(asked, stored)
 }

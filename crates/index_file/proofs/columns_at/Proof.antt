@@ -1,9 +1,12 @@
 -- The invariant: what is left gives the whole. A name, a number and that many entries are one turn of the reading.
-use Prim.Native.Nat.{_≤_, _-_}
+use Prim.Native.Nat.{_+_, _≤_, _-_}
+use mathlib.Core.Path.{_≡_, _∙_}
+use mathlib.Core.Logic.{⊎-elim}
 use native.Mathlib.Omega.{arith}
 use borrow.Author.Needs.{needs}
-use lib.ListN.{length}
+use lib.ListN.{length, take, drop}
 use Rattle.names.specs.Reading.{matches}
+use Rattle.names.proofs.Theorems.{one-length}
 use Rattle.index_file.specs.declared.Count.{Count}
 use Rattle.index_file.specs.declared.Name.{Name}
 use Rattle.index_file.specs.Promises.{nameAt, countAt}
@@ -52,20 +55,30 @@ returns-2 c =
     let l = n .before .before .loop in
     columns-count (l .inv .1) (n .before .loop-test .taken) (n .name-at .ensures) (f .name .given .1) (m .count-at .ensures) (c .enum-told2 .given .1)
 
-sub-named : tie.Need-sub-named Inv-loop μ-loop
-sub-named c = omega (arith, ends (c .before .before .before .before .before) .0)
+sub-stored : tie.Need-sub-stored Inv-loop μ-loop
+sub-stored c = omega (arith, ends (c .before .before .before .before .before) .0)
 
-part-named-start : tie.Need-part-named-start Inv-loop μ-loop
-part-named-start c = omega (arith, ends (c .before .before .before .before .before) .0)
+part-stored-start : tie.Need-part-stored-start Inv-loop μ-loop
+part-stored-start c = omega (arith, ends (c .before .before .before .before .before) .0)
 
-part-named-end : tie.Need-part-named-end Inv-loop μ-loop
-part-named-end c = omega (arith, ends (c .before .before .before .before .before) .1)
+part-stored-end : tie.Need-part-stored-end Inv-loop μ-loop
+part-stored-end c = omega (arith, ends (c .before .before .before .before .before) .1)
 
-add-t25 : tie.Need-add-t25 Inv-loop μ-loop
-add-t25 c = omega (arith, room (c .before .before .before) .0)
+add-t26 : tie.Need-add-t26 Inv-loop μ-loop
+add-t26 c = omega (arith, room (c .before .before .before) .0)
 
 entries-at-requires : tie.Need-entries-at-requires Inv-loop μ-loop
 entries-at-requires c κs = omega (arith, room (c .before .before .before) .0)
+
+-- by either comparison
+hits : (c : tie.Joined1 Inv-loop μ-loop)
+    → let e = named (c .before .before .before) in
+    let at = turn e .loop .next .0 in
+    let a = turn e .before .before .before .before .args in
+    c .if1 .hit ≡ matches (a .column .now) (take (e .before .name .given .0 .0 .0 - (at + 2)) (drop (at + 2) (a .s .now)))
+hits c =
+    let start = turn (named (c .before .before .before)) .before .before .before .before in
+    ⊎-elim (λ came. came .2 ∙ came .1 .ensures ∙ one-length (start .args .column .now) _ (start .pre .1 .0) (came .0 .taken)) (λ came. came .2 ∙ came .1 .ensures) (c .if1 .came)
 
 returns-3 : tie.Need-returns-3 Inv-loop μ-loop
 returns-3 c =
@@ -96,7 +109,7 @@ loop-again c =
     let l = n .before .before .loop in (
       (rw (v .walk .given .1) at (w .entries-at .ensures)) .0,
       columns-next (l .inv .1) (n .before .loop-test .taken) (n .name-at .ensures) (f .name .given .1) (m .count-at .ensures) (g .count .given .1)
-          (w .entries-at .ensures) (v .walk .given .1) (w .before .named .ensures) (c .after-column .ensures),
+          (w .entries-at .ensures) (v .walk .given .1) (hits (w .before)) (c .after-column .ensures),
     )
 
 returns-4 : tie.Need-returns-4 Inv-loop μ-loop
@@ -107,5 +120,5 @@ columns-at-spec =
     tie.close
     (tie.spec
     Inv-loop μ-loop loop-holds (λ c κs. search needs) (λ c. search needs) (λ c. search needs) returns count-at-requires (λ c. search needs)
-    (λ c. search needs) returns-2 (λ c. search needs) sub-named part-named-start part-named-end (λ c κs. search needs) add-t25
-    entries-at-requires (λ c. search needs) (λ c. search needs) returns-3 (λ c κs. search needs) add-i (λ c. search needs) loop-again returns-4)
+    (λ c. search needs) returns-2 (λ c. search needs) sub-stored part-stored-start part-stored-end (λ c κs. search needs) (λ c κs. search needs)
+    add-t26 entries-at-requires (λ c. search needs) (λ c. search needs) returns-3 (λ c κs. search needs) add-i (λ c. search needs) loop-again returns-4)

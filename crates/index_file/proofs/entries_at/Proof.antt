@@ -1,9 +1,12 @@
 -- The invariant: what is left gives the whole. A name, a start and a length are one turn of the reading.
-use Prim.Native.Nat.{_≤_, _-_}
+use Prim.Native.Nat.{_+_, _≤_, _-_}
+use mathlib.Core.Path.{_≡_, _∙_}
+use mathlib.Core.Logic.{⊎-elim}
 use native.Mathlib.Omega.{arith}
 use borrow.Author.Needs.{needs}
-use lib.ListN.{length}
+use lib.ListN.{length, take, drop}
 use Rattle.names.specs.Reading.{matches}
+use Rattle.names.proofs.Theorems.{one-length}
 use Rattle.index_file.specs.declared.Name.{Name}
 use Rattle.index_file.specs.Promises.{nameAt}
 use Rattle.index_file.proofs.Positions.{Entries, entries-first, entries-done, entries-name, entries-short, entries-next}
@@ -43,14 +46,24 @@ returns-2 c =
     let l = n .before .before .loop in
     entries-short (l .inv .1) (n .before .loop-test .taken) (n .name-at .ensures) (f .name .given .1) (c .if1 .taken)
 
-sub-named : tie.Need-sub-named Inv-loop μ-loop
-sub-named c = omega (arith, ends (c .before .before .before .before) .0)
+sub-stored : tie.Need-sub-stored Inv-loop μ-loop
+sub-stored c = omega (arith, ends (c .before .before .before .before) .0)
 
-part-named-start : tie.Need-part-named-start Inv-loop μ-loop
-part-named-start c = omega (arith, ends (c .before .before .before .before) .0)
+part-stored-start : tie.Need-part-stored-start Inv-loop μ-loop
+part-stored-start c = omega (arith, ends (c .before .before .before .before) .0)
 
-part-named-end : tie.Need-part-named-end Inv-loop μ-loop
-part-named-end c = omega (arith, ends (c .before .before .before .before) .1)
+part-stored-end : tie.Need-part-stored-end Inv-loop μ-loop
+part-stored-end c = omega (arith, ends (c .before .before .before .before) .1)
+
+-- by either comparison
+hits : (c : tie.Joined2 Inv-loop μ-loop)
+    → let e = c .before .before .before .before .before .before in
+    let at = turn e .loop .next .0 in
+    let a = turn e .before .before .before .args in
+    c .if2 .hit ≡ matches (a .kind .now) (take (e .before .name .given .0 .0 .0 - (at + 2)) (drop (at + 2) (a .s .now)))
+hits c =
+    let start = turn (c .before .before .before .before .before .before) .before .before .before in
+    ⊎-elim (λ came. came .2 ∙ came .1 .ensures ∙ one-length (start .args .kind .now) _ (start .pre .1) (came .0 .taken)) (λ came. came .2 ∙ came .1 .ensures) (c .if2 .came)
 
 loop-again : tie.Need-loop-again Inv-loop μ-loop
 loop-again c =
@@ -60,7 +73,7 @@ loop-again c =
     let l = n .before .before .loop in (
       omega (arith, ends (b .before .before .before) .1),
       entries-next (l .inv .1) (n .before .loop-test .taken) (n .name-at .ensures) (f .name .given .1) (omega (arith, ends (b .before .before .before) .1))
-          (b .before .be32 .ensures .0) (b .be322 .ensures .0) (c .before .named .ensures) (c .after-entry .ensures),
+          (b .before .be32 .ensures .0) (b .be322 .ensures .0) (hits (c .before)) (c .after-entry .ensures),
     )
 
 returns-3 : tie.Need-returns-3 Inv-loop μ-loop
@@ -71,5 +84,5 @@ entries-at-spec =
     tie.close
     (tie.spec
     Inv-loop μ-loop loop-holds (λ c κs. search needs) (λ c. search needs) (λ c. search needs) returns sub-if1 returns-2 (λ c κs. search needs)
-    (λ c. search needs) (λ c κs. search needs) (λ c. search needs) sub-named part-named-start part-named-end (λ c κs. search needs)
-    (λ c κs. search needs) (λ c. search needs) (λ c. search needs) (λ c. search needs) loop-again returns-3)
+    (λ c. search needs) (λ c κs. search needs) (λ c. search needs) sub-stored part-stored-start part-stored-end (λ c κs. search needs)
+    (λ c κs. search needs) (λ c κs. search needs) (λ c. search needs) (λ c. search needs) (λ c. search needs) loop-again returns-3)
