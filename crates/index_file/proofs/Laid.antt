@@ -12,7 +12,7 @@ use Rattle.numbers.proofs.Laws.{number-laid}
 use Rattle.refusal.specs.Meaning.{limit}
 use Rattle.refusal.specs.declared.Refusal.{Refusal}
 use Rattle.refusal.specs.Reading.{refuse, ok, check}
-use Rattle.names.specs.Layout.{Named, Askable}
+use Rattle.names.specs.Layout.{Askable}
 use Rattle.names.specs.Reading.{matches}
 use Rattle.names.proofs.Theorems.{askable-is-tested, askable-short, named-is-askable}
 use Rattle.index_file.specs.declared.Place.{Place}

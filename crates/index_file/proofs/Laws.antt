@@ -15,8 +15,8 @@ use Rattle.refusal.specs.declared.Refusal.{Refusal}
 use Rattle.refusal.specs.Reading.{refuse, check}
 use Rattle.names.specs.Layout.{nameLimit}
 use Rattle.names.specs.Reading.{askedSize, askable, matches}
-use Rattle.names.specs.Promises.{HasSize}
 use Rattle.index_file.specs.Layout.{magic, fileVersion, frontSize, leastHead}
+use Rattle.index_file.specs.Promises.{HasSize}
 use Rattle.index_file.specs.Reading.{count, head, file, withinLimits, find}
 
 -- ---- the fields in front of the columns

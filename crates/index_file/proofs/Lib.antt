@@ -4,4 +4,5 @@ pub mod ListedOnce
 pub mod Laid
 pub mod Accepted
 pub mod CarriesNothing
+pub mod NoLiteral
 pub mod Theorems

@@ -18,11 +18,12 @@ use Rattle.names.specs.Reading.{askable, matches}
 use Rattle.names.proofs.Theorems.{askable-is-tested, plain-is-compared, plain-is-askable}
 use Rattle.index_file.specs.Layout.{magic, fileVersion, frontSize}
 use Rattle.index_file.specs.Reading.{found, absent, Part, bytesOf, withinLimits, find, soughtNumbers}
-use Rattle.index_file.specs.Claims.{LaidOutIsFound, FoundIsLaidOut, OneBody, UnlistedIsAbsent, AbsentIsUnlisted, NumberOfFound, NumberOfAbsent, UnaskableIsLiteral, AskableIsLookedUp, PlainAsBefore, OtherVersionIsRefused, OtherVersionIsNotFound, FindCarriesNothing}
+use Rattle.index_file.specs.Claims.{LaidOutIsFound, FoundIsLaidOut, OneBody, UnlistedIsAbsent, AbsentIsUnlisted, NumberOfFound, NumberOfAbsent, UnaskableIsLiteral, LiteralIsUnaskable, AskableIsLookedUp, PlainAsBefore, OtherVersionIsRefused, OtherVersionIsNotFound, FindCarriesNothing}
 use Rattle.index_file.proofs.Laws.{file-short, file-magic, file-version, find-long, find-column, find-kind, find-unaskable}
 use Rattle.index_file.proofs.Laid.{partOf, laid-find, asked-file, unlisted-file}
 use Rattle.index_file.proofs.Accepted.{accepted, within, unlisted}
 use Rattle.index_file.proofs.CarriesNothing.{find-bare}
+use Rattle.index_file.proofs.NoLiteral.{file-other}
 
 pub laid-out-is-found : LaidOutIsFound
 laid-out-is-found column kind body bytes f small = (partOf f, laid-find f small, sym (f .part))
@@ -124,6 +125,14 @@ other-version-is-not-found bytes column kind other =
 
 pub unaskable-is-literal : UnaskableIsLiteral
 unaskable-is-literal bytes column kind a b c n = ⊎-elim (λ e. find-unaskable bytes column kind a b c e) (λ x. absurd (n x)) (both-tested column kind)
+
+-- of buffers over the limit another refusal is said
+pub literal-is-unaskable : LiteralIsUnaskable
+literal-is-unaskable bytes column kind e x =
+    elim (decLe (length bytes) limit) [
+      | yes a ↦ file-other (matches column) (matches kind) bytes (sym (asked-file bytes column kind a (x .0) (x .1)) ∙ e)
+      | no l ↦ let q = sym (find-long bytes column kind (omega arith)) ∙ e in let z : _≡_ {A = ℕ} 0 1 = cc in omega arith
+    ]
 
 pub askable-is-looked-up : AskableIsLookedUp
 askable-is-looked-up = asked-file

@@ -41,11 +41,14 @@ abbrev pub AbsentIsUnlisted : Type 0
 AbsentIsUnlisted =
     (bytes column kind : List ℕ) → Bytes bytes → find bytes column kind ≡ ok absent → (h : Headed bytes) × Unlisted column kind (h .columns)
 
--- 02, Ticket 5: within the limits, if a name may not be asked for, LITERAL is said, whatever the file; if both may, what the file says, of which nothing is LITERAL
+-- 02, Ticket 5: within the limits LITERAL is said exactly if one of the names may not be asked for, whatever the file; if both may, what the file says
 abbrev pub UnaskableIsLiteral : Type 0
 UnaskableIsLiteral =
     (bytes column kind : List ℕ) → length bytes ≤ limit → length column ≤ limit → length kind ≤ limit → (Askable column × Askable kind → ⊥)
     → find bytes column kind ≡ refuse Refusal.Literal
+
+abbrev pub LiteralIsUnaskable : Type 0
+LiteralIsUnaskable = (bytes column kind : List ℕ) → find bytes column kind ≡ refuse Refusal.Literal → Askable column × Askable kind → ⊥
 
 abbrev pub AskableIsLookedUp : Type 0
 AskableIsLookedUp =

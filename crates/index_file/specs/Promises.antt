@@ -7,7 +7,8 @@ use Rattle.numbers.specs.Meaning.{signBit}
 use Rattle.numbers.specs.declared.Position.{Position}
 use Rattle.refusal.specs.declared.Refusal.{Refusal}
 use Rattle.refusal.specs.Reading.{Out, refuse}
-use Rattle.names.specs.Promises.{HasSize}
+use Rattle.names.specs.Layout.{nameLimit}
+use Rattle.names.specs.Reading.{askedSize}
 use Rattle.index_file.specs.declared.Located.{Located}
 use Rattle.index_file.specs.declared.Sizes.{Sizes}
 use Rattle.index_file.specs.declared.Place.{Place}
@@ -38,7 +39,11 @@ abbrev pub walkAt : Walk → List ℕ → (Rest Place → Out Refusal (Sought Pa
 walkAt Walk.Broken s reading = (k : Rest Place) → reading k ≡ refuse Refusal.Head
 walkAt (Walk.Past next place) s reading = (next .0 ≤ length s) × ((k : Rest Place) → reading k ≡ k place (drop (next .0) s))
 
--- these are the bytes of the asked names in modified form, and both may be asked for
+-- an asked name has so many bytes in modified form, and may be asked for
+abbrev pub HasSize : ℕ → List ℕ → Type 0
+HasSize size asked = (size ≡ askedSize asked) × (size ≤ nameLimit)
+
+-- both have
 abbrev pub HaveSizes : Sizes → List ℕ → List ℕ → Type 0
 HaveSizes sizes column kind = HasSize (sizes .column) column × HasSize (sizes .kind) kind
 

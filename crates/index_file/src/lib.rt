@@ -6,10 +6,9 @@ ghost use lib.ListN.{length, drop};
 ghost use lib.Dec.{leb};
 ghost use Rattle.names.specs.Layout.{nameLimit};
 ghost use Rattle.names.specs.Reading.{matches};
-ghost use Rattle.names.specs.Promises.{HasSize};
 ghost use Rattle.index_file.specs.Layout.{frontSize};
 ghost use Rattle.index_file.specs.Reading.{afterEntry, afterColumn, entries, columns, placed, head, file, locatedBy};
-ghost use Rattle.index_file.specs.Promises.{nameAt, countAt, walkAt, HaveSizes, FindPromise};
+ghost use Rattle.index_file.specs.Promises.{nameAt, countAt, walkAt, HasSize, HaveSizes, FindPromise};
 use numbers::Position;
 use refusal::Refusal;
 
@@ -34,7 +33,7 @@ pub enum Located {
     Refused(Refusal),
 }
 
-// The bytes of the asked names in modified form.
+// How many bytes the asked names have in modified form.
 struct Sizes {
     column: usize,
     kind: usize,
@@ -128,7 +127,8 @@ fn count_at(s: &[u8], at: Position) -> Count
     Count::Is(v)
 }
 
-// The n entries of one column, from `at` on; the asked kind has so many bytes in modified form.
+// The n entries of one column, from `at` on; the asked kind has so many bytes in modified form. Where those are all its bytes it is stored as it is, and compared
+// by words.
 fn entries_at(s: &[u8], at: Position, n: u64, kind: &[u8], size: usize) -> Walk
     requires { ⌜ (at .0 ≤ length (now s)) × HasSize size (now kind) ⌝ }
     ensures { λ r. ⌜ walkAt r (now (s .entry)) (entries (matches (now (kind .entry))) n Place.Nowhere (drop (at .0) (now (s .entry)))) ⌝ }
@@ -161,7 +161,7 @@ fn entries_at(s: &[u8], at: Position, n: u64, kind: &[u8], size: usize) -> Walk
     Walk::Past { next, place }
 }
 
-// The n columns from `at` on.
+// The n columns from `at` on. Their names are compared as those of kinds are.
 fn columns_at(s: &[u8], at: Position, n: u64, column: &[u8], kind: &[u8], sizes: Sizes) -> Walk
     requires { ⌜ (at .0 ≤ length (now s)) × HaveSizes sizes (now column) (now kind) ⌝ }
     ensures { λ r. ⌜ walkAt r (now (s .entry)) (columns (matches (now (column .entry))) (matches (now (kind .entry))) n false Place.Nowhere (drop (at .0) (now (s .entry)))) ⌝ }
@@ -255,7 +255,7 @@ fn read_head(s: &[u8], column: &[u8], kind: &[u8], sizes: Sizes, total: usize) -
     placed_at(place, s.len(), total)
 }
 
-// The file, which has the bytes in front of the columns, from its magic on.
+// The file from its magic on; it is not SHORT.
 fn read_file(bytes: &[u8], column: &[u8], kind: &[u8], sizes: Sizes) -> Located
     requires { ⌜ (frontSize ≤ length (now bytes)) × HaveSizes sizes (now column) (now kind) ⌝ }
     ensures { λ r. ⌜ r ≡ locatedBy (file (matches (now (column .entry))) (matches (now (kind .entry))) (now (bytes .entry))) ⌝ }
@@ -292,7 +292,7 @@ fn both_askable(sizes: Sizes) -> bool
     sizes.kind <= names::NAME_LIMIT
 }
 
-// Where the body of the asked kind of the asked column lies in an index file. The names are looked at before the file, and compared by `names` alone.
+// Where the body of the asked kind of the asked column lies in an index file. The names are looked at before the file.
 pub fn find(bytes: &[u8], column: &[u8], kind: &[u8]) -> Located
     ensures { λ r. ⌜ FindPromise (now (bytes .entry)) (now (column .entry)) (now (kind .entry)) r ⌝ }
 {
@@ -309,8 +309,8 @@ pub fn find(bytes: &[u8], column: &[u8], kind: &[u8]) -> Located
         column: names::asked_size(column),
         kind: names::asked_size(kind),
     };
-    let named = both_askable(sizes);
-    if !named {
+    let askable = both_askable(sizes);
+    if !askable {
         return Located::Refused(Refusal::Literal);
     }
     if bytes.len() < FRONT_SIZE {

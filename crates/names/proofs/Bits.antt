@@ -1,18 +1,28 @@
--- Continuation bytes one by one, the tests of a code point, and what a test that holds says of a reading.
+-- Continuation bytes one by one, the tests of a code point, and what a code point that was read is.
 use Prim.Native.Nat.{ℕ, suc, _+_, _-_, _*_, _/_, _%_, _<_, _≤_}
 use mathlib.Core.Path.{_≡_, refl, ap, _∙_}
 use mathlib.Core.Bool.{Bool, true, false, _&&_, _||_}
-use mathlib.Core.List.{List, [], _∷_}
-use mathlib.Core.Logic.{_⊎_, inl, inr}
-use native.Mathlib.Decide.{decLt}
+use mathlib.Core.List.{List, [], _∷_, _++_}
+use mathlib.Core.Logic.{inl, inr}
 use native.Mathlib.Omega.{arith}
 use lib.Dec.{leb, ltb}
-use borrow.Author.Tests.{lt-ltb, le-ltb, le-leb, lt-leb, ltb-true, leb-true}
+use borrow.Author.Tests.{lt-ltb, le-ltb, le-leb, ltb-true, leb-true}
 use Rattle.numbers.proofs.Booleans.{and-both}
-use Rattle.refusal.specs.Reading.{refuse, ok, check}
+use Rattle.refusal.specs.Reading.{ok, check}
 use Rattle.refusal.proofs.Laws.{not-ok, check-ok}
-use Rattle.names.specs.Layout.{firstHigh, firstLow, pastSurrogates, pastLast, Scalar}
-use Rattle.names.specs.Reading.{Spelled, continued, isScalar, isHigh, isLow}
+use Rattle.names.specs.Layout.{firstHigh, pastSurrogates, pastLast, Scalar}
+use Rattle.names.specs.Reading.{Spelled, continued, isScalar}
+
+-- a code point that was read: what it is, what is left, and what follows of both
+pub record Read {A : Type 0} (form : ℕ → List ℕ) (Of : ℕ → Type 0) (s : List ℕ) (k : ℕ → List ℕ → Spelled A) (good : A) : Type 0 where
+  pub point : ℕ
+  pub rest : List ℕ
+  pub of : Of point
+  pub parts : s ≡ form point ++ rest
+  pub so : k point rest ≡ ok good
+
+pub clash : true ≡ false → ⊥
+clash e = let z : _≡_ {A = ℕ} 0 1 = cc in omega arith
 
 -- ---- the tests of a code point
 

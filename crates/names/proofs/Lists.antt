@@ -1,11 +1,9 @@
 -- Code points in turn: one law for both forms, from what is known of one code point.
-use Prim.Native.Nat.{ℕ, zero, suc, _+_, _<_, _≤_}
+use Prim.Native.Nat.{ℕ, zero, suc, _<_, _≤_}
 use mathlib.Core.Path.{_≡_, refl, sym, ap, _∙_}
-use mathlib.Core.Bool.{true, false, cond}
 use mathlib.Core.List.{List, [], _∷_, _++_}
 use native.Mathlib.Decide.{ℕ-discrete}
 use native.Mathlib.Omega.{arith}
-use lib.Dec.{eqb}
 use lib.ListN.{length, length-append}
 use borrow.Author.Tests.{eq-eqb, ne-eqb}
 use Rattle.numbers.specs.Meaning.{All}
@@ -13,7 +11,7 @@ use Rattle.refusal.specs.Reading.{refuse, ok, andThen}
 use Rattle.refusal.proofs.Laws.{not-ok, ok-same, then-ok}
 use Rattle.names.specs.Layout.{Scalar, inTurn}
 use Rattle.names.specs.Reading.{Spelled, Reader, pointsIn}
-use Rattle.names.proofs.StandardForm.{Read}
+use Rattle.names.proofs.Bits.{Read}
 
 no-bytes : (s : List ℕ) → length s ≡ 0 → s ≡ []
 no-bytes [] e = refl

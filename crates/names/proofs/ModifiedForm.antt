@@ -1,22 +1,22 @@
 -- One code point of modified UTF-8: what is laid out is read, and what is read was laid out. Both go by its units: one, or the two surrogates of a pair.
 use Prim.Native.Nat.{ℕ, _+_, _-_, _*_, _/_, _%_, _<_, _≤_}
 use mathlib.Core.Path.{_≡_, refl, sym, ap, _∙_}
-use mathlib.Core.Bool.{Bool, true, false, _&&_, _||_, not, cond}
+use mathlib.Core.Bool.{Bool, true, false, _||_, not, cond}
 use mathlib.Core.List.{List, [], _∷_, _++_, append-assoc}
 use mathlib.Core.Logic.{_⊎_, inl, inr}
 use native.Mathlib.Decide.{decLt, ℕ-discrete}
 use native.Mathlib.Omega.{arith}
 use lib.Dec.{eqb, leb, ltb}
 use lib.ListN.{length}
-use borrow.Author.Tests.{lt-ltb, le-ltb, le-leb, lt-leb, eq-eqb, ne-eqb, ltb-true, ltb-false, leb-true, leb-false, eqb-true, not-true}
+use borrow.Author.Tests.{lt-ltb, le-ltb, le-leb, lt-leb, eq-eqb, ne-eqb, ltb-true, leb-true, not-true}
 use Rattle.numbers.specs.Meaning.{All}
 use Rattle.numbers.proofs.Booleans.{and-both}
-use Rattle.refusal.specs.Reading.{refuse, ok, check}
+use Rattle.refusal.specs.Reading.{ok, check}
 use Rattle.refusal.proofs.Laws.{not-ok, check-ok}
 use Rattle.names.specs.Layout.{firstHigh, firstLow, pastSurrogates, pastPlane, pastLast, pastOneByte, pastTwoBytes, Scalar, inTwo, inThree, standardOf, highOf, lowOf, modifiedOf}
 use Rattle.names.specs.Reading.{Spelled, continued, modifiedUnit, isHigh, isLow, modifiedPoint}
-use Rattle.names.proofs.Bits.{byte-back, last-laid, two-laid}
-use Rattle.names.proofs.StandardForm.{one-form, two-form, three-form, scalar-last, standard-some, three-bytes, standard-bytes, Read}
+use Rattle.names.proofs.Bits.{Read, clash, byte-back, last-laid, two-laid}
+use Rattle.names.proofs.StandardForm.{one-form, two-form, three-form, scalar-last, standard-some, three-bytes, standard-bytes}
 
 -- the bytes of one unit below 10000
 abbrev unitForm : ℕ → List ℕ
@@ -238,9 +238,6 @@ neither u h a b =
                 ]
           ]
     ]
-  where
-    clash : true ≡ false → ⊥
-    clash e = let z : _≡_ {A = ℕ} 0 1 = cc in omega arith
 
 -- ---- a code point
 

@@ -1,6 +1,6 @@
 -- One code point of standard UTF-8: what is laid out is read, and what is read was laid out.
 use Prim.Native.Nat.{ℕ, _+_, _-_, _*_, _/_, _%_, _<_, _≤_}
-use mathlib.Core.Path.{_≡_, refl, sym, ap, ap₂, _∙_}
+use mathlib.Core.Path.{_≡_, sym, ap, _∙_}
 use mathlib.Core.Bool.{Bool, true, false, _&&_, cond}
 use mathlib.Core.List.{List, [], _∷_, _++_}
 use mathlib.Core.Logic.{inl, inr}
@@ -8,14 +8,14 @@ use native.Mathlib.Decide.{decLt}
 use native.Mathlib.Omega.{arith}
 use lib.Dec.{leb, ltb}
 use lib.ListN.{length}
-use borrow.Author.Tests.{lt-ltb, le-ltb, le-leb, lt-leb, ltb-true, ltb-false, leb-true}
+use borrow.Author.Tests.{lt-ltb, le-ltb, le-leb, leb-true}
 use Rattle.numbers.specs.Meaning.{All}
 use Rattle.numbers.proofs.Booleans.{and-both}
-use Rattle.refusal.specs.Reading.{refuse, ok, check}
+use Rattle.refusal.specs.Reading.{ok, check}
 use Rattle.refusal.proofs.Laws.{not-ok, check-ok}
 use Rattle.names.specs.Layout.{pastOneByte, pastTwoBytes, pastPlane, pastLast, Scalar, inTwo, inThree, inFour, standardOf}
 use Rattle.names.specs.Reading.{Spelled, continued, isScalar, longer, standardPoint}
-use Rattle.names.proofs.Bits.{scalar-tested, tested-scalar, byte-back, last-laid, two-laid, three-laid}
+use Rattle.names.proofs.Bits.{Read, scalar-tested, tested-scalar, byte-back, last-laid, two-laid, three-laid}
 
 -- ---- the form by the size of the code point
 
@@ -128,14 +128,6 @@ module _ {A : Type 0} (c : ℕ) (t : List ℕ) (k : ℕ → List ℕ → Spelled
       ]
 
 -- ---- read, so laid out
-
--- a code point that was read: what it is, what is left, and what follows of both
-pub record Read {A : Type 0} (form : ℕ → List ℕ) (Of : ℕ → Type 0) (s : List ℕ) (k : ℕ → List ℕ → Spelled A) (good : A) : Type 0 where
-  pub point : ℕ
-  pub rest : List ℕ
-  pub of : Of point
-  pub parts : s ≡ form point ++ rest
-  pub so : k point rest ≡ ok good
 
 module _ {A : Type 0} (k : ℕ → List ℕ → Spelled A) (good : A) where
   range-back : (least c : ℕ) (s : List ℕ) → check (leb least c && isScalar c) tt (k c s) ≡ ok good → (least ≤ c) × Scalar c × (k c s ≡ ok good)

@@ -1,10 +1,10 @@
 -- The reading's steps at a position of the bytes: what a step of the code finds.
-use Prim.Native.Nat.{ℕ, zero, suc, _+_, _-_, _*_, _/_, _%_, _^_, _<_, _≤_, min}
+use Prim.Native.Nat.{ℕ, zero, suc, _+_, _-_, _*_, _^_, _<_, _≤_, min}
 use mathlib.Core.Path.{_≡_, refl, sym, ap, _∙_}
 use mathlib.Core.Bool.{Bool, true, false, _&&_, cond, and-true, and-assoc}
 use mathlib.Core.List.{List, [], _∷_, _++_}
 use native.Mathlib.Numerals.{add-one}
-use native.Mathlib.Decide.{decLt, ℕ-discrete}
+use native.Mathlib.Decide.{ℕ-discrete}
 use native.Mathlib.Omega.{arith}
 use lib.Dec.{eqb, leb, ltb}
 use lib.ListN.{length, take, drop, getD, length-drop, length-append, drop-of-length-le}
@@ -17,13 +17,9 @@ use Rattle.refusal.specs.Reading.{refuse, ok, check, andThen}
 use Rattle.names.specs.declared.Point.{Point}
 use Rattle.names.specs.Layout.{firstHigh, pastSurrogates, pastPlane, pastLast, pastOneByte, pastTwoBytes, nameLimit, inTwo, inThree, standardOf, highOf, lowOf, modifiedOf, modified}
 use Rattle.names.specs.Reading.{Spelled, continued, isScalar, longer, standardPoint, pointsIn, standardPoints, told, askedSize, matches}
-use Rattle.names.specs.Promises.{pointAt, standsAt}
+use Rattle.names.specs.Promises.{Rest, pointAt, standsAt}
 use Rattle.names.proofs.StandardForm.{one-form, two-form, three-form}
 use Rattle.names.proofs.Lists.{with-rest, points-end, points-turn}
-
--- what follows of something that was read, and of what is left
-abbrev pub Rest : Type 0
-Rest = ℕ → List ℕ → Spelled (List ℕ)
 
 cons-at : (s : List ℕ) (p : ℕ) → p < length s → drop p s ≡ getD s p 0 ∷ drop (p + 1) s
 cons-at s p h = rw add-one (drop-cons s p 0 h)

@@ -6,18 +6,17 @@ use mathlib.Core.List.{List, [], _∷_, _++_}
 use mathlib.Core.Logic.{_⊎_, inl, inr, ⊎-elim}
 use native.Mathlib.Decide.{decLt, ℕ-discrete}
 use native.Mathlib.Omega.{arith}
-use lib.Dec.{leb}
 use lib.ListN.{length, length-append}
-use borrow.Author.Tests.{lt-ltb, le-leb, ne-eqb, leb-true}
+use borrow.Author.Tests.{le-leb, leb-true}
 use Rattle.numbers.specs.Meaning.{All, Bytes, same}
 use Rattle.numbers.proofs.ByteLists.{bytes-append}
 use Rattle.numbers.proofs.SameBytes.{same-refl, same→eq}
 use Rattle.refusal.specs.Reading.{refuse, ok}
 use Rattle.refusal.proofs.Laws.{ok-same}
-use Rattle.names.specs.Layout.{pastOneByte, pastTwoBytes, pastPlane, Scalar, standardOf, standard, modifiedOf, modified, nameLimit, Named, Askable, Proper, PlainPoint, inTurn}
+use Rattle.names.specs.Layout.{pastPlane, Scalar, standardOf, standard, modifiedOf, modified, nameLimit, Askable, PlainPoint, inTurn}
 use Rattle.names.specs.Reading.{Spelled, standardPoint, modifiedPoint, standardPoints, modifiedPoints, told, askedSize, askable, matches}
-use Rattle.names.specs.Promises.{HasSize}
-use Rattle.names.specs.Claims.{StandardIsRead, ModifiedIsRead, ReadIsStandard, ReadIsModified, ModifiedTellsApart, StandardTellsApart, OneAsked, OneStored, PlainIsTheSame, StandardIsBytes, ModifiedIsBytes, NamedIsAskable, AskableIsTested, NamedIsTested, PlainIsCompared, PlainIsAskable, ImproperMatchesNothing}
+use Rattle.names.specs.Claims.{StandardIsRead, ModifiedIsRead, ReadIsStandard, ReadIsModified, ModifiedTellsApart, StandardTellsApart, OneAsked, OneStored, PlainIsTheSame, StandardIsBytes, ModifiedIsBytes, NamedIsAskable, AskableIsTested, SizeIsTheForms, NamedIsTested, PlainIsCompared, PlainIsAskable, ImproperMatchesNothing}
+use Rattle.names.proofs.Bits.{clash}
 use Rattle.names.proofs.StandardForm.{one-form, four-form, standard-laid, standard-back, standard-some, standard-bytes}
 use Rattle.names.proofs.ModifiedForm.{modified-laid, modified-back, modified-some, modified-bytes}
 use Rattle.names.proofs.Lists.{points-laid, points-back}
@@ -60,12 +59,8 @@ one-stored asked stored stored′ n m =
     n .stored-is ∙ ap modified e ∙ sym (m .stored-is)
 
 pub plain-is-the-same : PlainIsTheSame
-unfolding modifiedOf
 plain-is-the-same [] h = refl
-plain-is-the-same (c ∷ cs) h = rw (plain-form c (h .0), plain-is-the-same cs (h .1))
-  where
-    plain-form : (c : ℕ) → PlainPoint c → modifiedOf c ≡ standardOf c
-    plain-form c p = let n : c ≡ 0 → ⊥ = λ e. omega (arith, p .1) in simp (ne-eqb c 0 n, lt-ltb c pastPlane (p .2))
+plain-is-the-same (c ∷ cs) h = let n : c ≡ 0 → ⊥ = λ e. omega (arith, h .0 .1) in rw (as-standard c n (h .0 .2), plain-is-the-same cs (h .1))
 
 -- ---- bytes
 
@@ -123,17 +118,27 @@ askable-is-tested asked = (
   λ e. let h = leb-true (askedSize asked) nameLimit e in let x = sized-points asked h in record { points = x .0; scalars = x .1; asked-is = x .2; fits = omega (arith, x .3) },
 )
 
+pub size-is-the-forms : SizeIsTheForms
+size-is-the-forms asked = (
+  λ a. omega (arith, size-told asked (a .points) (a .scalars) (a .asked-is), a .fits),
+  λ n. ⊎-elim (λ x. omega (arith, size-told asked (x .0) (x .1) (x .2), too-long x n)) (λ e. no-size asked e) (read-or asked),
+)
+  where
+    too-long : (x : (cs : List ℕ) × All Scalar cs × (asked ≡ standard cs) × (standardPoints asked ≡ ok cs)) → (Askable asked → ⊥) → nameLimit < length (modified (x .0))
+    too-long x n =
+        elim (decLt nameLimit (length (modified (x .0)))) [
+          | yes h ↦ h
+          | no g ↦ absurd (n (record { points = x .0; scalars = x .1; asked-is = x .2; fits = omega arith }))
+        ]
+
 pub named-is-tested : NamedIsTested
 unfolding matches told
 named-is-tested asked stored = (
   λ n. telling false _ asked (n .points) (n .scalars) (n .asked-is) ∙ rw (n .stored-is) (same-refl (modified (n .points))),
   λ e. ⊎-elim (λ x. let q = sym (telling false _ asked (x .0) (x .1) (x .2)) ∙ e in
       record { points = x .0; scalars = x .1; asked-is = x .2; stored-is = sym (same→eq (modified (x .0)) stored q) })
-      (λ r. absurd (clash (sym (ap (told false _) r) ∙ e))) (read-or asked),
+      (λ r. absurd (clash (sym e ∙ ap (told false _) r))) (read-or asked),
 )
-  where
-    clash : false ≡ true → ⊥
-    clash e = let z : _≡_ {A = ℕ} 0 1 = cc in omega arith
 
 plain-scalars : (cs : List ℕ) → All PlainPoint cs → All Scalar cs
 plain-scalars [] h = tt
@@ -200,9 +205,9 @@ same-length (c ∷ cs) l =
     ap₂ (λ (s t : List ℕ). s ++ t) (form-same c (omega arith)) (same-length cs (omega arith))
 
 -- where both forms have the same number of bytes they are the same bytes, so that an asked name is compared as it is
-pub one-length : (asked stored : List ℕ) {size : ℕ} → HasSize size asked → length asked ≡ size → same asked stored ≡ matches asked stored
+pub one-length : (asked stored : List ℕ) {size : ℕ} → size ≡ askedSize asked → size ≤ nameLimit → length asked ≡ size → same asked stored ≡ matches asked stored
 unfolding matches
-one-length asked stored h l =
-    let x = sized-points asked (omega (arith, h .0, h .1)) in
-    let e : modified (x .0) ≡ asked = same-length (x .0) (omega (arith, h .0, x .3, ap length (x .2))) ∙ sym (x .2) in
+one-length asked stored e h l =
+    let x = sized-points asked (omega arith) in
+    let e : modified (x .0) ≡ asked = same-length (x .0) (omega (arith, x .3, ap length (x .2))) ∙ sym (x .2) in
     sym (telling false _ asked (x .0) (x .1) (x .2) ∙ ap (λ (s : List ℕ). same s stored) e)

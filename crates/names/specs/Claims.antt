@@ -1,5 +1,5 @@
 -- What the two forms of a name and what is read of any bytes have to do with each other.
-use Prim.Native.Nat.{ℕ, _≤_}
+use Prim.Native.Nat.{ℕ, _+_, _≤_}
 use mathlib.Core.Path.{_≡_}
 use mathlib.Core.Bool.{true, false}
 use mathlib.Core.List.{List}
@@ -7,7 +7,7 @@ use lib.ListN.{length}
 use Rattle.numbers.specs.Meaning.{All, Bytes, same}
 use Rattle.refusal.specs.Reading.{ok}
 use Rattle.names.specs.Layout.{Scalar, standard, modified, nameLimit, Named, Askable, Proper, PlainPoint, Plain}
-use Rattle.names.specs.Reading.{standardPoints, modifiedPoints, askable, matches}
+use Rattle.names.specs.Reading.{standardPoints, modifiedPoints, askedSize, askable, matches}
 
 -- ---- the two forms. That code points have exactly one form of each kind is said by `standard` and `modified` being functions of them
 
@@ -58,6 +58,11 @@ NamedIsAskable = (asked stored : List ℕ) → Named asked stored → length sto
 
 abbrev pub AskableIsTested : Type 0
 AskableIsTested = (asked : List ℕ) → (Askable asked → askable asked ≡ true) × (askable asked ≡ true → Askable asked)
+
+-- the size of a name that may be asked for is that of its modified form, any other's one more than a name may have
+abbrev pub SizeIsTheForms : Type 0
+SizeIsTheForms =
+    (asked : List ℕ) → ((a : Askable asked) → askedSize asked ≡ length (modified (a .points))) × ((Askable asked → ⊥) → askedSize asked ≡ nameLimit + 1)
 
 abbrev pub NamedIsTested : Type 0
 NamedIsTested = (asked stored : List ℕ) → (Named asked stored → matches asked stored ≡ true) × (matches asked stored ≡ true → Named asked stored)

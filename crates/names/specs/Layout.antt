@@ -103,8 +103,7 @@ pub record Askable (asked : List ℕ) : Type 0 where
   pub asked-is : asked ≡ standard points
   pub fits : length (modified points) ≤ nameLimit
 
--- a proper stored name: the modified form of such code points. Java's reader takes more (a raw 00, overlong forms, half a pair), its writer gives no other form
--- of them
+-- a proper stored name: the modified form of such code points
 pub record Proper (stored : List ℕ) : Type 0 where
   pub points : List ℕ
   pub scalars : All Scalar points

@@ -8,18 +8,17 @@ use Rattle.numbers.specs.Meaning.{same}
 use Rattle.numbers.specs.declared.Position.{Position}
 use Rattle.refusal.specs.Reading.{refuse}
 use Rattle.names.specs.declared.Point.{Point}
-use Rattle.names.specs.Layout.{nameLimit}
-use Rattle.names.specs.Reading.{Spelled, Reader, askedSize}
+use Rattle.names.specs.Reading.{Spelled, Reader}
+
+-- what follows of a value that was read, and of what is left
+abbrev pub Rest : Type 0
+Rest = ℕ → List ℕ → Spelled (List ℕ)
 
 -- what `reading` reads off the front of what is left from `at` on: a value, of so many bytes or more; Broken, where it refuses whatever would follow
 abbrev pub pointAt : Point → Reader (List ℕ) → ℕ → Position → List ℕ → Type 0
-pointAt Point.Broken reading bytes at s = (k : ℕ → List ℕ → Spelled (List ℕ)) → reading (drop (at .0) s) k ≡ refuse tt
+pointAt Point.Broken reading bytes at s = (k : Rest) → reading (drop (at .0) s) k ≡ refuse tt
 pointAt (Point.Is value next) reading bytes at s =
-    (at .0 + bytes ≤ next .0) × (next .0 ≤ length s) × ((k : ℕ → List ℕ → Spelled (List ℕ)) → reading (drop (at .0) s) k ≡ k value (drop (next .0) s))
-
--- an asked name has so many bytes in modified form, and may be asked for
-abbrev pub HasSize : ℕ → List ℕ → Type 0
-HasSize size asked = (size ≡ askedSize asked) × (size ≤ nameLimit)
+    (at .0 + bytes ≤ next .0) × (next .0 ≤ length s) × ((k : Rest) → reading (drop (at .0) s) k ≡ k value (drop (next .0) s))
 
 -- whether `form` stands at `at`
 abbrev pub standsAt : List ℕ → Position → List ℕ → Bool

@@ -42,7 +42,7 @@ standardPoint (a ∷ s) k =
     (check (leb 192 a) tt (cond (ltb a 224) (longer 1 pastOneByte (a - 192) s k)
     (cond (ltb a 240) (longer 2 pastTwoBytes (a - 224) s k) (check (ltb a 248) tt (longer 3 pastPlane (a - 240) s k)))))
 
--- one unit of modified UTF-8: zero in two bytes, else 1 to FFFF in the shortest of three lengths, surrogates too
+-- one unit of UTF-16, of 16 bits, in modified UTF-8: zero in two bytes, else 1 to FFFF in the shortest of three lengths, surrogates too
 unfoldable pub modifiedUnit : {A : Type 0} → Reader A
 modifiedUnit [] k = refuse tt
 modifiedUnit (a ∷ s) k =
@@ -57,7 +57,7 @@ isHigh u = leb firstHigh u && ltb u firstLow
 unfoldable pub isLow : ℕ → Bool
 isLow u = leb firstLow u && ltb u pastSurrogates
 
--- one code point of modified UTF-8: a pair of surrogates, or a unit that is none
+-- one code point of modified UTF-8: a pair of surrogates, or a unit that is none. No code reads stored names so: it is here for what is claimed of the form
 unfoldable pub modifiedPoint : {A : Type 0} → Reader A
 modifiedPoint s k =
     modifiedUnit s (λ u s.

@@ -37,14 +37,14 @@ const LEAD_OF_FOUR: u64 = 0xF0;
 
 const PAST_LEADS: u64 = 0xF8;
 
-// What six bits, the bits of a continuation byte, can hold, and ten, those of a surrogate: numbers below.
+// One past the greatest number of six bits, which a continuation byte has, of twelve, which two have, and of ten, which a surrogate has.
 const SIX_BITS: u64 = 64;
 
 const TWELVE_BITS: u64 = 4096;
 
 const TEN_BITS: u64 = 1024;
 
-// The bytes of zero, and of a code point above FFFF, in modified form.
+// How many bytes zero has, and a code point above FFFF, in modified form.
 const ZERO_SIZE: usize = 2;
 
 const PAIR_SIZE: usize = 6;
@@ -52,7 +52,7 @@ const PAIR_SIZE: usize = 6;
 // The most bytes that a name may have in modified form, and what stands for more.
 pub const NAME_LIMIT: usize = 65_535;
 
-pub const UNASKABLE: usize = 65_536;
+const UNASKABLE: usize = NAME_LIMIT + 1;
 
 // A code point: the bytes are none, or what it is and where its bytes end.
 enum Point {
@@ -82,7 +82,7 @@ fn continued_at(s: &[u8], at: Position, n: usize, lead: u64) -> Point
             return Point::Broken;
         }
         value = value * SIX_BITS + (b - CONTINUATION);
-        i += 1;
+        i = i + 1;
     }
     Point::Is {
         value,
@@ -151,7 +151,7 @@ fn point_at(s: &[u8], at: Position) -> Point
 
 // ---- Modified UTF-8
 
-// The bytes of a code point.
+// How many bytes a code point has.
 fn modified_size(value: u64) -> usize
     ensures { λ r. ⌜ (r ≡ length (modifiedOf value)) × (r ≤ 6) ⌝ }
 {
@@ -232,7 +232,7 @@ fn modified_at(s: &[u8], at: Position, value: u64) -> bool
 
 // ---- Names
 
-// The bytes of an asked name in modified form; UNASKABLE where they are more than NAME_LIMIT, and where it isn't standard UTF-8.
+// How many bytes an asked name has in modified form; UNASKABLE where they are more than NAME_LIMIT, and where it isn't standard UTF-8.
 pub fn asked_size(asked: &[u8]) -> usize
     ensures { λ r. ⌜ r ≡ askedSize (now (asked .entry)) ⌝ }
 {
@@ -244,7 +244,8 @@ pub fn asked_size(asked: &[u8]) -> usize
             return UNASKABLE;
         };
         let end = next.0;
-        size = size + modified_size(value);
+        let bytes = modified_size(value);
+        size = size + bytes;
         if NAME_LIMIT < size {
             return UNASKABLE;
         }

@@ -1,5 +1,4 @@
 -- One size after the other.
-use native.Mathlib.Omega.{arith}
 use borrow.Author.Tests.{le-leb, lt-leb}
 use Rattle.names.specs.Layout.{nameLimit}
 use Rattle.index_file.proofs.both_askable.Statement.{statement}

@@ -78,7 +78,7 @@ hits : (c : tie.Joined1 Inv-loop μ-loop)
     c .if1 .hit ≡ matches (a .column .now) (take (e .before .name .given .0 .0 .0 - (at + 2)) (drop (at + 2) (a .s .now)))
 hits c =
     let start = turn (named (c .before .before .before)) .before .before .before .before in
-    ⊎-elim (λ came. came .2 ∙ came .1 .ensures ∙ one-length (start .args .column .now) _ (start .pre .1 .0) (came .0 .taken)) (λ came. came .2 ∙ came .1 .ensures) (c .if1 .came)
+    ⊎-elim (λ came. came .2 ∙ came .1 .ensures ∙ one-length (start .args .column .now) _ (start .pre .1 .0 .0) (start .pre .1 .0 .1) (came .0 .taken)) (λ came. came .2 ∙ came .1 .ensures) (c .if1 .came)
 
 returns-3 : tie.Need-returns-3 Inv-loop μ-loop
 returns-3 c =

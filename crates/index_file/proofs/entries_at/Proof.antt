@@ -63,7 +63,7 @@ hits : (c : tie.Joined2 Inv-loop μ-loop)
     c .if2 .hit ≡ matches (a .kind .now) (take (e .before .name .given .0 .0 .0 - (at + 2)) (drop (at + 2) (a .s .now)))
 hits c =
     let start = turn (c .before .before .before .before .before .before) .before .before .before in
-    ⊎-elim (λ came. came .2 ∙ came .1 .ensures ∙ one-length (start .args .kind .now) _ (start .pre .1) (came .0 .taken)) (λ came. came .2 ∙ came .1 .ensures) (c .if2 .came)
+    ⊎-elim (λ came. came .2 ∙ came .1 .ensures ∙ one-length (start .args .kind .now) _ (start .pre .1 .0) (start .pre .1 .1) (came .0 .taken)) (λ came. came .2 ∙ came .1 .ensures) (c .if2 .came)
 
 loop-again : tie.Need-loop-again Inv-loop μ-loop
 loop-again c =

@@ -1,7 +1,6 @@
 -- The invariant: what is left gives the whole, and the value fits the bits of the bytes read.
 use Prim.Native.Nat.{_≤_, _<_, _-_}
 use native.Mathlib.Omega.{arith}
-use borrow.Author.Needs.{needs}
 use Rattle.names.proofs.Steps.{Continued, continued-first, continued-few, value-small, continued-done, continued-low, continued-high, continued-next}
 use Rattle.names.proofs.continued_at.Statement.{statement}
 use Rattle.names.proofs.continued_at.Tie as tie

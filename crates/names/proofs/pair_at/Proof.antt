@@ -1,6 +1,5 @@
 -- One surrogate after the other.
 use mathlib.Core.Path.{_≡_, sym, _∙_}
-use native.Mathlib.Omega.{arith}
 use borrow.Author.Needs.{needs}
 use borrow.Author.Tests.{not-true, not-false}
 use Rattle.names.specs.Layout.{inThree, highOf, lowOf}
