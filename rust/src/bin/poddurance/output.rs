@@ -541,6 +541,22 @@ mod tests {
         assert!(json.contains(r#""column":"a\\xF0\\x9F\\x94\\xA5","column_bytes":null"#), "{json}");
     }
 
+    /// Escaped are double quotes, backslashes and what doesn't show by itself, here a mark that goes over another character, a space of
+    /// another width, and what has no width. The object has the name itself.
+    #[test]
+    fn names_that_look_alike() {
+        for (name, shown_as, object) in [
+            ("a \"b\" 'c' \\", r#"a \"b\" 'c' \\"#, r#""a \"b\" 'c' \\""#),
+            ("\u{E9}", "\u{E9}", "\"\u{E9}\""),
+            ("e\u{301}", r"e\u{301}", r#""e\u0301""#),
+            ("a\u{A0}b", r"a\u{a0}b", r#""a\u00a0b""#),
+            ("ab\u{200B}", r"ab\u{200b}", r#""ab\u200b""#),
+        ] {
+            assert_eq!(shown(name.as_bytes()), shown_as);
+            assert_eq!(json_name("column", name.as_bytes()), format!(r#""column":{object},"column_bytes":null"#));
+        }
+    }
+
     /// From the text of a name its bytes can be had again, so that no two names have the same.
     #[test]
     fn each_name_has_a_text_of_its_own() {
