@@ -258,7 +258,7 @@ impl Refusal {
         format!("{} ({}), {}", self.name(), self.number(), self.meaning())
     }
 
-    /// When it is given, as document 01's table of refusals says it; for LITERAL the names are added, which 02 adds.
+    /// When it is given, as document 01's table of refusals says it; LITERAL also tells of names, which document 02 added.
     ///
     /// ```
     /// use poddurance::Refusal;

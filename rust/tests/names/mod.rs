@@ -14,7 +14,7 @@ const VERSION: u8 = 3;
 const HEAD: u8 = 4;
 const ABSENT: u8 = 255;
 
-/// Where the fields with which a file begins stand: magic, version and head length.
+/// Where the fields with which a file begins stand, magic, version and head length, and where they end.
 const MAGIC_AT: usize = 0;
 const VERSION_AT: usize = 8;
 const HEAD_LENGTH_AT: usize = 12;
