@@ -21,7 +21,8 @@
  *    8 TWICE     a row already placed; carries the entry that places it again
  *    9 MISSING   a row never placed; carries the lowest one
  *   10 ROOM      a lent field has fewer than (n + 7) / 8 bytes
- *   11 LITERAL   literals don't fit question and type; a type, an edition or a question is unknown; an asked name is not standard UTF-8, or too long
+ *   11 LITERAL   literals don't fit question and type, or a name can't be asked for (it is not standard UTF-8, or too long); also: a type, an edition or a
+ *                question is unknown
  *   12 LIMIT     a limit is passed (an input buffer or a row count above 2147483647, and others)
  *   13 CHECKSUM  the checksum of a bin differs
  *   14 NOBIN     the bin number is not below the number of bins

@@ -56,9 +56,9 @@ pub enum Refusal {
     },
     /// A lent field has fewer than ceil(n/8) bytes.
     Room,
-    /// Literals don't fit question and type; or the asked name of a column or kind takes more than 65,535 bytes in modified UTF-8, so
-    /// that no file can store it ([`locate`](crate::locate)). A [`raw`](crate::raw) call also gives it for a name that is not standard
-    /// UTF-8 and for an unknown type, edition or question.
+    /// Literals don't fit question and type, or a name can't be asked for: that of a column or kind takes more than 65,535 bytes in
+    /// modified UTF-8, so that no file can store it ([`locate`](crate::locate)). A [`raw`](crate::raw) call also gives it for a name that
+    /// is not standard UTF-8 and for an unknown type, edition or question.
     Literal,
     /// A limit is passed.
     Limit,
@@ -258,10 +258,13 @@ impl Refusal {
         format!("{} ({}), {}", self.name(), self.number(), self.meaning())
     }
 
-    /// When it is given, as document 01's table of refusals says it.
+    /// When it is given, as document 01's table of refusals says it; LITERAL also tells of names, which document 02 added.
     ///
     /// ```
-    /// assert_eq!(poddurance::Refusal::Twice { entry: 2 }.meaning(), "a row already placed");
+    /// use poddurance::Refusal;
+    ///
+    /// assert_eq!(Refusal::Twice { entry: 2 }.meaning(), "a row already placed");
+    /// assert_eq!(Refusal::Literal.meaning(), "literals don't fit question and type, or a name can't be asked for");
     /// ```
     #[must_use]
     pub fn meaning(self) -> &'static str {
@@ -276,7 +279,7 @@ impl Refusal {
             Refusal::Twice { .. } => "a row already placed",
             Refusal::Missing { .. } => "a row never placed",
             Refusal::Room => "a lent field has fewer than ceil(n/8) bytes",
-            Refusal::Literal => "literals don't fit question and type",
+            Refusal::Literal => "literals don't fit question and type, or a name can't be asked for",
             Refusal::Limit => "a limit is passed",
             Refusal::Checksum => "bin checksum differs",
             Refusal::NoBin => "bin number not below the number of bins",

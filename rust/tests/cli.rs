@@ -280,6 +280,7 @@ fn names_that_cannot_be_asked_for() {
     let [locate, audit, ask, file, s, ty] = ["locate", "audit", "ask", &sound, "s", "TINYINT"].map(OsStr::new);
     complains(&[locate, file, bad], r#"COLUMN "s\xFF" is not UTF-8"#);
     complains(&[locate, file, s, bad], r#"KIND "s\xFF" is not UTF-8"#);
+    complains(&[locate, file, bad, OsStr::new("--json")], r#"COLUMN "s\xFF" is not UTF-8"#);
     complains(&[audit, file, bad, ty], r#"COLUMN "s\xFF" is not UTF-8"#);
     complains(&[ask, file, bad, ty, OsStr::new("IS-NULL")], r#"COLUMN "s\xFF" is not UTF-8"#);
     // It is said before the file is looked for.
@@ -965,10 +966,17 @@ fn help_and_version() {
         assert!(out.contains("poddurance ask FILE COLUMN TYPE QUESTION [LITERAL..] [--edition 1|2]\n"));
         // What each edition does with null rows.
         assert!(out.contains("1: they choose null rows too") && out.contains("2: they choose no null row"));
-        // What can't be asked for.
-        assert!(
-            out.contains("A name over 65535 bytes in it") && out.contains("One\nthat has the zero character can't be a word")
-        );
+        // What can't be asked for, and how names are shown.
+        let sentences = out.split_whitespace().collect::<Vec<_>>().join(" ");
+        for sentence in [
+            "A name over 65535 bytes in it, which no file can store, is refused: LITERAL (11).",
+            "One that is not UTF-8 is wrong usage, also with --json.",
+            "One that has the zero character can't be a word",
+            "with \\ escapes for double quotes, backslashes and what doesn't show by itself,",
+            "The name itself is in --json.",
+        ] {
+            assert!(sentences.contains(sentence), "{sentence}");
+        }
         // The one reader that isn't proved says so.
         assert!(out.contains("A plain reader lists them, which\n             is not proved"));
         assert!(out.lines().all(|line| line.len() <= 120 && !line.ends_with(' ')));

@@ -50,9 +50,9 @@ const POSSIBLE: [&[u8]; CALLS.len()] = [
 
 const DEFAULT_SEED: u64 = 20_240_101;
 const DEFAULT_CASES: u64 = 300_000;
-/// How many fixed calls there are at least. With the random ones, and the calls of the test `faults`, they are the README's over
-/// 700,000.
-const FIXED_CALLS: u64 = 245_000;
+/// How many fixed calls there are at least. With the random ones, and the calls of the test `faults`, they are the README's nearly
+/// 1,000,000.
+const FIXED_CALLS: u64 = 250_000;
 
 const MAX: u64 = 2_147_483_647;
 

@@ -28,8 +28,8 @@ const CONTAINER: u32 = 65_536;
 /// One container; too few for offsets in a bitmap with run flags, just as many as have them, more; and more than a byte of flags is for.
 const COUNTS: [usize; 5] = [1, 3, 4, 5, 20];
 
-/// How many calls the tests that make most of them compare at least. With those of the test `differential` they are the README's over
-/// 700,000.
+/// How many calls the tests that make most of them compare at least. With those of the test `differential` they are the README's
+/// nearly 1,000,000.
 const CUT_CALLS: u64 = 300_000;
 const LEFT_OVER_CALLS: u64 = 60_000;
 const DAMAGE_CALLS: u64 = 30_000;

@@ -1,7 +1,8 @@
 //! Names of columns and kinds: asked for in standard UTF-8, compared with what Java's `DataOutputStream.writeUTF` stores.
 //!
-//! The bytes that it stored are in tests/java/stored-names. With a JDK (`javac` on the path) tests/java/Names.java stores the names
-//! anew, and every character besides; the test says which it was.
+//! The bytes that it stored are in tests/java/stored-names. Where there is a Java that runs source files (11 or newer), it runs
+//! tests/java/Names.java, which stores the names anew, and every character besides; the test says which it was. What is stored is
+//! compared with what the reference's encoder says, on which the differential test relies.
 
 mod support;
 
@@ -9,19 +10,24 @@ use std::fs::{self, File};
 use std::path::{Path, PathBuf};
 use std::process::{Command, Stdio};
 use std::str;
+use std::time::Instant;
 
 use poddurance::raw::{self, Fault, Record};
 use poddurance::Refusal;
-use reference::random::Random;
+use reference::names::modified;
+use reference::random::{Random, EDGES, NOT_UTF8};
 use reference::writer::{index_file_traced, Content, FileLayout, Index, IndexedColumn};
 use support::{hex, say, Lender};
 
 const SHORT: u8 = 1;
+const MAGIC: u8 = 2;
+const VERSION: u8 = 3;
 const HEAD: u8 = 4;
 const LITERAL: u8 = 11;
 
-/// The most bytes of a stored name.
+/// The most bytes of a stored name, and of a stored character.
 const MOST: usize = 65_535;
+const MOST_OF_A_CHARACTER: usize = 6;
 
 const BITMAP: &[u8] = b"bitmap";
 
@@ -36,60 +42,42 @@ fn index_file(columns: &[(&[u8], &[&[u8]])]) -> Vec<u8> {
     index_file_traced(&columns.iter().map(column).collect::<Vec<_>>(), &FileLayout::default()).bytes
 }
 
-/// Where the first column's name stands: behind magic, version, head length and column number, and its own length.
-const FIRST_NAME: usize = 8 + 4 + 4 + 4 + 2;
+/// Where the fields with which a file begins stand, and the first column's name: behind column number and its own length.
+const MAGIC_AT: usize = 0;
+const VERSION_AT: usize = 8;
+const HEAD_LENGTH_AT: usize = 12;
+const COLUMN_NUMBER_AT: usize = 16;
+const FIRST_NAME: usize = COLUMN_NUMBER_AT + 4 + 2;
 
 /// The places of the bodies in such a file, which lie one behind another at its end.
 fn place(file: &[u8], number: usize, of: usize) -> (u8, u64, u64) {
     (raw::ACCEPTED, (file.len() - (of - number) * SMALL.len()) as u64, SMALL.len() as u64)
 }
 
-/// Modified UTF-8 as Java's page on DataInput defines it, for each unit of UTF-16.
-fn modified(name: &str) -> Vec<u8> {
-    let mut stored = Vec::with_capacity(name.len());
-    for unit in name.encode_utf16() {
-        let [high, middle, low] = [unit >> 12, unit >> 6 & 0x3F, unit & 0x3F].map(|bits| bits as u8);
-        match unit {
-            0x0001..=0x007F => stored.push(low | middle << 6),
-            0x0000 | 0x0080..=0x07FF => stored.extend([0xC0 | middle, 0x80 | low]),
-            0x0800..=0xFFFF => stored.extend([0xE0 | high, 0x80 | middle, 0x80 | low]),
-        }
-    }
-    stored
-}
-
-/// Characters at which the form changes, and some between.
-const CHARACTERS: [char; 14] = [
-    '\0',
-    '\u{1}',
-    'a',
-    '\u{7F}',
-    '\u{80}',
-    '\u{7FF}',
-    '\u{800}',
-    '\u{D7FF}',
-    '\u{E000}',
-    '\u{FFFF}',
-    '\u{10000}',
-    '\u{1F525}',
-    '\u{2FFFF}',
-    '\u{10FFFF}',
-];
-
 /// Names of no character, of one, of two and of several, of the most bytes that can be stored, and of more.
 fn names() -> Vec<String> {
     let mut names =
         ["", "state", "bitmap", "pump 🔥", "a\0b", "Füllstand 水位", "🔥\0🔥\0é", "\\xF0", "c0 80"].map(String::from).to_vec();
-    names.extend(CHARACTERS.map(String::from));
-    names.extend(CHARACTERS.iter().flat_map(|first| CHARACTERS.map(|second| String::from_iter([*first, second]))));
-    names.push(CHARACTERS.iter().collect());
-    names.push(CHARACTERS.iter().rev().collect());
-    for more in ["", "a"] {
-        names.push("a".repeat(65_535) + more);
-        names.push("\0".repeat(32_767) + "a" + more);
-        names.push("\u{10000}".repeat(10_922) + "aaa" + more);
+    names.extend(EDGES.map(String::from));
+    names.extend(EDGES.iter().flat_map(|first| EDGES.map(|second| String::from_iter([*first, second]))));
+    names.push(EDGES.iter().collect());
+    names.push(EDGES.iter().rev().collect());
+    names.extend(longest());
+    names.extend(too_long());
+    names
+}
+
+/// Names of characters of one, two and six bytes that take the most bytes.
+fn longest() -> [String; 3] {
+    ["a".repeat(MOST), "\0".repeat(MOST / 2) + "a", "\u{10000}".repeat(MOST / MOST_OF_A_CHARACTER) + "aaa"]
+}
+
+/// Names that take one byte more, and those that have one character more than fit.
+fn too_long() -> Vec<String> {
+    let mut names = longest().map(|name| name + "a").to_vec();
+    for (character, width) in [("\0", 2), ("\u{800}", 3), ("\u{10FFFF}", MOST_OF_A_CHARACTER)] {
+        names.push(character.repeat(MOST / width + 1));
     }
-    names.extend(["\0".repeat(32_768), "\u{800}".repeat(21_846), "\u{10FFFF}".repeat(10_923)]);
     names
 }
 
@@ -115,44 +103,25 @@ fn folder() -> PathBuf {
     Path::new(env!("CARGO_MANIFEST_DIR")).join("tests/java")
 }
 
-/// The program Names.java, compiled, or the reason why there is none.
-struct Java {
-    classes: PathBuf,
+/// What Names.java writes, with these words and this standard input, or the reason why Java doesn't run it. A Java that is missing, too
+/// old or without a compiler is no failure, and one that writes other bytes is.
+fn written_by_java(words: &[&str], input: Stdio) -> Result<Vec<u8>, String> {
+    let ran = Command::new("java").arg(folder().join("Names.java")).args(words).stdin(input).output();
+    let output = ran.map_err(|error| format!("java can't be run: {error}"))?;
+    if !output.status.success() {
+        return Err(format!("java doesn't run tests/java/Names.java: {}", String::from_utf8_lossy(&output.stderr).trim_end()));
+    }
+    Ok(output.stdout)
 }
 
-impl Java {
-    /// The classes are put into a folder of this name.
-    fn compile(name: &str) -> Result<Java, &'static str> {
-        for program in ["javac", "java"] {
-            let there = Command::new(program).arg("-version").stdout(Stdio::null()).stderr(Stdio::null()).status();
-            if !there.is_ok_and(|status| status.success()) {
-                return Err("there is no JDK ('javac' and 'java')");
-            }
-        }
-        let classes = Path::new(env!("CARGO_TARGET_TMPDIR")).join(name);
-        let source = folder().join("Names.java");
-        let output = Command::new("javac").arg("-d").arg(&classes).arg(&source).output().expect("the compiler ran before");
-        assert!(output.status.success(), "tests/java/Names.java doesn't compile: {}", String::from_utf8_lossy(&output.stderr));
-        Ok(Java { classes })
-    }
-
-    /// What the program writes, with these words and this standard input.
-    fn written(&self, words: &[&str], input: &[u8]) -> Vec<u8> {
-        let file = self.classes.join("input");
-        fs::write(&file, input).expect("the folder can be written");
-        let input = File::open(&file).expect("it was just written");
-        let java = Command::new("java").arg("-cp").arg(&self.classes).arg("Names").args(words).stdin(input).output();
-        let output = java.expect("java ran before");
-        assert!(output.status.success(), "Names.java failed: {}", String::from_utf8_lossy(&output.stderr));
-        output.stdout
-    }
-
-    /// What Java stores of these names.
-    fn stored(&self, names: &[String]) -> Vec<u8> {
-        let length = |name: &String| (name.len() as u32).to_be_bytes();
-        let input: Vec<u8> = names.iter().flat_map(|name| [&length(name)[..], name.as_bytes()].concat()).collect();
-        self.written(&[], &input)
-    }
+/// What Java stores of these names.
+fn stored_by_java(names: &[String]) -> Result<Vec<u8>, String> {
+    let length = |name: &String| (name.len() as u32).to_be_bytes();
+    let input: Vec<u8> = names.iter().flat_map(|name| [&length(name)[..], name.as_bytes()].concat()).collect();
+    // From a file: it is more than a pipe takes while Java waits for what it writes to be read.
+    let file = Path::new(env!("CARGO_TARGET_TMPDIR")).join("names-to-store");
+    fs::write(&file, input).expect("the folder can be written");
+    written_by_java(&[], File::open(&file).expect("it was just written").into())
 }
 
 /// The names and what Java stored of them, as the file in the repository has it.
@@ -169,35 +138,35 @@ fn names_and_stored() -> Vec<(String, Stored)> {
 #[test]
 #[ignore = "writes tests/java/stored-names"]
 fn store_names_by_java() {
-    let java = Java::compile("names-to-keep").expect("a JDK is needed");
-    fs::write(folder().join("stored-names"), java.stored(&names())).unwrap();
+    let stored = stored_by_java(&names()).unwrap_or_else(|reason| panic!("{reason}"));
+    fs::write(folder().join("stored-names"), stored).unwrap();
 }
 
 #[test]
 fn stored_names_are_java_s() {
     let names = names();
-    match Java::compile("names") {
+    match stored_by_java(&names) {
         Err(reason) => {
-            say(&format!("\nskipped: names stored anew by Java, since {reason}; those that it stored before are compared"))
+            say(&format!("\nskipped: names stored anew by Java; those that it stored before are compared, since {reason}"))
         }
-        Ok(java) => {
+        Ok(stored) => {
             let kept = fs::read(folder().join("stored-names")).unwrap();
-            assert!(java.stored(&names) == kept, "Java stores other names than those in tests/java/stored-names");
+            assert!(stored == kept, "Java stores other names than those in tests/java/stored-names");
             say(&format!("\n{} names stored anew by Java, the same as before", names.len()));
         }
     }
-    let mut too_long = 0;
+    let mut refused = 0;
     for (name, stored) in names_and_stored() {
         let expected = modified(&name);
         match stored {
             Some(stored) => assert!(stored == expected, "{:.20?} is stored in another form", name),
             None => {
                 assert!(expected.len() > MOST, "{:.20?} is not stored", name);
-                too_long += 1;
+                refused += 1;
             }
         }
     }
-    assert_eq!(too_long, 6);
+    assert_eq!(refused, too_long().len());
 }
 
 /// Each name is found by what Java stored of it, as column and as kind, in the file and embedded, and by nothing else. Those that Java
@@ -262,11 +231,11 @@ fn each_name_finds_its_own() {
 /// All 1,112,064 characters, each as a name: found by its modified form, and by its UTF-8 where that is the same.
 #[test]
 fn every_character() {
-    let java = Java::compile("characters").map(|java| read(&java.written(&["characters"], &[])));
+    let java = written_by_java(&["characters"], Stdio::null()).map(|written| read(&written));
     let mut by_java = java.iter().flatten();
     let absent = (raw::ABSENT, 0, 0);
     // A file for each width of a name, which stands behind its length of two bytes.
-    let mut files: Vec<Vec<u8>> = (0..=6).map(|width| index_file(&[(&vec![0; width], &[BITMAP])])).collect();
+    let mut files: Vec<Vec<u8>> = (0..=MOST_OF_A_CHARACTER).map(|width| index_file(&[(&vec![0; width], &[BITMAP])])).collect();
     let (mut asked, mut columns, mut count) = ([0; 4], Lender::new(), 0);
     for character in '\0'..=char::MAX {
         let name = character.encode_utf8(&mut asked);
@@ -297,29 +266,6 @@ fn every_character() {
     }
 }
 
-/// Names that are not standard UTF-8, by their fault.
-fn not_utf_8() -> Vec<Vec<u8>> {
-    let mut names: Vec<Vec<u8>> = Vec::new();
-    // Overlong, the first and the last of each length; zero as in modified UTF-8 is one.
-    names.extend([&[0xC0, 0x80][..], &[0xC1, 0xBF], &[0xE0, 0x80, 0x80], &[0xE0, 0x9F, 0xBF]].map(<[u8]>::to_vec));
-    names.extend([[0xF0, 0x80, 0x80, 0x80], [0xF0, 0x8F, 0xBF, 0xBF]].map(Vec::from));
-    // Surrogates, and a pair of them as in modified UTF-8.
-    names.extend([[0xED, 0xA0, 0x80], [0xED, 0xAF, 0xBF], [0xED, 0xB0, 0x80], [0xED, 0xBF, 0xBF]].map(Vec::from));
-    names.extend([[0xED, 0xA0, 0x80, 0xED, 0xB0, 0x80], [0xED, 0xA0, 0xBD, 0xED, 0xB4, 0xA5]].map(Vec::from));
-    // Above 10FFFF, and bytes with which nothing begins.
-    names.extend([[0xF4, 0x90, 0x80, 0x80], [0xF5, 0x80, 0x80, 0x80], [0xF7, 0xBF, 0xBF, 0xBF]].map(Vec::from));
-    names.extend([[0xF8, 0x88, 0x80, 0x80, 0x80], [0xFB, 0xBF, 0xBF, 0xBF, 0xBF]].map(Vec::from));
-    names.extend((0xF8..=0xFF).map(|byte| vec![byte]));
-    // A byte that continues nothing.
-    names.extend([&[0x80][..], &[0xBF], &[0xC3, 0xA4, 0x80], &[0xF0, 0x9F, 0x94, 0xA5, 0xA5]].map(<[u8]>::to_vec));
-    // Cut: each proper part from the front of a character of several bytes.
-    for character in CHARACTERS.into_iter().filter(|character| character.len_utf8() > 1) {
-        let name = character.to_string().into_bytes();
-        names.extend((1..name.len()).map(|length| name[..length].to_vec()));
-    }
-    names
-}
-
 #[test]
 fn names_that_are_not_utf_8_are_refused_before_the_file() {
     let sound = index_file(&[(b"s", &[BITMAP]), (&modified("🔥"), &[BITMAP])]);
@@ -328,19 +274,27 @@ fn names_that_are_not_utf_8_are_refused_before_the_file() {
         file[at] ^= 0x40;
         file
     };
-    // SHORT, MAGIC, VERSION, HEAD.
-    let files = [sound.clone(), vec![], vec![0], sound[..15].to_vec(), changed(0), changed(8), sound[..30].to_vec(), changed(12)];
-    for (file, answer) in files.iter().zip([0, SHORT, SHORT, SHORT, 2, 3, HEAD, HEAD]) {
-        assert_eq!(raw::locate(&[], file, b"s", BITMAP).0, answer);
+    let files = [
+        (sound.clone(), raw::ACCEPTED),
+        (vec![], SHORT),
+        (vec![0], SHORT),
+        (sound[..COLUMN_NUMBER_AT - 1].to_vec(), SHORT),
+        (changed(MAGIC_AT), MAGIC),
+        (changed(VERSION_AT), VERSION),
+        (sound[..FIRST_NAME].to_vec(), HEAD),
+        (changed(HEAD_LENGTH_AT), HEAD),
+    ];
+    for (file, answer) in &files {
+        assert_eq!(raw::locate(&[], file, b"s", BITMAP).0, *answer);
     }
     let (mut names, mut others) = (Lender::new(), Lender::new());
-    for fault in not_utf_8() {
+    for fault in NOT_UTF8 {
         // Alone, before other characters and behind them.
         for (before, behind) in [("", ""), ("", "a"), ("", "🔥"), ("s", ""), ("🔥\0", ""), ("ab", "cd")] {
-            let bad = [before.as_bytes(), &fault, behind.as_bytes()].concat();
+            let bad = [before.as_bytes(), fault, behind.as_bytes()].concat();
             assert!(str::from_utf8(&bad).is_err(), "{}", hex(&bad));
             let bad = names.lend(&bad);
-            for file in &files {
+            for (file, _) in &files {
                 // Both names are read, also where the column is not listed.
                 for (embedded, file) in [(&[][..], &file[..]), (file, &[]), (file, &sound)] {
                     for column in ["s", "t", "🔥", ""] {
@@ -406,7 +360,7 @@ fn what_is_utf_8() {
     for _ in 0..200_000 {
         let mut name = Vec::new();
         for _ in 0..random.between(0, 12) {
-            name.extend(random.pick(&CHARACTERS).to_string().into_bytes());
+            name.extend(random.pick(&EDGES).to_string().into_bytes());
         }
         let at = random.below(name.len() + 1);
         match random.below(4) {
@@ -425,7 +379,7 @@ fn what_is_utf_8() {
 fn the_longest_names() {
     let sound = index_file(&[(b"s", &[BITMAP])]);
     let mut columns = Lender::new();
-    for character in CHARACTERS {
+    for character in EDGES {
         let width = modified(&character.to_string()).len();
         let most = MOST / width;
         for count in [most - 1, most] {
@@ -516,6 +470,40 @@ fn improper_stored_names() {
             assert_eq!(raw::locate(&[], &by_column, asked.as_bytes(), BITMAP), (HEAD, 0, 0), "{asked:?}");
             assert_eq!(raw::locate(&[], &by_kind, b"c", asked.as_bytes()), (HEAD, 0, 0), "{asked:?}");
             assert_eq!(raw::locate(&[], &by_column, b"other", BITMAP), absent, "{asked:?}");
+        }
+    }
+}
+
+/// How long Locate takes goes by the sum of the bytes of file and names, and not by their product: among very many short names the longest
+/// are found absent about as fast as a short one. If each stored name were compared with all of the asked one, that would take thousands
+/// of times as long.
+#[test]
+fn long_names_in_a_long_head() {
+    const LISTED: usize = 200_000;
+    const RUNS: usize = 9;
+    const MOST_TIMES: u32 = 50;
+    let stored = b"b".to_vec();
+    let columns = vec![IndexedColumn { name: stored.clone(), indexes: vec![] }; LISTED];
+    let indexes = vec![Index { kind: stored, content: Content::At { start: 0, length: 0 } }; LISTED];
+    let file = |columns: &[IndexedColumn]| index_file_traced(columns, &FileLayout::default()).bytes;
+    let (by_column, by_kind) = (file(&columns), file(&[IndexedColumn { name: b"s".to_vec(), indexes }]));
+
+    // The shortest of several runs: other work on the machine can only lengthen them.
+    let time = |file: &[u8], column: &[u8], kind: &[u8]| {
+        let run = |_| {
+            let start = Instant::now();
+            assert_eq!(raw::locate(&[], file, column, kind), (raw::ABSENT, 0, 0));
+            start.elapsed()
+        };
+        (0..RUNS).map(run).min().expect("there are runs")
+    };
+    let times = |name: &str| [time(&by_column, name.as_bytes(), BITMAP), time(&by_kind, b"s", name.as_bytes())];
+    let short = times("a");
+    // Each begins with the stored name, and has characters of one, two or six bytes behind it.
+    for (character, width) in [("b", 1), ("\0", 2), ("🔥", MOST_OF_A_CHARACTER)] {
+        let long = times(&format!("b{}", character.repeat((MOST - 1) / width)));
+        for (what, long, short) in [("column", long[0], short[0]), ("kind", long[1], short[1])] {
+            assert!(long <= MOST_TIMES * short, "a {what} of many {character:?}: {long:?}, and a short one: {short:?}");
         }
     }
 }

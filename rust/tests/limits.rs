@@ -43,10 +43,10 @@ fn locate_refuses_names_and_the_buffer_it_looks_at() {
     // And before LITERAL, for the other name or with a file that is too long.
     assert_eq!(raw::locate(&HEAD, &[], &long, b"\xFF"), refused);
     assert_eq!(raw::locate(&HEAD, &[], b"\xFF", &long), refused);
-    for too_long in [&vec![b's'; 65_536][..], b"\xFF"] {
+    for name in [&[b's'; 65_536][..], b"\xFF"] {
         for (embedded, file) in [(&long[..], &[][..]), (&[], &long)] {
-            assert_eq!(raw::locate(embedded, file, too_long, b"bitmap"), refused);
-            assert_eq!(raw::locate(embedded, file, b"s", too_long), refused);
+            assert_eq!(raw::locate(embedded, file, name, b"bitmap"), refused);
+            assert_eq!(raw::locate(embedded, file, b"s", name), refused);
         }
     }
     assert_eq!(poddurance::locate(&[], &long, "s", "bitmap"), Err(Refusal::Limit));

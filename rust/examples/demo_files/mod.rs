@@ -4,8 +4,8 @@
 use std::ops::Range;
 
 use reference::types;
-use reference::writer::{bitmap, body, body_of, body_traced, deletion_file, index_file, index_file_traced};
-use reference::writer::{BitmapForm, Column, Content, FileLayout, Groups, Index, IndexedColumn, Layout, Traced};
+use reference::writer::{bitmap, body, body_of, body_traced, deletion_file, index_file};
+use reference::writer::{BitmapForm, Column, Groups, Layout, Traced};
 
 /// State and alarm of a pump at one time; an alarm that the pump didn't report is null.
 pub type Sample = (&'static str, Option<bool>);
@@ -36,9 +36,6 @@ const FAULT_ROW: u32 = 16;
 
 /// Whether the burner is lit, a sample a minute; null where it didn't report.
 pub const BURNER: [Option<bool>; 8] = [OFF, OFF, ON, ON, None, ON, ON, OFF];
-
-/// The name of the burner's column, U+1F525, as Java's `writeUTF` stores it: the surrogates D83D and DD25, three bytes each.
-const BURNER_COLUMN: &[u8] = b"\xED\xA0\xBD\xED\xB4\xA5";
 
 /// The seconds of a day: one sample each, of one pump, and more than the 65,536 rows of a container.
 pub const DAY: u32 = 86_400;
@@ -82,22 +79,19 @@ pub fn files() -> Vec<(&'static str, Vec<u8>)> {
         ("pumps-row-lost.index", pumps(&row_lost(states.clone()), &alarms, 1)),
         ("pumps-row-doubled.index", pumps(&row_doubled(states), &alarms, 2)),
         ("day-broken.index", index_file(&[("state", "bitmap", &broken(day()))])),
-        ("burner.index", burner_file()),
+        ("burner.index", index_file(&[("🔥", "bitmap", &body_of(&burner(), &smallest(2)))])),
         ("pumps.deletions", deletion_file(&deletions)),
     ]
 }
 
 fn pumps(states: &Groups, alarms: &Groups, version: u8) -> Vec<u8> {
-    let layout = Layout::version(version).with_form(BitmapForm::Smallest);
+    let layout = smallest(version);
     index_file(&[("state", "bitmap", &body(states, &layout)), ("alarm", "bitmap", &body(alarms, &layout))])
 }
 
-/// The index on the burner's column, version 2.
-fn burner_file() -> Vec<u8> {
-    let body = body_of(&burner(), &Layout::version(2).with_form(BitmapForm::Smallest));
-    let index = Index { kind: b"bitmap".to_vec(), content: Content::Body(body) };
-    let column = IndexedColumn { name: BURNER_COLUMN.to_vec(), indexes: vec![index] };
-    index_file_traced(&[column], &FileLayout::default()).bytes
+/// The layout of all bodies: each bitmap in its smallest form.
+fn smallest(version: u8) -> Layout {
+    Layout::version(version).with_form(BitmapForm::Smallest)
 }
 
 /// The writer adds the last `fault` sample to no bitmap. All lengths and cardinalities are those of what is there.
@@ -119,7 +113,7 @@ pub fn day() -> Traced {
     let rows = |seconds: &[Range<u32>]| seconds.iter().cloned().flatten().collect();
     let values = DAY_STATES.iter().map(|(state, seconds)| (state.as_bytes().to_vec(), rows(seconds))).collect();
     let groups = Groups { ty: types::STRING, rows: DAY, nulls: Vec::new(), values };
-    body_traced(&groups, &Layout::version(2).with_form(BitmapForm::Smallest).with_blocks_of(2))
+    body_traced(&groups, &smallest(2).with_blocks_of(2))
 }
 
 /// The lowest bit of the last run of `idle` flips: the run, in the second container, has a row less than the container's header says.

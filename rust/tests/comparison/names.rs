@@ -59,11 +59,7 @@ fn fault_of(name: &[u8]) -> Option<Fault> {
             });
         }
     };
-    (modified_length(text) > MOST_BYTES).then_some(Fault::TooLong)
-}
-
-fn modified_length(name: &str) -> usize {
-    name.len() + name.chars().map(|one| usize::from(one == '\0') + 2 * usize::from(one > '\u{FFFF}')).sum::<usize>()
+    (modified(text).len() > MOST_BYTES).then_some(Fault::TooLong)
 }
 
 /// What another name is answered where a wrong one is LITERAL.
@@ -78,7 +74,7 @@ const OF_NAMES: [OfNames; 6] = [
     ("zero and a character above FFFF", |name| name.contains('\0') && name.chars().any(|one| one > '\u{FFFF}')),
     ("a character of two or three bytes", |name| name.chars().any(|one| ('\u{80}'..='\u{FFFF}').contains(&one))),
     ("no character", str::is_empty),
-    ("65,535 modified bytes", |name| modified_length(name) == MOST_BYTES),
+    ("65,535 modified bytes", |name| modified(name).len() == MOST_BYTES),
 ];
 
 /// The two names of a call.

@@ -14,8 +14,14 @@ const VERSION: u8 = 3;
 const HEAD: u8 = 4;
 const ABSENT: u8 = 255;
 
-/// Magic, version and head length.
+/// Where the fields with which a file begins stand, magic, version and head length, and where they end.
+const MAGIC_AT: usize = 0;
+const VERSION_AT: usize = 8;
+const HEAD_LENGTH_AT: usize = 12;
 const FIRST_FIELDS: usize = 16;
+
+/// The sign of a field whose first byte it is in.
+const TOP_BIT: u8 = 0x80;
 
 /// The body of one row.
 fn seven() -> Vec<u8> {
@@ -161,10 +167,10 @@ fn no_utf8(both: &mut Comparison) {
     let sound = index_file(&[("s", "bitmap", &seven())]);
     let changed = |at: usize| {
         let mut file = sound.clone();
-        file[at] ^= 1;
+        file[at] ^= TOP_BIT;
         file
     };
-    let (magic, version, negative_length) = (changed(7), changed(11), changed(12));
+    let (magic, version, negative_length) = (changed(MAGIC_AT), changed(VERSION_AT), changed(HEAD_LENGTH_AT));
     let twice = file_of(&[b"s", b"s"], &[b"bitmap"], (b"s", b"bitmap"));
     let none = index_file(&[]);
     let files: [(&[u8], u8); 10] = [
@@ -268,9 +274,10 @@ fn longest(both: &mut Comparison) {
                 answers(both, Where::in_file(&[], name.as_bytes(), name.as_bytes()), LITERAL);
             }
         }
-        // Of more bytes than any name has, standard UTF-8 or not.
+        // As many characters as the longest name has bytes: too many, but for those of one byte.
         let longer = character.repeat(MOST);
         answers(both, Where::in_file(&file, longer.as_bytes(), most.as_bytes()), if width == 1 { ACCEPTED } else { LITERAL });
+        // Too many bytes, and the last one begins a character that is cut off.
         let cut = [longer.as_bytes(), &[0xC2]].concat();
         answers(both, Where::in_file(&file, most.as_bytes(), &cut), LITERAL);
     }

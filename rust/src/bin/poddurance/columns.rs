@@ -94,6 +94,8 @@ impl<'a> Fields<'a> {
 #[cfg(test)]
 mod tests {
     use super::*;
+    use std::collections::BTreeSet;
+
     use crate::modified::decoded;
     use poddurance::raw;
     use reference::random::{self, Random};
@@ -144,31 +146,47 @@ mod tests {
         }
     }
 
-    /// The places of an index that is listed once, by name, are those that the library finds; a head that the library refuses for
-    /// its form is refused here.
+    /// An index that is listed once, by name, is one that the library finds, at the same place; a head that the library refuses for its
+    /// form is refused here.
     #[test]
     fn lists_what_locate_finds() {
         // Longer than any name there, so that it is ABSENT from every head that is right in form.
         let nothing = vec![b'n'; 65_535];
-        let (mut found, mut refused) = (0, 0);
+        let (mut found, mut refused, mut improper) = (0, 0, 0);
         for seed in 0..2_000 {
             let random = &mut Random::new(seed);
             let (name, kind) = (random::name(random), random::name(random));
             let body = random.bytes(9);
-            let (columns, layout) = random::index_file(random, &name, &kind, &body);
+            let (mut columns, layout) = random::index_file(random, &name, &kind, &body);
+            // So far each name is stored in modified form.
+            let proper: BTreeSet<Vec<u8>> =
+                names_of(&columns).into_iter().flat_map(|(name, kinds)| [vec![name], kinds].concat()).collect();
+            random::add_improper(random, &mut columns, &name, &kind);
             let traced = index_file_traced(&columns, &layout);
             let listed = list(&traced.bytes).unwrap();
-            assert_eq!(names(&listed), columns.iter().map(kinds).collect::<Vec<_>>(), "seed {seed}");
+            assert_eq!(names(&listed), names_of(&columns), "seed {seed}");
             for column in &listed {
                 let once = listed.iter().filter(|other| other.name == column.name).count() == 1;
                 for index in column.indexes.iter() {
                     let alone = column.indexes.iter().filter(|other| other.kind == index.kind).count() == 1;
-                    // What can't be decoded can't be asked for.
-                    let (Some(asked), Some(kind)) = (decoded(&column.name), decoded(&index.kind)) else { continue };
+                    let asked = [&column.name, &index.kind].map(|stored| {
+                        let name = decoded(stored);
+                        assert!(name.is_some() || !proper.contains(stored), "seed {seed}: {stored:X?} isn't decoded");
+                        name
+                    });
+                    let [Some(asked), Some(kind)] = asked else {
+                        // It can't be asked for.
+                        improper += 1;
+                        continue;
+                    };
                     let (answer, start, length) = raw::locate(&[], &traced.bytes, asked.as_bytes(), kind.as_bytes());
-                    if once && alone && answer == raw::ACCEPTED {
-                        assert_eq!((start as i64, length as i64), (index.start.into(), index.length.into()), "seed {seed}");
-                        found += 1;
+                    if once && alone {
+                        assert_ne!(answer, raw::ABSENT, "seed {seed}");
+                        // Else it is HEAD, for a place that is not in the file.
+                        if answer == raw::ACCEPTED {
+                            assert_eq!((start as i64, length as i64), (index.start.into(), index.length.into()), "seed {seed}");
+                            found += 1;
+                        }
                     }
                 }
             }
@@ -177,7 +195,8 @@ mod tests {
             assert_eq!(list(&damaged).is_ok(), sound, "seed {seed}");
             refused += usize::from(!sound);
         }
-        assert!(found > 2_000 && refused > 500, "{found} indexes found, {refused} heads refused");
+        let occurred = format!("{found} indexes found, {improper} with improper names, {refused} heads refused");
+        assert!(found > 2_000 && improper > 500 && refused > 500, "{occurred}");
         assert_eq!(list(&index_file_traced(&[], &FileLayout::default()).bytes), Ok(vec![]));
     }
 
@@ -187,7 +206,7 @@ mod tests {
         columns.iter().map(|one| (one.name.clone(), one.indexes.iter().map(|index| index.kind.clone()).collect())).collect()
     }
 
-    fn kinds(column: &IndexedColumn) -> Names {
-        (column.name.clone(), column.indexes.iter().map(|index| index.kind.clone()).collect())
+    fn names_of(columns: &[IndexedColumn]) -> Vec<Names> {
+        columns.iter().map(|one| (one.name.clone(), one.indexes.iter().map(|index| index.kind.clone()).collect())).collect()
     }
 }

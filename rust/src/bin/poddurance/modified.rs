@@ -70,20 +70,7 @@ fn unit(stored: &[u8]) -> Option<(u32, usize)> {
 #[cfg(test)]
 mod tests {
     use super::*;
-
-    /// As Java's page on DataInput has it, unit by unit.
-    fn modified(name: &str) -> Vec<u8> {
-        let mut stored = Vec::new();
-        for unit in name.encode_utf16() {
-            let [high, middle, low] = [unit >> 12, unit >> 6 & 0x3F, unit & 0x3F].map(|bits| bits as u8);
-            match unit {
-                0x0001..=0x007F => stored.push(unit as u8),
-                0x0000 | 0x0080..=0x07FF => stored.extend([0xC0 | middle, 0x80 | low]),
-                0x0800..=0xFFFF => stored.extend([0xE0 | high, 0x80 | middle, 0x80 | low]),
-            }
-        }
-        stored
-    }
+    use reference::names::modified;
 
     #[test]
     fn every_character_is_decoded() {

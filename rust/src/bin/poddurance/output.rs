@@ -49,11 +49,12 @@ pub enum Part {
 }
 
 impl Part {
-    /// What a refusal says of it: document 01's words, which for LITERAL tell of literals, or the fault of a name.
+    /// What a refusal says of it: the library's words, but for LITERAL, which has several causes, the one that it was.
     fn meaning(self, refusal: Refusal) -> &'static str {
         match self {
             Part::Column => "the column's name takes more than 65535 bytes in modified UTF-8",
             Part::Kind => "the kind's name takes more than 65535 bytes in modified UTF-8",
+            Part::Literals if refusal == Refusal::Literal => "literals don't fit question and type",
             Part::Literals | Part::Index | Part::Deletions | Part::DeletionsBesideIndex => refusal.meaning(),
         }
     }
@@ -95,10 +96,10 @@ impl Outcome {
                 writeln!(out, "deleted: {} of {}", with_commas(*count), counted_rows(*rows))?;
                 list_rows(field, list, out)
             }
-            Outcome::Refused { refusal, part: part @ (Part::Column | Part::Kind) } => {
+            Outcome::Refused { refusal, part: part @ (Part::Column | Part::Kind | Part::Literals) } => {
                 writeln!(out, "refused: {} ({}), {}", refusal.name(), refusal.number(), part.meaning(*refusal))
             }
-            Outcome::Refused { refusal, part: Part::Index | Part::Literals } => writeln!(out, "refused: {refusal}"),
+            Outcome::Refused { refusal, part: Part::Index } => writeln!(out, "refused: {refusal}"),
             Outcome::Refused { refusal, part } => {
                 write!(out, "refused: {}", refusal.title())?;
                 if *part == Part::DeletionsBesideIndex {
@@ -237,7 +238,7 @@ fn list_columns(columns: &[Column], out: &mut impl Write) -> io::Result<()> {
                 (Some(_), Some(_)) => "",
                 (None, Some(_)) => COLUMN_NOT_ASKED_FOR,
                 (Some(_), None) => " (the kind can't be asked for: its name is not modified UTF-8)",
-                (None, None) => " (neither can be asked for: both names are not modified UTF-8)",
+                (None, None) => " (neither can be asked for: neither name is modified UTF-8)",
             };
             writeln!(out, "column \"{column}\": {kind} index, {length} {bytes} at {start}{improper}")?;
         }
@@ -283,9 +284,9 @@ fn json_refused(meaning: &str, out: &mut impl Write) -> io::Result<()> {
     write!(out, r#"{{"answer":"refused","file":"index","name":null,"number":null,"meaning":{meaning}"#)
 }
 
-/// A stored name, modified UTF-8 or not, with escapes for all that doesn't print as itself: what a file calls its columns can't move the
-/// cursor or change the colours of a terminal. `\xFF` stands for a byte of no character and for nothing else: a backslash of the name is
-/// doubled.
+/// A stored name, modified UTF-8 or not, with escapes for double quotes, backslashes and all that doesn't show by itself: what a file calls
+/// its columns can't move the cursor or change the colours of a terminal, and names that differ don't look alike for a character that isn't
+/// seen. `\xFF` stands for a byte of no character and for nothing else: a backslash of the name is doubled.
 fn shown(stored: &[u8]) -> String {
     let mut text = String::new();
     for piece in pieces(stored) {
@@ -512,7 +513,7 @@ mod tests {
         };
         let column = "(the column can't be asked for: its name is not modified UTF-8)";
         let kind = "(the kind can't be asked for: its name is not modified UTF-8)";
-        let both = "(neither can be asked for: both names are not modified UTF-8)";
+        let both = "(neither can be asked for: neither name is modified UTF-8)";
         let index = "index, 24 bytes at 47";
         // Fire as in UTF-8.
         let (text, json) = lines(b"a\xF0\x9F\x94\xA5", &[b"bitmap", b"b\0"]);
@@ -538,6 +539,22 @@ mod tests {
         let (text, json) = lines(b"a\\xF0\\x9F\\x94\\xA5", &[b"bitmap"]);
         assert_eq!(text, format!("column \"a\\\\xF0\\\\x9F\\\\x94\\\\xA5\": bitmap {index}\n"));
         assert!(json.contains(r#""column":"a\\xF0\\x9F\\x94\\xA5","column_bytes":null"#), "{json}");
+    }
+
+    /// Escaped are double quotes, backslashes and what doesn't show by itself, here a mark that goes over another character, a space of
+    /// another width, and what has no width. The object has the name itself.
+    #[test]
+    fn names_that_look_alike() {
+        for (name, shown_as, object) in [
+            ("a \"b\" 'c' \\", r#"a \"b\" 'c' \\"#, r#""a \"b\" 'c' \\""#),
+            ("\u{E9}", "\u{E9}", "\"\u{E9}\""),
+            ("e\u{301}", r"e\u{301}", r#""e\u0301""#),
+            ("a\u{A0}b", r"a\u{a0}b", r#""a\u00a0b""#),
+            ("ab\u{200B}", r"ab\u{200b}", r#""ab\u200b""#),
+        ] {
+            assert_eq!(shown(name.as_bytes()), shown_as);
+            assert_eq!(json_name("column", name.as_bytes()), format!(r#""column":{object},"column_bytes":null"#));
+        }
     }
 
     /// From the text of a name its bytes can be had again, so that no two names have the same.
@@ -608,9 +625,14 @@ mod tests {
         }
     }
 
-    /// LITERAL of a name tells of the name and not of literals.
+    /// LITERAL of a name tells of the name and not of literals, and the other way round.
     #[test]
-    fn names_that_are_too_long() {
+    fn literals_that_do_not_fit_and_names_that_are_too_long() {
+        let refused = Outcome::Refused { refusal: Refusal::Literal, part: Part::Literals };
+        let meaning = "literals don't fit question and type";
+        assert_eq!(refused.exit_status(), 3);
+        assert_eq!(text(&refused, false), format!("refused: LITERAL (11), {meaning}\n"));
+        assert!(json(&refused, false).ends_with(&format!("\"meaning\":\"{meaning}\"}}\n")));
         for (part, whose) in [(Part::Column, "column"), (Part::Kind, "kind")] {
             let refused = Outcome::Refused { refusal: Refusal::Literal, part };
             let meaning = format!("the {whose}'s name takes more than 65535 bytes in modified UTF-8");
