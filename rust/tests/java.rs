@@ -104,12 +104,14 @@ fn folder() -> PathBuf {
 }
 
 /// What Names.java writes, with these words and this standard input, or the reason why Java doesn't run it. A Java that is missing, too
-/// old or without a compiler is no failure, and one that writes other bytes is.
+/// old or without a compiler is no failure; one that finds a fault in Names.java, or writes other bytes, is.
 fn written_by_java(words: &[&str], input: Stdio) -> Result<Vec<u8>, String> {
     let ran = Command::new("java").arg(folder().join("Names.java")).args(words).stdin(input).output();
     let output = ran.map_err(|error| format!("java can't be run: {error}"))?;
     if !output.status.success() {
-        return Err(format!("java doesn't run tests/java/Names.java: {}", String::from_utf8_lossy(&output.stderr).trim_end()));
+        let why = String::from_utf8_lossy(&output.stderr);
+        assert!(!why.contains("compilation failed") && !why.contains("Exception in thread"), "tests/java/Names.java: {why}");
+        return Err(format!("java doesn't run tests/java/Names.java: {}", why.trim_end()));
     }
     Ok(output.stdout)
 }
