@@ -43,7 +43,7 @@ walkAt (Walk.Past next place) s reading = (next .0 ≤ length s) × ((k : Rest P
 abbrev pub HasSize : ℕ → List ℕ → Type 0
 HasSize size asked = (size ≡ askedSize asked) × (size ≤ nameLimit)
 
--- both have
+-- the same of both names
 abbrev pub HaveSizes : Sizes → List ℕ → List ℕ → Type 0
 HaveSizes sizes column kind = HasSize (sizes .column) column × HasSize (sizes .kind) kind
 

@@ -10,7 +10,7 @@ ghost use Rattle.names.specs.Reading as reading;
 ghost use Rattle.names.specs.Promises.{pointAt, standsAt};
 use numbers::Position;
 
-// The first surrogate of a pair's first half, the first of its second half, the first code point behind both, and one past the last.
+// The least first half of a pair of surrogates, the least second half, the first code point behind the surrogates, and one past the last.
 const FIRST_HIGH: u64 = 0xD800;
 
 const FIRST_LOW: u64 = 0xDC00;
@@ -19,7 +19,7 @@ const PAST_SURROGATES: u64 = 0xE000;
 
 const PAST_LAST: u64 = 0x110000;
 
-// Below these a code point has one, two and three bytes in UTF-8.
+// Below these a code point has one byte, two and three in standard UTF-8.
 const PAST_ONE_BYTE: u64 = 0x80;
 
 const PAST_TWO_BYTES: u64 = 0x800;
@@ -151,7 +151,7 @@ fn point_at(s: &[u8], at: Position) -> Point
 
 // ---- Modified UTF-8
 
-// How many bytes a code point has.
+// How many bytes a code point has in this form.
 fn modified_size(value: u64) -> usize
     ensures { λ r. ⌜ (r ≡ length (modifiedOf value)) × (r ≤ 6) ⌝ }
 {
@@ -210,7 +210,7 @@ fn pair_at(s: &[u8], at: Position, value: u64) -> bool
     three_at(s, Position(p + 3), FIRST_LOW + above % TEN_BITS)
 }
 
-// Whether a code point stands at `at`.
+// Whether a code point stands at `at`, where there are bytes enough for it.
 fn modified_at(s: &[u8], at: Position, value: u64) -> bool
     requires { ⌜ at .0 + length (modifiedOf value) ≤ length (now s) ⌝ }
     ensures { λ r. ⌜ r ≡ standsAt (modifiedOf value) at (now (s .entry)) ⌝ }
