@@ -1,7 +1,7 @@
 //! Names as index files store them, in Java's modified UTF-8, for the command `columns`.
 //!
-//! A plain decoder in Rust: **it is not proved**. The library decodes no stored name, it writes the asked one in this form and compares
-//! the bytes.
+//! A plain decoder in Rust: **it is not proved**. The library decodes no stored name: it compares its bytes with this form of the asked
+//! one.
 
 /// What stands at the front of a stored name.
 #[derive(Clone, Copy, Debug, PartialEq, Eq)]
