@@ -3,6 +3,5 @@ pub mod Laws
 pub mod ListedOnce
 pub mod Laid
 pub mod Accepted
-pub mod CarriesNothing
-pub mod NoLiteral
+pub mod FileRefusals
 pub mod Theorems

@@ -22,8 +22,7 @@ use Rattle.index_file.specs.Claims.{LaidOutIsFound, FoundIsLaidOut, OneB
 use Rattle.index_file.proofs.Laws.{file-short, file-magic, file-version, find-long, find-column, find-kind, find-unaskable}
 use Rattle.index_file.proofs.Laid.{partOf, laid-find, asked-file, unlisted-file}
 use Rattle.index_file.proofs.Accepted.{accepted, within, unlisted}
-use Rattle.index_file.proofs.CarriesNothing.{find-bare}
-use Rattle.index_file.proofs.NoLiteral.{file-other}
+use Rattle.index_file.proofs.FileRefusals.{find-bare, file-other}
 
 pub laid-out-is-found : LaidOutIsFound
 laid-out-is-found column kind body bytes f small = (partOf f, laid-find f small, sym (f .part))

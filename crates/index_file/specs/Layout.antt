@@ -69,7 +69,7 @@ GoodIndex e = (length (e .name) < 256 ^ 2) × (e .start < 256 ^ 4) × (e .length
 abbrev pub GoodColumn : ListedColumn → Type 0
 GoodColumn c = (length (c .name) < 256 ^ 2) × (length (c .entries) < signBit) × All GoodIndex (c .entries)
 
--- 02, Ticket 5: 'Demand 3's "asked column stands once" reads by this comparison'
+-- whether a listed column or index has the asked name, by `Named`: 'Demand 3's "asked column stands once" reads by this comparison' (02, Ticket 5)
 abbrev pub IsColumn : List ℕ → ListedColumn → Type 0
 IsColumn column c = Named column (c .name)
 

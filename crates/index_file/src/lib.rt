@@ -164,7 +164,8 @@ fn entries_at(s: &[u8], at: Position, n: u64, kind: &[u8], size: usize) -> Walk
 // The n columns from `at` on. Their names are compared as those of kinds are.
 fn columns_at(s: &[u8], at: Position, n: u64, column: &[u8], kind: &[u8], sizes: Sizes) -> Walk
     requires { ⌜ (at .0 ≤ length (now s)) × HaveSizes sizes (now column) (now kind) ⌝ }
-    ensures { λ r. ⌜ walkAt r (now (s .entry)) (columns (matches (now (column .entry))) (matches (now (kind .entry))) n false Place.Nowhere (drop (at .0) (now (s .entry)))) ⌝ }
+    ensures { λ r. ⌜ walkAt r (now (s .entry))
+        (columns (matches (now (column .entry))) (matches (now (kind .entry))) n false Place.Nowhere (drop (at .0) (now (s .entry)))) ⌝ }
 {
     let column_size = sizes.column;
     let kind_size = sizes.kind;
@@ -234,7 +235,8 @@ fn placed_at(place: Place, head: usize, total: usize) -> Located
 // The whole head, of which the column number is the next field.
 fn read_head(s: &[u8], column: &[u8], kind: &[u8], sizes: Sizes, total: usize) -> Located
     requires { ⌜ (frontSize ≤ length (now s)) × HaveSizes sizes (now column) (now kind) ⌝ }
-    ensures { λ r. ⌜ r ≡ locatedBy (head (matches (now (column .entry))) (matches (now (kind .entry))) (length (now (s .entry))) total (drop frontSize (now (s .entry)))) ⌝ }
+    ensures { λ r. ⌜ r ≡ locatedBy (head (matches (now (column .entry))) (matches (now (kind .entry)))
+        (length (now (s .entry))) total (drop frontSize (now (s .entry)))) ⌝ }
 {
     let number = count_at(s, Position(FRONT_SIZE));
     let Count::Is(n) = number else {
