@@ -4,7 +4,7 @@
  * Every call ends, reads and writes only inside the buffers it is lent, allocates nothing and keeps no state.
  * A buffer that is written must not overlap another of the call. A pointer may not be NULL, even where its length is 0. Each count, start and length is
  * written to a uint64_t of its own, the fault to a poddurance_fault and the record to a poddurance_record, aligned as the compiler aligns them, distinct from
- * the others of the call and outside its buffers.
+ * the others of the call and outside its buffers. A table is a buffer of uint32_t, aligned likewise, and its length counts words.
  *
  * A row field for n rows is the first (n + 7) / 8 bytes of a buffer: row r is the bit of weight 1 << (r % 8) in byte r / 8, and the spare bits of its
  * last byte are 0. Bytes of the buffer behind the field never change.
@@ -13,14 +13,14 @@
  *
  *    1 SHORT     the bytes end inside a field that is due, outside bitmaps
  *    2 MAGIC     the magic of an index file or a bin differs
- *    3 VERSION   the version of an index file, a body or a deletion file is unknown
+ *    3 VERSION   the version of an index file, a body or a deletion file is unknown; for Open and Look up: the body's is not 2
  *    4 HEAD      the head of an index file breaks a rule
  *    5 DICT      a dictionary breaks a rule
  *    6 BITMAP    place, length or form of a bitmap is wrong; carries the entry and the container
  *    7 RANGE     a row at or above the row count; carries the entry
  *    8 TWICE     a row already placed; carries the entry that places it again
  *    9 MISSING   a row never placed; carries the lowest one
- *   10 ROOM      a lent field has fewer than (n + 7) / 8 bytes
+ *   10 ROOM      a lent field has fewer than (n + 7) / 8 bytes; for Open and Look up also: the table has fewer words than the body has blocks
  *   11 LITERAL   literals don't fit question and type, or a name can't be asked for (it is not standard UTF-8, or too long); also: a type, an edition or a
  *                question is unknown
  *   12 LIMIT     a limit is passed (an input buffer or a row count above 2147483647, and others)
@@ -30,12 +30,16 @@
  * What a refusal carries is written to the call's poddurance_fault; refusals listed without 'carries' carry nothing.
  *
  * With any answer but 0 the counts, the record's four among them, start and length are 0. Refusals up to and including ROOM leave the field's buffer as it was;
- * later ones leave the field's (n + 7) / 8 bytes zero. In the order in which causes are tested, with a bar behind ROOM:
+ * later ones leave the field's (n + 7) / 8 bytes zero. A refused Open leaves the table as it was. In the order in which causes are tested, with a bar behind ROOM:
  *
  *    Locate          LIMIT, LITERAL (either name), SHORT, MAGIC, VERSION, HEAD (no field)
  *    Audit           LIMIT, LITERAL (an unknown type), then the dictionary in byte order: SHORT, VERSION, LIMIT, DICT; ROOM | then null's and each entry's
  *                    bitmap: BITMAP, RANGE, TWICE; last MISSING
  *    Ask             LIMIT, LITERAL (an unknown type, edition or question), the literals in turn: LIMIT, LITERAL; then as Audit
+ *    Open            as Audit; any version but 2 is VERSION, and ROOM is tested on the table too
+ *    Look up         LIMIT, LITERAL (an unknown type or edition), the literals in turn: LIMIT, LITERAL; the fields in front of the directory in byte order: SHORT,
+ *                    VERSION, LIMIT, DICT; ROOM (the table); the directory and one block: SHORT, LIMIT, DICT; ROOM (the field) | then null's and the found
+ *                    entry's bitmap: BITMAP, RANGE. Of a body that Open accepted: as Ask, LIMIT, LITERAL and ROOM alone
  *    Ask of a file   as Locate, then as Ask on the part that was found: body and literals are tested when Ask's turn comes
  *    Read deletions  LIMIT, ROOM | SHORT, VERSION, SHORT, NOBIN, MAGIC, CHECKSUM, BITMAP, RANGE
  *    Subtract        LIMIT, ROOM (leaves both fields as they were when it refuses)
@@ -71,7 +75,12 @@ enum {
     PODDURANCE_ABSENT = 255 /* no such index: read all rows. Accepted with 0 matched rows says skip: read none */
 };
 
-/* The column's type, for Audit and Ask. */
+/* The most blocks of a body. A table of so many words, 256 KiB, has room for every body. */
+enum {
+    PODDURANCE_MOST_BLOCKS = 65536
+};
+
+/* The column's type, for Audit, Ask, Open and Look up. */
 enum {
     PODDURANCE_TYPE_TINYINT = 0,
     PODDURANCE_TYPE_BOOLEAN = 1,
@@ -87,14 +96,14 @@ enum {
     PODDURANCE_TYPE_STRING = 11
 };
 
-/* The edition of the question, for Ask: what becomes of null rows in NOT EQUAL and NOT IN. Each question names one, there is no default; the other questions
- * choose the same rows in both. It stands before the question: both are numbers, and swapped they may be another well-formed question. */
+/* The edition of the question, for Ask and Look up: what becomes of null rows in NOT EQUAL and NOT IN. Each question names one, there is no default; the
+ * other questions choose the same rows in both. It stands before the question: both are numbers, and swapped they may be another well-formed question. */
 enum {
     PODDURANCE_EDITION_1 = 1, /* document 01's rule, for stored dashboards: NOT EQUAL and NOT IN choose null rows too */
     PODDURANCE_EDITION_2 = 2  /* NOT EQUAL and NOT IN choose no null row, as in SQL; nor does NOT IN of no literals, where SQL would */
 };
 
-/* The question, for Ask. */
+/* The question, for Ask. Look up is EQUAL's. */
 enum {
     PODDURANCE_QUESTION_EQUAL = 0,       /* one literal */
     PODDURANCE_QUESTION_NOT_EQUAL = 1,   /* one literal; chooses null rows too in edition 1, none in edition 2 */
@@ -107,7 +116,7 @@ enum {
 /* Where the cause of a refusal is: 0 in each number that the refusal does not carry, and all 0 with an accepted answer and with 255. Lent as the counts are.
  *
  * entry      the dictionary's entry, in stored order: null's is 0, the values' are 1 and on, whether there is a null or not and through all blocks. 0 in a
- *            deletion bin.
+ *            deletion bin. Look up, which names an entry only of a body that Open did not accept, counts within the block.
  * container  the lowest container of the entry's bitmap, from 0, whose key, cardinality, offset or bytes are wrong or cut off. 0 for a fault in the bitmap's place,
  *            cookie, count or flags and for a length below -1 or past the body; else a length other than -1 ends the bytes there, so that the container it
  *            cuts is named. If only bytes left over behind the last container are wrong, the number of containers.
@@ -118,15 +127,17 @@ typedef struct {
     uint64_t row;
 } poddurance_fault;
 
-/* What a graph may claim of its rows, as 'drawn from 970 of 1,000 rows', matched of rows. All 0 with any answer but 0. Where it may lie is said at the top. Ask
- * and Ask of a file write it and don't read it; Subtract record reads rows and nulls and writes all four: what stood in deleted and matched makes no difference.
+/* What a graph may claim of its rows, as 'drawn from 970 of 1,000 rows', matched of rows. All 0 with any answer but 0. Where it may lie is said at the top. Ask,
+ * Ask of a file and Look up write it and don't read it; Subtract record reads rows and nulls and writes all four: what stood in deleted and matched makes no
+ * difference.
  *
  * rows     the row count of the index. Subtract record leaves it.
  * nulls    how many rows are null: those of null's bitmap, 0 where has-null is 0, for each question and edition. Subtract record leaves it: null rows that are
  *          deleted still count here.
  * deleted  0 until deletions are subtracted. Subtract record writes how many rows below the row count are set in its second field, chosen or not; it replaces
  *          what stood here and does not add to it: after two calls it tells of the second one's field alone.
- * matched  how many rows are set in the field: Ask's chosen ones, and after Subtract record those left of them, counted afresh. Accepted with 0 says skip.
+ * matched  how many rows are set in the field: Ask's chosen ones, Look up's found ones, and after Subtract record those left of them, counted afresh. Accepted
+ *          with 0 says skip.
  *
  * Hand on an accepted answer's record alone. A refusal's is that of a data file without rows, for which Subtract record would answer 0 and clear nothing. */
 typedef struct {
@@ -179,6 +190,25 @@ uint8_t poddurance_audit(const uint8_t *body, size_t body_len, uint32_t type,
 uint8_t poddurance_ask(const uint8_t *body, size_t body_len, uint32_t type, uint32_t edition, uint32_t question,
                        const uint8_t *literals, size_t literals_len,
                        uint8_t *field, size_t field_len, poddurance_record *record, poddurance_fault *fault);
+
+/* Open, for version 2: audits the body, once for many lookups; the row count and the number of blocks. Accepted, the field's bytes are zero, and word i of the
+ * table, for each block i from 0, is where the block's entry in the directory starts, counted from the body's first byte: at its value, of a string at the
+ * value's length. Words behind them are as they were, and with a refusal all are. The table is under no limit of length; PODDURANCE_MOST_BLOCKS words are
+ * enough for every body, and *blocks words are all that Look up needs. Any version but 2 is VERSION; Ask takes version 1 too. */
+uint8_t poddurance_open(const uint8_t *body, size_t body_len, uint32_t type,
+                        uint8_t *field, size_t field_len, uint32_t *table, size_t table_words,
+                        uint64_t *rows, uint64_t *blocks, poddurance_fault *fault);
+
+/* Look up: Ask's EQUAL without an audit, of a body that Open accepted, as the type that it was opened with and with the table as Open left it. The answer, the
+ * record and the field are then those of poddurance_ask. It halves the directory through the table and reads one block, null's bitmap and one other. *compared
+ * is the number of values that the literal was compared with: of B blocks at most floor(log2 B) + 1 first values, none if B is 0, and at most the entries of
+ * the one block. 0 with a refusal.
+ *
+ * With another body, type or table, or one that was changed since, it still ends and stays inside its buffers, and refuses what it can't read, but it does not
+ * audit: what it accepts may lack rows. Keep the three together. */
+uint8_t poddurance_look_up(const uint8_t *body, size_t body_len, uint32_t type, uint32_t edition, const uint8_t *literals, size_t literals_len,
+                           const uint32_t *table, size_t table_words,
+                           uint8_t *field, size_t field_len, poddurance_record *record, uint64_t *compared, poddurance_fault *fault);
 
 /* Ask of a file: Locate, then Ask on the part that it finds, in one call. 0: Ask's answer, its rows set in the field; a record->matched of 0 says skip. 255: the
  * column or the kind is not listed. Names are given, compared and refused as in Locate: LITERAL for a name goes before anything of the file, LITERAL for type,

@@ -3,7 +3,9 @@
 //! Both are given the same bytes and a cleared field, one call at a time and in changing order, and the median of all times counts.
 //! Clearing the field is not timed. Before that, answers, counts and fields of both are compared.
 //!
-//! The whole table is measured PODDURANCE_RUNS times, three unless that is set, and each line shows the run whose ratio is the median.
+//! A second table has lookups in opened bodies, of many literals in turn, beside Ask's EQUAL of the same literals.
+//!
+//! Each table is measured PODDURANCE_RUNS times, three unless that is set, and each line shows the run whose ratio is the median.
 //! Then calls on more and more rows are timed for the plot `docs/speed.svg`.
 //!
 //! Without cargo's `--bench`, as in `cargo test --benches`, or with PODDURANCE_QUICK set, inputs are smaller, each call is timed a few
@@ -17,6 +19,7 @@ mod timing;
 use std::fs;
 use std::hint::black_box;
 use std::path::Path;
+use std::slice;
 use std::time::{Duration, Instant};
 
 use poddurance::raw;
@@ -42,6 +45,8 @@ struct Sizes {
     one: usize,
     /// Distinct strings in version 2.
     two: usize,
+    /// Distinct numbers in version 2 to look up.
+    numbers: usize,
     /// Columns in a head.
     columns: usize,
     /// Rows of the large inputs.
@@ -53,12 +58,14 @@ struct Sizes {
 const FULL: Sizes = Sizes {
     one: 4_096,
     two: 10_000,
+    numbers: CONTAINER as usize,
     columns: 1_000,
     rows: 10_000_000,
     // Two points for each power of ten, equally far from each other on a logarithmic axis.
     plotted: &[10_000, 31_623, 100_000, 316_228, 1_000_000, 3_162_278, 10_000_000],
 };
-const QUICK: Sizes = Sizes { one: 1_000, two: 1_000, columns: 1_000, rows: 1_000_000, plotted: &[10_000, 100_000] };
+const QUICK: Sizes =
+    Sizes { one: 1_000, two: 1_000, numbers: 4_096, columns: 1_000, rows: 1_000_000, plotted: &[10_000, 100_000] };
 
 fn main() {
     let Effort { quick, patience, runs } = Effort::asked();
@@ -69,6 +76,8 @@ fn main() {
     print_cells("---", "---", ["--:"; 5].map(str::to_string));
     table(&sizes, &patience, runs);
     print!("{LEGEND}");
+    look_up_table(&sizes, &patience, runs);
+    print!("{LOOK_UP_LEGEND}");
 
     let picture = against_rows(&sizes, &patience);
     if !quick {
@@ -107,11 +116,11 @@ fn table(sizes: &Sizes, patience: &Patience, runs: usize) {
     let locate = Call::Locate { file: &head, column: &column };
     lines.push(Line { what: of(sizes.columns, "columns"), call: locate, rows: 0, copied: None });
 
-    lines.iter().for_each(compare);
+    lines.iter().for_each(Line::compare);
     let mut measured: Vec<Vec<Times>> = lines.iter().map(|_| Vec::new()).collect();
     for run in 1..=runs {
         for (line, times) in lines.iter().zip(&mut measured) {
-            times.push(measure(line, patience));
+            times.push(line.measure(patience));
             if run == runs {
                 print_line(line, median_by(times, Times::ratio));
             }
@@ -138,8 +147,8 @@ fn against_rows(sizes: &Sizes, patience: &Patience) -> String {
     let series = calls.map(|call| {
         let lines: Vec<Line> = inputs.iter().map(call).collect();
         let points = lines.iter().map(|line| {
-            compare(line);
-            let Times { library, reference, .. } = measure(line, patience);
+            line.compare();
+            let Times { library, reference, .. } = line.measure(patience);
             plot::Point { rows: line.rows, library, reference }
         });
         plot::Series { call: lines[0].call.name(), points: points.collect() }
@@ -306,12 +315,13 @@ enum Call<'a> {
     Locate { file: &'a [u8], column: &'a str },
     Audit { body: &'a [u8], ty: u32 },
     Ask { body: &'a [u8], ty: u32, question: u32, literals: &'a [u8] },
+    LookUp { body: &'a [u8], ty: u32, literals: &'a [u8], table: &'a [u32] },
     ReadDeletions { file: &'a [u8], rows: u32 },
     Subtract { first: &'a [u8], second: &'a [u8], rows: u32 },
 }
 
-/// The answer and up to four counts, or start and length.
-type Answer = (u8, [u64; 4]);
+/// The answer and up to four counts, or start and length; and how many values were compared, which Look up says.
+type Answer = (u8, [u64; 4], u64);
 
 impl Call<'_> {
     fn name(&self) -> &'static str {
@@ -320,6 +330,7 @@ impl Call<'_> {
             Call::Audit { .. } => "Audit",
             Call::Ask { question: types::IN, .. } => "Ask IN",
             Call::Ask { .. } => "Ask EQUAL",
+            Call::LookUp { .. } => "Look up",
             Call::ReadDeletions { .. } => "Read deletions",
             Call::Subtract { .. } => "Subtract",
         }
@@ -334,30 +345,32 @@ impl Call<'_> {
     }
 
     fn library(&self, field: &mut [u8]) -> Answer {
-        let one = |(answer, count, _)| (answer, [count, 0, 0, 0]);
-        let two = |(answer, first, second)| (answer, [first, second, 0, 0]);
-        let four = |(answer, record, _): (u8, raw::Record, raw::Fault)| {
-            (answer, [record.matched, record.rows, record.nulls, record.deleted])
-        };
+        let one = |(answer, count, _)| (answer, [count, 0, 0, 0], 0);
+        let two = |(answer, first, second)| (answer, [first, second, 0, 0], 0);
+        let counts = |record: raw::Record| [record.matched, record.rows, record.nulls, record.deleted];
+        let four = |(answer, record, _)| (answer, counts(record), 0);
+        let five = |(answer, record, compared, _)| (answer, counts(record), compared);
         match *self {
             Call::Locate { file, column } => two(raw::locate(&[], file, column.as_bytes(), KIND.as_bytes())),
             Call::Audit { body, ty } => one(raw::audit(body, ty, field)),
             Call::Ask { body, ty, question, literals } => four(raw::ask(body, ty, EDITION, question, literals, field)),
+            Call::LookUp { body, ty, literals, table } => five(raw::look_up(body, ty, EDITION, literals, table, field)),
             Call::ReadDeletions { file, rows } => one(raw::read_deletions(file, 0, rows.into(), field)),
             Call::Subtract { second, rows, .. } => two(raw::subtract(field, second, rows.into())),
         }
     }
 
     fn reference(&self, field: &mut [u8]) -> Answer {
-        let one = |(answer, count, _)| (answer, [count, 0, 0, 0]);
-        let two = |(answer, first, second)| (answer, [first, second, 0, 0]);
-        let four = |(answer, record, _): (u8, Record, reader::Fault)| {
-            (answer, [record.matched, record.rows, record.nulls, record.deleted])
-        };
+        let one = |(answer, count, _)| (answer, [count, 0, 0, 0], 0);
+        let two = |(answer, first, second)| (answer, [first, second, 0, 0], 0);
+        let counts = |record: Record| [record.matched, record.rows, record.nulls, record.deleted];
+        let four = |(answer, record, _)| (answer, counts(record), 0);
+        let five = |(answer, record, compared, _)| (answer, counts(record), compared);
         match *self {
             Call::Locate { file, column } => two(reader::locate(&[], file, column.as_bytes(), KIND.as_bytes())),
             Call::Audit { body, ty } => one(reader::audit(body, ty, field)),
             Call::Ask { body, ty, question, literals } => four(reader::ask(body, ty, EDITION, question, literals, field)),
+            Call::LookUp { body, ty, literals, table } => five(reader::look_up(body, ty, EDITION, literals, table, field)),
             Call::ReadDeletions { file, rows } => one(reader::read_deletions(file, 0, rows.into(), field)),
             Call::Subtract { second, rows, .. } => two(reader::subtract(field, second, rows.into())),
         }
@@ -372,23 +385,183 @@ struct Line<'a> {
     copied: Option<usize>,
 }
 
-/// Both readers accept, with the same counts, the same field and nothing written behind it.
-fn compare(Line { call, rows, .. }: &Line) {
-    let size = field_size(*rows);
-    let lent = || {
-        let mut buffer = vec![0xAA; size + 8];
-        if let Call::Subtract { .. } = call {
-            call.ready(&mut buffer);
-        }
-        buffer
+impl Line<'_> {
+    /// Both readers accept, with the same counts, of which the first isn't 0.
+    fn compare(&self) {
+        let (answer, _) = self.call.compare(self.rows);
+        assert_ne!(answer.1[0], 0, "{}: no row to count", self.call.name());
+    }
+
+    fn measure(&self, patience: &Patience) -> Times {
+        measure(slice::from_ref(&self.call), self.rows, self.copied, patience)
+    }
+}
+
+impl Call<'_> {
+    /// Both readers accept, with the same counts, the same field and nothing written behind it. Their answer and the field.
+    fn compare(&self, rows: u32) -> (Answer, Vec<u8>) {
+        let size = field_size(rows);
+        let lent = || {
+            let mut buffer = vec![0xAA; size + 8];
+            if let Call::Subtract { .. } = self {
+                self.ready(&mut buffer);
+            }
+            buffer
+        };
+        let (mut ours, mut theirs) = (lent(), lent());
+        let (answer, expected) = (self.library(&mut ours), self.reference(&mut theirs));
+        assert_eq!(answer, expected, "{}: the answers differ", self.name());
+        assert_eq!(answer.0, raw::ACCEPTED, "{}: refused", self.name());
+        assert!(ours == theirs, "{}: the fields differ", self.name());
+        assert_eq!(ours[size..], [0xAA; 8], "{}: written behind the field", self.name());
+        ours.truncate(size);
+        (answer, ours)
+    }
+}
+
+// Lookups
+
+/// The bytes of a block's entries where blocks are cut by bytes.
+const BLOCK_BYTES: usize = 16 * 1_024;
+/// How many literals are looked up in turn: an odd number, so that each comes first with each reader.
+const LOOKED_UP: usize = 101;
+
+/// A body of version 2 that was opened, and what is looked up in it.
+struct Opened {
+    name: String,
+    blocks: &'static str,
+    body: Vec<u8>,
+    ty: u32,
+    rows: u32,
+    table: Vec<u32>,
+    /// Literals that are values, evenly spread over all, and literals that are not, each between two of them.
+    literals: [(&'static str, Vec<Vec<u8>>); 2],
+}
+
+/// Measures all lookups in each run, and prints them in the last.
+fn look_up_table(sizes: &Sizes, patience: &Patience, runs: usize) {
+    let mut random = Random::new(3);
+    let of = |number: usize, what: &str| format!("{} {what}", grouped(number));
+    let strings = at_random(&mut random, pumps(sizes.two), CONTAINER);
+    // Even numbers, between which there are others.
+    let numbers = (0..sizes.numbers as i64).map(|i| (2 * i).to_be_bytes().to_vec()).collect();
+    let mut rows = shuffled_rows(&mut random).into_iter();
+    let numbers: Vec<(Vec<u8>, Vec<u32>)> = in_turn(numbers, &mut rows);
+    let mut opened = open_in_blocks(&of(sizes.two, "strings"), types::STRING, strings, |value| [value, b"!"].concat());
+    opened.extend(open_in_blocks(&of(sizes.numbers, "BIGINT"), types::BIGINT, numbers, |value| {
+        // The number behind an even one.
+        let (last, others) = value.split_last().expect("8 bytes");
+        [others, &[last + 1]].concat()
+    }));
+
+    opened.iter().for_each(Opened::compare);
+    let measured: Vec<LookUpTimes> = (0..runs).flat_map(|_| opened.iter().flat_map(|opened| opened.measure(patience))).collect();
+    print_look_up(
+        "input",
+        "blocks",
+        "literals",
+        ["Ask EQUAL", "look up", "reference", "ratio", "Ask/look up"].map(str::to_string),
+    );
+    print_look_up("---", "---", "---", ["--:"; 5].map(str::to_string));
+    let lines = opened.iter().flat_map(|opened| opened.literals.iter().map(move |(literals, _)| (opened, *literals)));
+    let number = measured.len() / runs;
+    for (i, (opened, literals)) in lines.enumerate() {
+        let of_line: Vec<LookUpTimes> = measured.iter().skip(i).step_by(number).copied().collect();
+        let LookUpTimes { ask, times } = median_by(&of_line, |one| one.times.ratio());
+        let faster = ask.as_secs_f64() / times.library.as_secs_f64();
+        let numbers =
+            [shown(ask), shown(times.library), shown(times.reference), format!("{:.2}", times.ratio()), format!("{faster:.0}")];
+        print_look_up(&opened.name, opened.blocks, literals, numbers);
+    }
+}
+
+const LOOK_UP_LEGEND: &str = "
+Median times of look up in bodies of version 2 that were opened once, and of the library's Ask EQUAL with the same literals; reference: the same
+lookup in plain Rust. ratio: the library's lookup / the reference's. Ask/look up: how often a lookup fits into an Ask. 65,536 rows. strings: each
+row has one of so many names of 10 bytes at random. BIGINT: so many numbers in turn, of 65,536 each row its own, in no order. blocks: all entries
+in one; as many as fit into 16 KiB; one entry in each. literals: 101 in turn, evenly spread over the values, or each between two values.
+";
+
+/// Rows in turn to each of the values.
+fn in_turn(values: Vec<Vec<u8>>, rows: &mut dyn Iterator<Item = u32>) -> Vec<(Vec<u8>, Vec<u32>)> {
+    let number = values.len();
+    let mut values: Vec<(Vec<u8>, Vec<u32>)> = values.into_iter().map(|value| (value, Vec::new())).collect();
+    for (i, row) in rows.enumerate() {
+        values[i % number].1.push(row);
+    }
+    for (_, rows) in &mut values {
+        rows.sort_unstable();
+    }
+    values
+}
+
+/// The values in bodies of one block, of blocks cut by bytes, and of a block for each entry. `behind` gives what stands between a value and
+/// the next.
+fn open_in_blocks(name: &str, ty: u32, values: Vec<(Vec<u8>, Vec<u32>)>, behind: fn(&[u8]) -> Vec<u8>) -> Vec<Opened> {
+    let groups = Groups { ty, rows: CONTAINER, nulls: Vec::new(), values };
+    let layouts = [
+        ("one", Layout::version(2)),
+        ("16 KiB", Layout::version(2).with_blocks_within(BLOCK_BYTES, &groups)),
+        ("one entry", Layout::version(2).with_blocks_of(1)),
+    ];
+    let number = groups.values.len();
+    let spread: Vec<&[u8]> = (0..LOOKED_UP).map(|i| &groups.values[i * number / LOOKED_UP].0[..]).collect();
+    let open = |(blocks, layout): (&'static str, Layout)| {
+        let present = spread.iter().map(|value| types::literals(ty, &[value])).collect();
+        let absent = spread.iter().map(|value| types::literals(ty, &[behind(value)])).collect();
+        let (body, mut table) = (body(&groups, &layout), vec![0; number]);
+        let (answer, _, words, _) = raw::open(&body, ty, &mut vec![0; field_size(CONTAINER)], &mut table);
+        assert_eq!(answer, raw::ACCEPTED, "Open: refused");
+        table.truncate(words as usize);
+        let literals = [("present", present), ("absent", absent)];
+        Opened { name: name.to_string(), blocks, body, ty, rows: CONTAINER, table, literals }
     };
-    let (mut ours, mut theirs) = (lent(), lent());
-    let (answer, expected) = (call.library(&mut ours), call.reference(&mut theirs));
-    assert_eq!(answer, expected, "{}: the answers differ", call.name());
-    assert_eq!(answer.0, raw::ACCEPTED, "{}: refused", call.name());
-    assert_ne!(answer.1[0], 0, "{}: no row to count", call.name());
-    assert!(ours == theirs, "{}: the fields differ", call.name());
-    assert_eq!(ours[size..], [0xAA; 8], "{}: written behind the field", call.name());
+    layouts.into_iter().map(open).collect()
+}
+
+impl Opened {
+    fn look_ups<'a>(&'a self, literals: &'a [Vec<u8>]) -> Vec<Call<'a>> {
+        let Opened { body, ty, table, .. } = self;
+        literals.iter().map(|literals| Call::LookUp { body, ty: *ty, literals, table }).collect()
+    }
+
+    fn asks<'a>(&'a self, literals: &'a [Vec<u8>]) -> Vec<Call<'a>> {
+        let Opened { body, ty, .. } = self;
+        literals.iter().map(|literals| Call::Ask { body, ty: *ty, question: types::EQUAL, literals }).collect()
+    }
+
+    /// Both readers open alike, and look up alike, as they answer EQUAL; what is present is found, and what is absent is not.
+    fn compare(&self) {
+        let (mut field, mut table) = (vec![0; field_size(self.rows)], vec![0; self.table.len()]);
+        let blocks = self.table.len() as u64;
+        assert_eq!(reader::open(&self.body, self.ty, &mut field, &mut table), (0, self.rows.into(), blocks, reader::NO_FAULT));
+        assert!(table == self.table, "{} in {}: the tables differ", self.name, self.blocks);
+        for (is_present, (_, literals)) in [true, false].into_iter().zip(&self.literals) {
+            for (look_up, ask) in self.look_ups(literals).iter().zip(self.asks(literals)) {
+                let ((answer, counts, compared), field) = look_up.compare(self.rows);
+                let asked = ask.compare(self.rows);
+                assert!(((answer, counts, 0), field) == asked, "{} in {}: Ask and Look up differ", self.name, self.blocks);
+                assert_eq!(counts[0] > 0, is_present, "{} in {}: rows found", self.name, self.blocks);
+                assert_ne!(compared, 0, "{} in {}: nothing compared", self.name, self.blocks);
+            }
+        }
+    }
+
+    /// The times of present literals, and of absent ones.
+    fn measure(&self, patience: &Patience) -> [LookUpTimes; 2] {
+        [0, 1].map(|i| {
+            let (_, literals) = &self.literals[i];
+            let times = measure(&self.look_ups(literals), self.rows, None, patience);
+            LookUpTimes { ask: measure_library(&self.asks(literals), self.rows, patience), times }
+        })
+    }
+}
+
+/// The medians of one run: of lookups, and of the library's Ask.
+#[derive(Clone, Copy)]
+struct LookUpTimes {
+    ask: Duration,
+    times: Times,
 }
 
 // Measuring
@@ -407,13 +580,15 @@ impl Times {
     }
 }
 
-fn measure(Line { call, rows, copied, .. }: &Line, patience: &Patience) -> Times {
-    let (mut ours, mut theirs) = (vec![0; field_size(*rows)], vec![0; field_size(*rows)]);
+/// Times the calls in turn.
+fn measure(calls: &[Call], rows: u32, copied: Option<usize>, patience: &Patience) -> Times {
+    let (mut ours, mut theirs) = (vec![0; field_size(rows)], vec![0; field_size(rows)]);
     let mut copy = copied.map(|bytes| (vec![1u8; bytes], vec![0u8; bytes]));
     let (mut library, mut reference, mut memcpy) = (Vec::new(), Vec::new(), Vec::new());
 
     let started = Instant::now();
     while patience.lasts(library.len(), started) {
+        let call = &calls[library.len() % calls.len()];
         // Neither is always the one that finds the caches as the other left them.
         let library_first = library.len() % 2 == 0;
         for library_now in [library_first, !library_first] {
@@ -430,6 +605,19 @@ fn measure(Line { call, rows, copied, .. }: &Line, patience: &Patience) -> Times
         }
     }
     Times { library: median(library), reference: median(reference), memcpy: copied.map(|_| median(memcpy)) }
+}
+
+/// Times the library's calls in turn.
+fn measure_library(calls: &[Call], rows: u32, patience: &Patience) -> Duration {
+    let mut field = vec![0; field_size(rows)];
+    let mut times = Vec::new();
+    let started = Instant::now();
+    while patience.lasts(times.len(), started) {
+        let call = &calls[times.len() % calls.len()];
+        call.ready(&mut field);
+        times.push(time(|| call.library(black_box(&mut field))));
+    }
+    median(times)
 }
 
 fn median(mut times: Vec<Duration>) -> Duration {
@@ -450,4 +638,11 @@ fn print_line(line: &Line, times: Times) {
 fn print_cells(what: &str, call: &str, numbers: [String; 5]) {
     let [library, reference, ratio, of_library, of_reference] = numbers;
     println!("| {what:<28} | {call:<14} | {library:>9} | {reference:>9} | {ratio:>7} | {of_library:>14} | {of_reference:>16} |");
+}
+
+fn print_look_up(what: &str, blocks: &str, literals: &str, numbers: [String; 5]) {
+    let [ask, library, reference, ratio, faster] = numbers;
+    println!(
+        "| {what:<14} | {blocks:<9} | {literals:<8} | {ask:>9} | {library:>9} | {reference:>9} | {ratio:>5} | {faster:>11} |"
+    );
 }

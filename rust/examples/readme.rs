@@ -1,4 +1,4 @@
-//! The README's example "From Rust", to be run in the repository's top folder; the test `readme` holds the two together.
+//! The README's first example "From Rust", to be run in the repository's top folder; the test `readme` holds the two together.
 
 use poddurance::{ask_file, read_deletions, subtract, subtract_record, Edition, Literals, Question, RowField, Type};
 

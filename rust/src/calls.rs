@@ -3,7 +3,8 @@ use std::fmt;
 use crate::raw::{self, Fault};
 use crate::{Edition, Literals, Question, Record, Refusal, RowField, Type};
 
-/// Why a call gives no answer: a refusal, or fields and indexes of different row counts.
+/// Why a call gives no answer: a refusal, fields and indexes of different row counts, or a literal of another type than the body that it is
+/// looked up in.
 ///
 /// ```
 /// use poddurance::{audit, Error, Refusal, RowField, Type};
@@ -32,10 +33,17 @@ pub enum Error {
         /// The row count of the index, of the second field or of the record.
         found: u64,
     },
+    /// The types differ. Literals read as another type than they were written for could fit it by chance and choose wrong rows.
+    TypesDiffer {
+        /// The type that the body was opened as.
+        expected: Type,
+        /// The type of the literals.
+        found: Type,
+    },
 }
 
 impl Error {
-    /// The library's refusal; none where the row counts differ.
+    /// The library's refusal; none where row counts or types differ.
     ///
     /// ```
     /// use poddurance::{Error, Refusal};
@@ -47,7 +55,7 @@ impl Error {
     pub fn refusal(self) -> Option<Refusal> {
         match self {
             Error::Refused(refusal) => Some(refusal),
-            Error::RowsDiffer { .. } => None,
+            Error::RowsDiffer { .. } | Error::TypesDiffer { .. } => None,
         }
     }
 }
@@ -65,6 +73,9 @@ impl fmt::Display for Error {
             Error::RowsDiffer { expected, found } => {
                 write!(f, "{expected} rows expected, {found} found")
             }
+            Error::TypesDiffer { expected, found } => {
+                write!(f, "the body was opened as {expected}, the literals are of {found}")
+            }
         }
     }
 }
@@ -73,7 +84,7 @@ impl std::error::Error for Error {
     fn source(&self) -> Option<&(dyn std::error::Error + 'static)> {
         match self {
             Error::Refused(refusal) => Some(refusal),
-            Error::RowsDiffer { .. } => None,
+            Error::RowsDiffer { .. } | Error::TypesDiffer { .. } => None,
         }
     }
 }
@@ -227,8 +238,7 @@ pub fn ask(body: &[u8], edition: Edition, question: Question, literals: &Literal
     let (ty, bytes) = (literals.ty().number(), literals.as_bytes());
     let (answer, record, fault) = raw::ask(body, ty, edition.number(), question.number(), bytes, field.bytes_mut());
     accepted(answer, fault)?;
-    same_rows(&field, record.rows)?;
-    Ok(Answer { field, record: Record::accepted(record) })
+    Answer::accepted(field, record)
 }
 
 /// From the file to the answer in one call: finds the index as [`locate`] does, checks its whole body as [`audit`] does, then
@@ -309,8 +319,7 @@ pub fn ask_file(
         return Ok(None);
     }
     accepted(answer, fault)?;
-    same_rows(&field, record.rows)?;
-    Ok(Some(Answer { field, record: Record::accepted(record) }))
+    Answer::accepted(field, record).map(Some)
 }
 
 /// The answer to a question: the rows it chooses, and the record of how many they are, of how many.
@@ -341,6 +350,12 @@ impl Clone for Answer {
 }
 
 impl Answer {
+    /// That of a call which the library accepted, with its rows set in the field. The index must be of the field's row count.
+    pub(crate) fn accepted(field: RowField, record: raw::Record) -> Result<Answer, Error> {
+        same_rows(&field, record.rows)?;
+        Ok(Answer { field, record: Record::accepted(record) })
+    }
+
     /// Whether no row is chosen, so that the data file needn't be read.
     ///
     /// ```
@@ -632,7 +647,7 @@ pub struct RecordSubtracted {
     pub removed: u64,
 }
 
-fn accepted(answer: u8, fault: Fault) -> Result<(), Refusal> {
+pub(crate) fn accepted(answer: u8, fault: Fault) -> Result<(), Refusal> {
     if answer == raw::ACCEPTED {
         return Ok(());
     }
@@ -640,7 +655,7 @@ fn accepted(answer: u8, fault: Fault) -> Result<(), Refusal> {
     Err(Refusal::from_raw(answer, fault).unwrap_or_else(|| panic!("{answer} is no answer of the library")))
 }
 
-fn same_rows(field: &RowField, found: u64) -> Result<(), Error> {
+pub(crate) fn same_rows(field: &RowField, found: u64) -> Result<(), Error> {
     let expected = field.rows();
     if found != expected {
         return Err(Error::RowsDiffer { expected, found });

@@ -3,7 +3,8 @@
 //!
 //! A thin layer over an archive that is written and proved in Rattle. Document 01, the rules and scope of the library, decides
 //! what each call answers and which [`Refusal`] it gives. [`ask_file`] goes from an index file to the answer; [`locate`],
-//! [`audit`] and [`ask`] are its steps. [`read_deletions`] and [`subtract_record`] take the deleted rows away, [`subtract`] where there is
+//! [`audit`] and [`ask`] are its steps. [`open`] audits a body of version 2 once, and [`OpenedBody::look_up`] then answers EQUAL without an
+//! audit. [`read_deletions`] and [`subtract_record`] take the deleted rows away, [`subtract`] where there is
 //! no index, and so no record. The [`Record`] that comes with an answer is what a graph may claim of its rows.
 //!
 //! Which rows of a data file hold another value than 7, without the deleted ones?
@@ -64,6 +65,7 @@ mod calls;
 mod commas;
 mod literals;
 mod names;
+mod opened;
 #[allow(unsafe_code)]
 pub mod raw;
 mod record;
@@ -74,6 +76,7 @@ pub use calls::{ask, ask_file, audit, locate, read_deletions, subtract, subtract
 pub use calls::{Answer, Audited, Deleted, Error, RecordSubtracted, Subtracted};
 pub use literals::{Literals, Value};
 pub use names::{Edition, Question, Type, UnknownName};
+pub use opened::{open, LookedUp, OpenedBody};
 pub use record::Record;
 pub use refusal::Refusal;
 pub use row_field::{Ranges, RowField, Rows};

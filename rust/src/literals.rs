@@ -122,9 +122,9 @@ impl<'a> From<&'a Cow<'_, str>> for Value<'a> {
 
 /// The literals of a question, in the stored form of one type.
 ///
-/// They carry the type to [`ask`](crate::ask) and [`ask_file`](crate::ask_file): literals read as another type than they were
-/// written for could fit it by chance and choose wrong rows. A value that has no stored form of the type is [`Refusal::Literal`]
-/// here already. Whether they fit the question, and keep document 01's limits, is for those calls to say.
+/// They carry the type to [`ask`](crate::ask), [`ask_file`](crate::ask_file) and [`look_up`](crate::OpenedBody::look_up): literals read as
+/// another type than they were written for could fit it by chance and choose wrong rows. A value that has no stored form of the type is
+/// [`Refusal::Literal`] here already. Whether they fit the question, and keep document 01's limits, is for those calls to say.
 ///
 /// ```
 /// use poddurance::{Literals, Refusal, Type};

@@ -1,10 +1,10 @@
-//! The seven calls as the archive has them: numbers in, numbers out, over buffers that the caller keeps.
+//! The nine calls as the archive has them: numbers in, numbers out, over buffers that the caller keeps.
 //!
 //! Each call answers [`ACCEPTED`], [`ABSENT`] ([`locate`] and [`ask_file`] alone) or the number of a [`Refusal`](crate::Refusal),
-//! and then its counts, of [`ask`], [`ask_file`] and [`subtract_record`] the [`Record`], which are 0 unless the call accepts; those that
-//! read bitmaps answer last the [`Fault`], where a refusal's cause is.
+//! and then its counts, of [`ask`], [`ask_file`], [`look_up`] and [`subtract_record`] the [`Record`] first, which are 0 unless the call
+//! accepts; those that read bitmaps answer last the [`Fault`], where a refusal's cause is.
 //! These functions are for callers that reuse their own buffers; the functions at the top of the crate keep a field and its row count
-//! together and are harder to use wrongly.
+//! together, and an opened body, its type and its table, and are harder to use wrongly.
 //!
 //! A row field for n rows is the first ceil(n/8) bytes of the lent buffer. **Bytes behind it never change**, so that a buffer
 //! longer than that may hold rows of an earlier call behind the field: read no more than ceil(n/8) bytes of it. ABSENT, LIMIT,
@@ -44,6 +44,15 @@ pub const ACCEPTED: u8 = 0;
 /// ```
 pub const ABSENT: u8 = 255;
 
+/// The most blocks of a body, by document 01's limit: a table of so many words has room for every body that [`open`] accepts.
+///
+/// ```
+/// // A body that claims one block more is LIMIT (12).
+/// let body = [2, 0, 0, 0, 0, 0, 1, 0, 0, 0, 0, 1, 0, 1];
+/// assert_eq!(poddurance::raw::open(&body, 0, &mut [], &mut [0; poddurance::raw::MOST_BLOCKS]).0, 12);
+/// ```
+pub const MOST_BLOCKS: usize = 65_536;
+
 /// Where the cause of a refusal is. It is 0 in each number that the refusal doesn't carry, and [`Fault::NONE`] with [`ACCEPTED`] and
 /// [`ABSENT`]. [`Refusal`](crate::Refusal) says which refusal carries what, and holds the same numbers.
 ///
@@ -57,7 +66,8 @@ pub const ABSENT: u8 = 255;
 #[derive(Clone, Copy, Debug, Default, PartialEq, Eq, Hash)]
 #[repr(C)]
 pub struct Fault {
-    /// The number of the entry: 0 for null's and in a deletion bin, 1 and on for the values' in stored order.
+    /// The number of the entry: 0 for null's and in a deletion bin, 1 and on for the values' in stored order, through all blocks; of
+    /// [`look_up`], which knows one block alone, within the block.
     pub entry: u64,
     /// The number of the container in the entry's bitmap, from 0.
     pub container: u64,
@@ -169,6 +179,33 @@ mod c {
             field: *mut u8,
             field_len: usize,
             record: *mut Record,
+            fault: *mut Fault,
+        ) -> u8;
+        pub fn poddurance_open(
+            body: *const u8,
+            body_len: usize,
+            ty: u32,
+            field: *mut u8,
+            field_len: usize,
+            table: *mut u32,
+            table_words: usize,
+            rows: *mut u64,
+            blocks: *mut u64,
+            fault: *mut Fault,
+        ) -> u8;
+        pub fn poddurance_look_up(
+            body: *const u8,
+            body_len: usize,
+            ty: u32,
+            edition: u32,
+            literals: *const u8,
+            literals_len: usize,
+            table: *const u32,
+            table_words: usize,
+            field: *mut u8,
+            field_len: usize,
+            record: *mut Record,
+            compared: *mut u64,
             fault: *mut Fault,
         ) -> u8;
         pub fn poddurance_read_deletions(
@@ -379,6 +416,106 @@ pub fn ask_file(
         )
     };
     (answer, record, fault)
+}
+
+/// Open, for version 2: the answer, the row count of the body, its number of blocks, and where a refusal's cause is. It audits as
+/// [`audit`] does; a body of another version is VERSION (3). Accepted, the field's bytes are zero, and the table's first words, one for each
+/// block, are where the block's entry in the directory starts in the body; words behind them are as they were.
+///
+/// The table is lent to [`look_up`], with this body and type, to find values without an audit. One with fewer words than the body has blocks
+/// is ROOM (10), as is a field that is too short; [`MOST_BLOCKS`] words always do, and the table may be longer. A refusal leaves the table
+/// as it was.
+///
+/// ```
+/// use poddurance::raw::{open, Fault};
+///
+/// // TINYINT (0) with the rows 7, 9, null, in two blocks of one value each.
+/// let body = [
+///     2, 0, 0, 0, 3, 0, 0, 0, 2, 1, 255, 255, 255, 253, 255, 255, 255, 255, 0, 0, 0, 2, // version, counts, null
+///     7, 0, 0, 0, 0, 9, 0, 0, 0, 13, 0, 0, 0, 26, // the directory starts at 22, its second entry at 27
+///     0, 0, 0, 1, 7, 255, 255, 255, 255, 255, 255, 255, 255, 0, 0, 0, 1, 9, 255, 255, 255, 254, 255, 255, 255, 255,
+/// ];
+/// let (mut field, mut table) = ([0xAA; 2], [7; 3]);
+/// assert_eq!(open(&body, 0, &mut field, &mut table), (0, 3, 2, Fault::NONE));
+/// assert_eq!((field, table), ([0, 0xAA], [22, 27, 7])); // what lies behind is as it was
+/// assert_eq!(open(&body, 0, &mut field, &mut table[..1]), (10, 0, 0, Fault::NONE)); // two blocks, one word
+/// ```
+#[must_use]
+pub fn open(body: &[u8], ty: u32, field: &mut [u8], table: &mut [u32]) -> (u8, u64, u64, Fault) {
+    let (mut rows, mut blocks, mut fault) = (0, 0, Fault::NONE);
+    // SAFETY: a slice's pointer is never null, is aligned and is good for its length, `field`'s and `table`'s for writing too; the results
+    // are three locals good for writing. All live through the call, which keeps none of them. `field` and `table` are borrowed mutably, so
+    // that they overlap neither each other nor `body`.
+    let answer = unsafe {
+        c::poddurance_open(
+            body.as_ptr(),
+            body.len(),
+            ty,
+            field.as_mut_ptr(),
+            field.len(),
+            table.as_mut_ptr(),
+            table.len(),
+            &mut rows,
+            &mut blocks,
+            &mut fault,
+        )
+    };
+    (answer, rows, blocks, fault)
+}
+
+/// EQUAL of a body that [`open`] accepted, without an audit: the answer, the record, with how many values the literal was compared, and where
+/// a refusal's cause is. Accepted, the rows of the literal's value are set in the field and counted as the record's `matched`, of which 0 says
+/// skip.
+///
+/// **`body`, `ty` and `table` are to be those of one accepted open**, neither changed since: then answer, record and field are those of [`ask`].
+/// With others this call reads no byte outside its buffers, and refuses what it can't read; but it does not audit, and what it accepts may
+/// lack rows. BITMAP (6) and RANGE (7) then count the entry within its block. [`OpenedBody`](crate::OpenedBody) keeps the three together.
+///
+/// ```
+/// use poddurance::raw::{look_up, open, Fault, Record};
+///
+/// // TINYINT (0) with the rows 7, 9, null, in two blocks of one value each.
+/// let body = [
+///     2, 0, 0, 0, 3, 0, 0, 0, 2, 1, 255, 255, 255, 253, 255, 255, 255, 255, 0, 0, 0, 2, // version, counts, null
+///     7, 0, 0, 0, 0, 9, 0, 0, 0, 13, 0, 0, 0, 26,
+///     0, 0, 0, 1, 7, 255, 255, 255, 255, 255, 255, 255, 255, 0, 0, 0, 1, 9, 255, 255, 255, 254, 255, 255, 255, 255,
+/// ];
+/// let (mut field, mut table) = ([0], [0; 2]);
+/// assert_eq!(open(&body, 0, &mut field, &mut table).0, 0);
+///
+/// // Edition 2. 9 is compared with the second block's first value in the directory, and with that block's one value.
+/// let record = Record { rows: 3, nulls: 1, deleted: 0, matched: 1 };
+/// assert_eq!(look_up(&body, 0, 2, &[9], &table, &mut field), (0, record, 2, Fault::NONE));
+/// assert_eq!(field, [0b010]);
+/// // 6 comes before both blocks, and none is read.
+/// assert_eq!(look_up(&body, 0, 2, &[6], &table, &mut field), (0, Record { matched: 0, ..record }, 2, Fault::NONE));
+/// // Two literals are not EQUAL's: LITERAL (11).
+/// assert_eq!(look_up(&body, 0, 2, &[7, 9], &table, &mut field), (11, Record::NONE, 0, Fault::NONE));
+/// ```
+#[must_use]
+pub fn look_up(body: &[u8], ty: u32, edition: u32, literals: &[u8], table: &[u32], field: &mut [u8]) -> (u8, Record, u64, Fault) {
+    let (mut record, mut compared, mut fault) = (Record::NONE, 0, Fault::NONE);
+    // SAFETY: a slice's pointer is never null, is aligned and is good for its length, `field`'s for writing too; the results are three
+    // locals good for writing. All live through the call, which keeps none of them. `field` is borrowed mutably, so that it overlaps no
+    // other buffer; the others are read alone.
+    let answer = unsafe {
+        c::poddurance_look_up(
+            body.as_ptr(),
+            body.len(),
+            ty,
+            edition,
+            literals.as_ptr(),
+            literals.len(),
+            table.as_ptr(),
+            table.len(),
+            field.as_mut_ptr(),
+            field.len(),
+            &mut record,
+            &mut compared,
+            &mut fault,
+        )
+    };
+    (answer, record, compared, fault)
 }
 
 /// Read deletions: the answer, how many rows bin number `bin` of the deletion file lists, and where a refusal's cause is, its entry

@@ -5,8 +5,9 @@ use crate::raw;
 
 /// What a graph may claim of its rows: four counts of the library, and the sentence that it may print.
 ///
-/// Only accepted calls make one: [`ask`](crate::ask) and [`ask_file`](crate::ask_file) with their [`Answer`](crate::Answer), and
-/// [`subtract_record`](crate::subtract_record), which takes one and hands it back. A refused call has none that could be handed on.
+/// Only accepted calls make one: [`ask`](crate::ask), [`ask_file`](crate::ask_file) and [`look_up`](crate::OpenedBody::look_up) with their
+/// [`Answer`](crate::Answer), and [`subtract_record`](crate::subtract_record), which takes one and hands it back. A refused call has none
+/// that could be handed on.
 ///
 /// It prints as its matched rows of all rows, with commas for thousands. Whether deletions were subtracted it doesn't know:
 /// until they are, [`deleted`](Record::deleted) is 0.

@@ -5,7 +5,8 @@ use crate::raw::Fault;
 /// Why the library doesn't vouch for what it was given: document 01's fourteen refusals. Four of them say where the cause is.
 ///
 /// An entry is the place of one value, or of null, in an index: null's has the number 0, the values' are 1 and on in stored order, whether
-/// there is a null or not and through all blocks. A deletion bin has no entries, and the entry named there is 0. A container holds the rows
+/// there is a null or not and through all blocks. ([`raw::look_up`](crate::raw::look_up) alone, of a body that wasn't opened, counts them within
+/// a block.) A deletion bin has no entries, and the entry named there is 0. A container holds the rows
 /// of a bitmap that have the same upper half; containers are numbered from 0 in stored order.
 ///
 /// ```
@@ -24,7 +25,7 @@ pub enum Refusal {
     Short,
     /// The magic of an index file or a bin differs.
     Magic,
-    /// The version of an index file, a body or a deletion file is unknown.
+    /// The version of an index file, a body or a deletion file is unknown, or a body that was to be opened is not of version 2.
     Version,
     /// The head of an index file breaks a rule.
     Head,
@@ -54,7 +55,8 @@ pub enum Refusal {
         /// The lowest one.
         row: u64,
     },
-    /// A lent field has fewer than ceil(n/8) bytes.
+    /// A lent field has fewer than ceil(n/8) bytes. A [`raw`](crate::raw) call also gives it for a table that has fewer words than the body has
+    /// blocks.
     Room,
     /// Literals don't fit question and type, or a name can't be asked for: that of a column or kind takes more than 65,535 bytes in
     /// modified UTF-8, so that no file can store it ([`locate`](crate::locate)). A [`raw`](crate::raw) call also gives it for a name that
@@ -258,7 +260,8 @@ impl Refusal {
         format!("{} ({}), {}", self.name(), self.number(), self.meaning())
     }
 
-    /// When it is given, as document 01's table of refusals says it; LITERAL also tells of names, which document 02 added.
+    /// When it is given, as document 01's table of refusals says it, and for what document 02 added: VERSION and ROOM also tell of opening a
+    /// body, LITERAL of names.
     ///
     /// ```
     /// use poddurance::Refusal;
@@ -271,14 +274,14 @@ impl Refusal {
         match self {
             Refusal::Short => "the bytes end inside a field that is due, outside bitmaps",
             Refusal::Magic => "index file or bin magic differs",
-            Refusal::Version => "index file not 1; body not 1 or 2; deletion file not 1",
+            Refusal::Version => "index file not 1; body not 1 or 2, or not 2 for open and lookup; deletion file not 1",
             Refusal::Head => "index file head breaks a rule",
             Refusal::Dict => "dictionary breaks a rule",
             Refusal::Bitmap { .. } => "place, length or form of a bitmap is wrong",
             Refusal::Range { .. } => "a row at or above the row count",
             Refusal::Twice { .. } => "a row already placed",
             Refusal::Missing { .. } => "a row never placed",
-            Refusal::Room => "a lent field has fewer than ceil(n/8) bytes",
+            Refusal::Room => "a lent field has fewer than ceil(n/8) bytes, or a lent table fewer words than blocks",
             Refusal::Literal => "literals don't fit question and type, or a name can't be asked for",
             Refusal::Limit => "a limit is passed",
             Refusal::Checksum => "bin checksum differs",

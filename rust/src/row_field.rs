@@ -7,9 +7,10 @@ use crate::{Refusal, LIMIT};
 /// A set of the rows of one data file: row r is the bit of weight 2^(r mod 8) in byte r/8.
 ///
 /// A field knows its row count and has no byte and no bit beyond it, so that what it counts and iterates over are rows of that
-/// file and nothing else. [`ask_file`](crate::ask_file), [`ask`](crate::ask), [`audit`](crate::audit) and
-/// [`read_deletions`](crate::read_deletions) take a field as memory to work in and give it back with their answer. A refusal gives none back: there is no field left in which an earlier
-/// answer, or nothing at all, could be taken for the answer.
+/// file and nothing else. [`ask_file`](crate::ask_file), [`ask`](crate::ask), [`audit`](crate::audit), [`open`](crate::open),
+/// [`look_up`](crate::OpenedBody::look_up) and [`read_deletions`](crate::read_deletions) take a field as memory to work in and give it back
+/// with their answer. A refusal gives none back: there is no field left in which an earlier answer, or nothing at all, could be taken for
+/// the answer.
 ///
 /// ```
 /// use poddurance::{read_deletions, RowField};

@@ -72,6 +72,12 @@ fn complains<S: AsRef<OsStr> + std::fmt::Debug>(words: &[S], part: &str) {
 
 const SMALL: [u8; 24] = [1, 0, 0, 0, 3, 0, 0, 0, 2, 1, 255, 255, 255, 253, 7, 255, 255, 255, 255, 9, 255, 255, 255, 254];
 
+/// The same as version 2, as document 01 writes it out: two blocks, of 7 and of 9.
+const SMALL_2: [u8; 62] = [
+    2, 0, 0, 0, 3, 0, 0, 0, 2, 1, 255, 255, 255, 253, 255, 255, 255, 255, 0, 0, 0, 2, 7, 0, 0, 0, 0, 9, 0, 0, 0, 13, 0, 0, 0, 26,
+    0, 0, 0, 1, 7, 255, 255, 255, 255, 255, 255, 255, 255, 0, 0, 0, 1, 9, 255, 255, 255, 254, 255, 255, 255, 255,
+];
+
 /// An index file with one index on one column. The names are bytes as they are stored, or text that is stored as in UTF-8.
 fn index_file(column: impl AsRef<[u8]>, kind: impl AsRef<[u8]>, body: &[u8]) -> Vec<u8> {
     let (column, kind) = (column.as_ref(), kind.as_ref());
@@ -114,6 +120,26 @@ fn events() -> Vec<u8> {
     }
     body.extend(entries.iter().flat_map(|(_, rows)| rows));
     body
+}
+
+/// The same as version 2, in two blocks: click and login, and purchase.
+fn events_2() -> Vec<u8> {
+    let blocks = [&[("click", bitmap(&[1, 4])), ("login", bitmap(&[0, 2, 5]))][..], &[("purchase", bitmap(&[3]))]];
+    let stored = |value: &str| [&(value.len() as u32).to_be_bytes(), value.as_bytes()].concat();
+    let (mut directory, mut entries, mut bitmaps) = (Vec::new(), Vec::new(), Vec::new());
+    for block in blocks {
+        directory.extend(stored(block[0].0));
+        directory.extend((entries.len() as u32).to_be_bytes());
+        entries.extend((block.len() as u32).to_be_bytes());
+        for (value, rows) in block {
+            entries.extend(stored(value));
+            entries.extend((bitmaps.len() as u32).to_be_bytes());
+            entries.extend((rows.len() as u32).to_be_bytes());
+            bitmaps.extend(rows);
+        }
+    }
+    let front = [2, 0, 0, 0, 6, 0, 0, 0, 3, 0, 0, 0, 0, 2];
+    [&front[..], &directory, &(entries.len() as u32).to_be_bytes(), &entries, &bitmaps].concat()
 }
 
 /// A deletion file with these bitmaps.
@@ -263,6 +289,8 @@ fn names_that_cannot_be_asked_for() {
             says(&["locate", file, name, name], 3, &refused);
             says(&["audit", file, name, "TINYINT"], 3, &refused);
             says(&["ask", file, name, "TINYINT", "EQUAL", "7"], 3, &refused);
+            says(&["open", file, name, "TINYINT"], 3, &refused);
+            says(&["lookup", file, name, "TINYINT", "7"], 3, &refused);
             // Literals that don't fit, which are LITERAL too, are read when the index is found.
             says(&["ask", file, name, "TINYINT", "EQUAL"], 3, &refused);
             says(&["locate", file, "s", name], 3, &format!("refused: LITERAL (11), {of_kind}"));
@@ -488,10 +516,14 @@ fn an_edition_is_never_assumed() {
         }
         complains(&asked(&["--edition", "2", "--edition", "2"]), "--edition is there twice");
     }
-    for words in
-        [&["columns", file][..], &["locate", file, "s"], &["audit", file, "s", "TINYINT"], &["deletions", file, "0", "6"]]
-    {
-        complains(&[words, &["--edition", "2"]].concat(), "--edition goes with ask alone");
+    for words in [
+        &["columns", file][..],
+        &["locate", file, "s"],
+        &["audit", file, "s", "TINYINT"],
+        &["open", file, "s", "TINYINT"],
+        &["deletions", file, "0", "6"],
+    ] {
+        complains(&[words, &["--edition", "2"]].concat(), "--edition goes with ask and lookup alone");
     }
     // It is said before the file is looked for.
     complains(&["ask", "/no such folder/f", "s", "TINYINT", "NOT IN"], needed);
@@ -595,6 +627,264 @@ fn asks_with_deletions() {
     );
 }
 
+#[test]
+fn opens() {
+    let folder = Folder::new();
+    let file = &folder.write("index", &index_file("s", "bitmap", &SMALL_2));
+    says(&["open", file, "s", "TINYINT"], 0, "opened: 3 rows, each in exactly one place; 2 blocks, table of 8 bytes");
+    says(&["open", file, "s", "tinyint", "--json"], 0, r#"{"answer":"opened","rows":3,"blocks":2,"table_bytes":8}"#);
+    says(
+        &["open", "none", "s", "TINYINT", "--embedded", file],
+        0,
+        "opened: 3 rows, each in exactly one place; 2 blocks, table of 8 bytes",
+    );
+    says(&["open", file, "x", "TINYINT"], 4, "absent: no bitmap index on column \"x\"");
+    says(&["open", file, "x", "TINYINT", "--json"], 4, r#"{"answer":"absent","column":"x","kind":"bitmap"}"#);
+    // Another row count than the data file's.
+    says(
+        &["open", file, "s", "TINYINT", "--row-count", "3"],
+        0,
+        "opened: 3 rows, each in exactly one place; 2 blocks, table of 8 bytes",
+    );
+    for command in [&["open", file, "s", "TINYINT"][..], &["lookup", file, "s", "TINYINT", "7"]] {
+        let of_1000 = [command, &["--row-count", "1000"]].concat();
+        says(&of_1000, 3, "refused: the index is of 3 rows, the data file has 1,000");
+    }
+    // No rows, and so no values and no blocks.
+    let none = &folder.write("none", &index_file("s", "bitmap", &[2, 0, 0, 0, 0, 0, 0, 0, 0, 0, 0, 0, 0, 0, 0, 0, 0, 0]));
+    says(&["open", none, "s", "INT"], 0, "opened: 0 rows, each in exactly one place; 0 blocks, table of 0 bytes");
+    says(
+        &["lookup", none, "s", "INT", "7"],
+        1,
+        "skip \"7\": drawn from 0 of 0 rows (deletions not applied, 0 null), compared with 0 values",
+    );
+}
+
+/// Version 1 has no directory to look values up by, and the user is told what reads it.
+#[test]
+fn version_1_can_not_be_opened() {
+    let folder = Folder::new();
+    let file = &folder.write("index", &index_file("s", "bitmap", &SMALL));
+    let meaning = "only an index of version 2 can be opened; ask takes version 1 too";
+    for command in [&["open", file, "s", "TINYINT"][..], &["lookup", file, "s", "TINYINT", "7"]] {
+        says(command, 3, &format!("refused: VERSION (3), {meaning}"));
+        let json = format!(r#"{{"answer":"refused","file":"index","name":"VERSION","number":3,"meaning":"{meaning}"}}"#);
+        says(&[command, &["--json"]].concat(), 3, &json);
+    }
+    says(&["ask", file, "s", "TINYINT", "EQUAL", "7"], 0, "keep: drawn from 1 of 3 rows (deletions not applied, 1 null)");
+    // The version of the file is another one, and Locate's to refuse.
+    let mut bytes = index_file("s", "bitmap", &SMALL_2);
+    bytes[11] = 2;
+    let file = &folder.write("file", &bytes);
+    says(
+        &["open", file, "s", "TINYINT"],
+        3,
+        "refused: VERSION (3), index file not 1; body not 1 or 2, or not 2 for open and lookup; deletion file not 1",
+    );
+}
+
+/// Each literal has the line of ask's EQUAL, and the number of values that it was compared with: by document 02 the halving of two blocks
+/// looks at the second one's first value, and at the first one's where the literal comes before that.
+#[test]
+fn looks_up() {
+    let folder = Folder::new();
+    let file = &folder.write("index", &index_file("state", "bitmap", &events_2()));
+    says(&["audit", file, "state", "STRING"], 0, "accepted: 6 rows, each in exactly one place");
+    let look_up = ["lookup", file, "state", "STRING"];
+    let with = |more: &[&'static str]| [&look_up[..], more].concat();
+    let claim = |matched: u64| format!("drawn from {matched} of 6 rows (deletions not applied, 0 null)");
+    // Two first values, then login behind click; one first value, then purchase.
+    let login = format!("keep \"login\": {}, compared with 4 values", claim(3));
+    let purchase = format!("keep \"purchase\": {}, compared with 2 values", claim(1));
+    // Before all: two first values. Between: two, and the two of the first block. Behind all: one, and the one of the second.
+    let [before, between, behind] = [("a", 2), ("m", 4), ("z", 2)]
+        .map(|(literal, compared)| format!("skip \"{literal}\": {}, compared with {compared} values", claim(0)));
+    says(&with(&["login"]), 0, &login);
+    says(&with(&["login", "purchase", "a"]), 0, &[&login[..], &purchase, &before].join("\n"));
+    says(&with(&["m", "login", "login", "z"]), 0, &[&between[..], &login, &login, &behind].join("\n"));
+    says(&with(&["a", "m", "z"]), 1, &[&before[..], &between, &behind].join("\n"));
+    says(&with(&["purchase", "--edition", "1"]), 0, &purchase);
+    says(&with(&["purchase", "--edition", "2"]), 0, &purchase);
+    says(
+        &with(&["login", "m", "purchase", "--rows"]),
+        0,
+        &[&login[..], "rows: 0, 2, 5", &between, "rows: none", &purchase, "rows: 3"].join("\n"),
+    );
+    let object = |literal: &str, answer: &str, matched: u64, compared: u64| {
+        format!(
+            r#"{{"literal":"{literal}","answer":"{answer}","rows":6,"nulls":0,"deleted":null,"matched":{matched},"removed":null,"compared":{compared}"#
+        )
+    };
+    says(
+        &with(&["login", "a", "--json"]),
+        0,
+        &format!(r#"{{"answer":"looked-up","lookups":[{}}},{}}}]}}"#, object("login", "keep", 3, 4), object("a", "skip", 0, 2)),
+    );
+    says(
+        &with(&["a", "--json", "--rows"]),
+        1,
+        &format!(r#"{{"answer":"looked-up","lookups":[{},"ranges":[]}}]}}"#, object("a", "skip", 0, 2)),
+    );
+    says(
+        &with(&["login", "--json", "--rows"]),
+        0,
+        &format!(r#"{{"answer":"looked-up","lookups":[{},"ranges":[[0,0],[2,2],[5,5]]}}]}}"#, object("login", "keep", 3, 4)),
+    );
+    says(&["lookup", file, "x", "STRING", "login", "a"], 4, "absent: no bitmap index on column \"x\"");
+    // From standard input, and embedded.
+    let bytes = index_file("state", "bitmap", &events_2());
+    says_of_input(&["lookup", "-", "state", "STRING", "login"], &bytes, 0, &login);
+    says_of_input(&["lookup", "none", "state", "STRING", "login", "--embedded", "-"], &bytes, 0, &login);
+}
+
+/// What a lookup says of a literal is what ask says of it, but for the values compared.
+#[test]
+fn a_lookup_says_what_ask_says() {
+    let folder = Folder::new();
+    let events = &folder.write("events", &index_file("c", "bitmap", &events_2()));
+    let small = &folder.write("small", &index_file("c", "bitmap", &SMALL_2));
+    let deletions = &folder.write("deletions", &deletion_file(&[bitmap(&[0, 2])]));
+    let demo = Path::new(env!("CARGO_MANIFEST_DIR")).join("../demo/pumps-v2.index");
+    let demo = demo.to_str().unwrap();
+    for (file, column, ty, literals) in [
+        (&events[..], "c", "STRING", &["click", "login", "purchase", "", "a", "loginn", "z"][..]),
+        (small, "c", "TINYINT", &["7", "9", "8", "-7", "127"]),
+        (demo, "state", "STRING", &["fault", "idle", "running", "stopped"]),
+        (demo, "alarm", "BOOLEAN", &["true", "false"]),
+    ] {
+        for more in [&[][..], &["--rows"], &["--edition", "1"], &["--rows", "--deletions", deletions, "--bin", "0"]] {
+            let asked: Vec<(i32, String, String)> = literals
+                .iter()
+                .map(|literal| run(&[&["ask", file, column, ty, "EQUAL"], more, &["--", literal]].concat()))
+                .collect();
+            let (status, out, err) = run(&[&["lookup", file, column, ty], more, &["--"], literals].concat());
+            assert_eq!((status, err.as_str()), (asked.iter().map(|(status, ..)| *status).min().unwrap(), ""));
+            // The literal stands behind keep or skip, and the values compared at the line's end.
+            let lines: Vec<String> = out
+                .lines()
+                .map(|line| match line.split_once(", compared with ") {
+                    Some((line, _)) => line.replacen(&line[4..line.find(": ").unwrap()], "", 1),
+                    None => line.to_string(),
+                })
+                .collect();
+            let expected: Vec<&str> = asked.iter().flat_map(|(_, line, _)| line.lines()).collect();
+            assert_eq!(lines, expected, "{file} {more:?}");
+            let shown = literals.iter().filter(|literal| out.contains(&format!(" {literal:?}: drawn from ")));
+            assert_eq!(shown.count(), literals.len());
+        }
+    }
+}
+
+#[test]
+fn looks_up_with_deletions() {
+    let folder = Folder::new();
+    let file = &folder.write("index", &index_file("state", "bitmap", &events_2()));
+    let deletions = &folder.write("deletions", &deletion_file(&[bitmap(&[0, 1]), bitmap(&[0, 2, 5])]));
+    let look_up = |more: &[&str], bin: &str| {
+        let words = [&["lookup", file, "state", "STRING"], more, &["--deletions", deletions, "--bin", bin]].concat();
+        words.into_iter().map(String::from).collect::<Vec<_>>()
+    };
+    says(
+        &look_up(&["login", "purchase", "--rows"], "0"),
+        0,
+        "keep \"login\": drawn from 2 of 6 rows (2 deleted, 0 null), compared with 4 values\nrows: 2, 5\n\
+         keep \"purchase\": drawn from 1 of 6 rows (2 deleted, 0 null), compared with 2 values\nrows: 3",
+    );
+    // All rows of login are deleted.
+    let skipped = "skip \"login\": drawn from 0 of 6 rows (3 deleted, 0 null), compared with 4 values";
+    says(&look_up(&["login"], "1"), 1, skipped);
+    let kept = "keep \"purchase\": drawn from 1 of 6 rows (3 deleted, 0 null), compared with 2 values";
+    says(&look_up(&["login", "purchase"], "1"), 0, &format!("{skipped}\n{kept}"));
+    says(
+        &look_up(&["login", "--json"], "1"),
+        1,
+        r#"{"answer":"looked-up","lookups":[{"literal":"login","answer":"skip","rows":6,"nulls":0,"deleted":3,"matched":0,"removed":3,"compared":4}]}"#,
+    );
+    // A refused deletion file is no answer, also where no literal has a row.
+    for literals in [&["login", "m"][..], &["m"]] {
+        let line = "refused: NOBIN (14), bin number not below the number of bins, in the deletion file";
+        says(&look_up(literals, "2"), 3, line);
+    }
+    complains(
+        &["lookup", file, "state", "STRING", "login", "--deletions", "/no such folder/d", "--bin", "0"],
+        "can't read /no such folder/d: ",
+    );
+    // Without an index, and with one that is refused, it isn't looked for.
+    let absent = ["lookup", file, "x", "STRING", "login", "--deletions", "/no such folder/d", "--bin", "0"];
+    says(&absent, 4, "absent: no bitmap index on column \"x\"");
+}
+
+/// Open refuses what audit refuses, in the same words, and lookup has no line for any literal then.
+#[test]
+fn every_refusal_of_an_index_to_open() {
+    let folder = Folder::new();
+    let whole = index_file("s", "bitmap", &SMALL_2);
+    let changed = |at: usize, byte: u8| {
+        let mut bytes = whole.clone();
+        bytes[at] = byte;
+        bytes
+    };
+    // The body starts at 47: row count 48 to 51, value number 52 to 55, has-null 56, null's offset 57 to 60, block number 65 to 68, the directory
+    // 69 to 78, the body offset 79 to 82, 7 at 87 with its offset 88 to 91, 9 at 100 with its offset 101 to 104.
+    for (bytes, name) in [
+        (vec![], "SHORT"),
+        (index_file("s", "bitmap", &SMALL_2[..61]), "SHORT"),
+        (index_file("s", "bitmap", &[]), "SHORT"),
+        (changed(7, 0xAF), "MAGIC"),
+        (whole[..108].to_vec(), "HEAD"),
+        (changed(56, 2), "DICT"),
+        (changed(74, 8), "DICT"),
+        (changed(82, 25), "DICT"),
+        (changed(57, 0), "BITMAP"),
+        (changed(101, 0), "BITMAP"),
+        (changed(91, 0xFC), "RANGE"),
+        (changed(104, 0xFF), "TWICE"),
+        (changed(51, 4), "MISSING"),
+        (changed(54, 0x11), "DICT"),
+        (changed(53, 2), "LIMIT"),
+        (changed(66, 2), "LIMIT"),
+    ] {
+        let file = &folder.write("index", &bytes);
+        for more in [&[][..], &["--json"]] {
+            let (status, out, err) = run(&[&["audit", file, "s", "TINYINT"], more].concat());
+            assert_eq!((status, err.as_str()), (3, ""), "{name}");
+            assert!(out.contains(name), "{name}: {out}");
+            let line = out.trim_end();
+            says(&[&["open", file, "s", "TINYINT"], more].concat(), 3, line);
+            says(&[&["lookup", file, "s", "TINYINT", "7", "8"], more].concat(), 3, line);
+        }
+    }
+    // Read as STRING the directory begins with a length over the limit.
+    let file = folder.write("whole", &whole);
+    says(&["open", &file, "s", "STRING"], 3, "refused: LIMIT (12), a limit is passed");
+}
+
+/// A literal that is refused leaves no line for the others, and names no file.
+#[test]
+fn a_literal_that_is_too_long_to_look_up() {
+    let folder = Folder::new();
+    let file = &folder.write("index", &index_file("state", "bitmap", &events_2()));
+    let long = |length: usize, more: &[&str]| {
+        let text = "x".repeat(length);
+        [&["lookup", file, "state", "STRING", "login", &text], more]
+            .concat()
+            .iter()
+            .map(|word| word.to_string())
+            .collect::<Vec<_>>()
+    };
+    assert_eq!(run(&long(65_535, &[])).0, 0);
+    says(&long(65_536, &[]), 3, "refused: LIMIT (12), a limit is passed");
+    says(
+        &long(65_536, &["--json"]),
+        3,
+        r#"{"answer":"refused","file":null,"name":"LIMIT","number":12,"meaning":"a limit is passed"}"#,
+    );
+    // More literals than one question may have: each is a question of its own.
+    let many = [&["lookup", file, "state", "STRING"][..], &vec!["login"; 1_025]].concat();
+    let (status, out, err) = run(&many);
+    assert_eq!((status, out.lines().count(), err.as_str()), (0, 1_025, ""));
+}
+
 /// The sentence that document 02 wants on a graph, with commas in each count of rows of a line and in none of JSON's numbers.
 #[test]
 fn thousands_have_commas() {
@@ -681,8 +971,8 @@ fn every_refusal_of_an_index() {
         (vec![], "SHORT (1), the bytes end inside a field that is due, outside bitmaps"),
         (index_file("s", "bitmap", &SMALL[..23]), "SHORT (1), the bytes end inside a field that is due, outside bitmaps"),
         (changed(7, 0xAF), "MAGIC (2), index file or bin magic differs"),
-        (changed(11, 2), "VERSION (3), index file not 1; body not 1 or 2; deletion file not 1"),
-        (changed(47, 3), "VERSION (3), index file not 1; body not 1 or 2; deletion file not 1"),
+        (changed(11, 2), "VERSION (3), index file not 1; body not 1 or 2, or not 2 for open and lookup; deletion file not 1"),
+        (changed(47, 3), "VERSION (3), index file not 1; body not 1 or 2, or not 2 for open and lookup; deletion file not 1"),
         (whole[..70].to_vec(), "HEAD (4), index file head breaks a rule"),
         (changed(66, 7), "DICT (5), dictionary breaks a rule"),
         (changed(57, 0), "BITMAP (6), place, length or form of a bitmap is wrong: entry 0, container 0"),
@@ -834,7 +1124,12 @@ fn every_refusal_of_deletions() {
         (vec![], "0", "6", "SHORT (1), the bytes end inside a field that is due, outside bitmaps"),
         (whole[..34].to_vec(), "0", "6", "SHORT (1), the bytes end inside a field that is due, outside bitmaps"),
         (changed(5, 0), "0", "6", "MAGIC (2), index file or bin magic differs"),
-        (changed(0, 2), "0", "6", "VERSION (3), index file not 1; body not 1 or 2; deletion file not 1"),
+        (
+            changed(0, 2),
+            "0",
+            "6",
+            "VERSION (3), index file not 1; body not 1 or 2, or not 2 for open and lookup; deletion file not 1",
+        ),
         (deletion_file(&[vec![0; 8]]), "0", "6", "BITMAP (6), place, length or form of a bitmap is wrong: container 0"),
         (
             deletion_file(&[[bitmap(&[0, 2, 5]), vec![0]].concat()]),
@@ -899,7 +1194,12 @@ fn literals_of_every_type() {
 fn wrong_usage() {
     let folder = Folder::new();
     let file = &folder.write("index", &index_file("s", "bitmap", &SMALL));
-    complains::<&str>(&[], "a command: columns, locate, audit, ask or deletions is missing");
+    complains::<&str>(&[], "a command: columns, locate, audit, ask, open, lookup or deletions is missing");
+    complains(&["lookup", file, "s", "TINYINT"], "LITERAL is missing");
+    complains(&["lookup", file, "s", "TINYINT", "7", "EQUAL"], "\"EQUAL\" is no TINYINT");
+    complains(&["lookup", file, "s", "TIMESTAMP", "2024-01-01T10:00:00"], "needs --millis or --micros");
+    complains(&["open", file, "s", "TINYINT", "7"], "\"7\" is one word too many");
+    complains(&["ask", file, "s", "TINYINT", "EQUAL", "7", "--no-audit"], "\"--no-audit\" is no option");
     complains(&["audit", file, "s", "TINYINT", "--of", "3"], "\"--of\" is no option");
     complains(&["locate", "-", "s", "--embedded", "-"], "standard input can be read once, and - is there twice");
     complains(&["find", file], "\"find\" is no command");
@@ -964,6 +1264,8 @@ fn help_and_version() {
         let (status, out, err) = run(words);
         assert_eq!((status, err.as_str()), (0, ""));
         assert!(out.contains("poddurance ask FILE COLUMN TYPE QUESTION [LITERAL..] [--edition 1|2]\n"));
+        assert!(out.contains("poddurance open FILE COLUMN TYPE [--row-count ROWS] [--embedded FILE]\n"));
+        assert!(out.contains("poddurance lookup FILE COLUMN TYPE LITERAL.. [--edition 1|2]\n"));
         // What each edition does with null rows.
         assert!(out.contains("1: they choose null rows too") && out.contains("2: they choose no null row"));
         // What can't be asked for, and how names are shown.
@@ -974,6 +1276,8 @@ fn help_and_version() {
             "One that has the zero character can't be a word",
             "with \\ escapes for double quotes, backslashes and what doesn't show by itself,",
             "The name itself is in --json.",
+            "An index of version 1 is refused: VERSION (3); ask takes both",
+            "A literal that no row has is a skip. If anything is refused no literal is answered",
         ] {
             assert!(sentences.contains(sentence), "{sentence}");
         }

@@ -48,7 +48,7 @@ fn commands_answer_as_shown() {
     assert_eq!(others, [""; 0], "output without a command");
     let statuses: Vec<i32> = shown.iter().map(|one| one.check(&root())).collect();
     // A reader of the README that finds nothing would pass too.
-    assert_eq!(statuses, [0, 0, 0, 0, 0, 0, 0, 0, 1, 4, 3, 3, 3, 3, 0, 0, 0]);
+    assert_eq!(statuses, [0, 0, 0, 0, 0, 0, 0, 0, 1, 4, 3, 3, 3, 3, 0, 0, 0, 3, 3, 0, 0, 0]);
     // Where none is shown it is 0.
     assert!(shown.iter().zip(statuses).all(|(one, status)| one.status.unwrap_or(0) == status));
 }
@@ -86,7 +86,8 @@ fn record(expected: reference::record::Record) -> Record {
     Record { rows, nulls, deleted, matched }
 }
 
-/// Every question about one value, and about null, is answered in both editions as a scan of the samples answers it.
+/// Every question about one value, and about null, is answered in both editions as a scan of the samples answers it, and EQUAL of an opened
+/// body too.
 #[test]
 fn sound_files_answer_as_a_scan() {
     fn check(name: &str, column: &str, cells: &Column, values: &[&[u8]]) {
@@ -102,6 +103,13 @@ fn sound_files_answer_as_a_scan() {
             let mut field = vec![0xA5; cells.cells.len().div_ceil(8)];
             let answer = raw::ask(&body, cells.ty, edition, question, &literals, &mut field);
             assert_eq!((answer, field.clone()), expected, "{name} {column} {edition} {question} {values:?}");
+            if question == types::EQUAL && body[0] == 2 {
+                let (mut table, rows) = ([0], cells.cells.len() as u64);
+                assert_eq!(raw::open(&body, cells.ty, &mut field, &mut table), (raw::ACCEPTED, rows, 1, Fault::NONE));
+                field.fill(0xA5);
+                let (answer, record, _, fault) = raw::look_up(&body, cells.ty, edition, &literals, &table, &mut field);
+                assert_eq!(((answer, record, fault), field.clone()), expected, "{name} {column} {edition} {values:?}");
+            }
             // From the file, and with the same bytes embedded in a manifest.
             let file = demo(name);
             for (embedded, file) in [(&[][..], &file[..]), (&file, &[])] {
@@ -135,6 +143,13 @@ fn damaged_files_are_refused() {
     {
         assert_eq!(audited(name, "state", types::STRING), (refusal.number(), 0, refusal.fault()), "{name}");
         assert_eq!(audited(name, "alarm", types::BOOLEAN), (raw::ACCEPTED, 24, Fault::NONE), "{name}");
+
+        // Opened, that of version 2 is refused alike, and the table is as it was; that of version 1 can't be.
+        let body = body(name, "state");
+        let expected = if body[0] == 2 { refusal } else { Refusal::Version };
+        let mut table = [7];
+        let opened = raw::open(&body, types::STRING, &mut [0; 3], &mut table);
+        assert_eq!((opened, table), ((expected.number(), 0, 0, expected.fault()), [7]), "{name}");
 
         let fault = types::literals(types::STRING, &["fault"]);
         let asked = |column: &[u8], field: &mut [u8]| {

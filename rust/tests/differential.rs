@@ -1,5 +1,6 @@
 //! The library and the reference reader answer alike: on sound files with the scan's answer in each edition, less the deleted rows too,
-//! on damaged ones with the same refusal, what it carries, field and bytes behind the field.
+//! on damaged ones with the same refusal, what it carries, field and bytes behind the field. Lookups answer as Ask on what was opened, and
+//! alike on anything else.
 //!
 //! The environment variables PODDURANCE_SEED (where the seeds start) and PODDURANCE_CASES (how many calls at least) ask
 //! for other or more cases; PODDURANCE_HEAP lends buffers from the heap instead of between guards, so that valgrind sees
@@ -10,6 +11,7 @@
 
 mod comparison;
 mod large;
+mod lookup;
 mod names;
 mod support;
 
@@ -18,8 +20,8 @@ use std::fs::File;
 use std::os::unix::fs::FileExt;
 
 use comparison::{
-    answered, raw_record, record_of, said, Answered, Asked, Comparison, Where, ASK, ASK_FILE, AUDIT, LOCATE, READ_DELETIONS,
-    SUBTRACT, SUBTRACT_RECORD,
+    answered, looked_up, opened, raw_record, record_of, said, Answered, Asked, Comparison, Where, ASK, ASK_FILE, AUDIT, LOCATE,
+    LOOK_UP, OPEN, READ_DELETIONS, SUBTRACT, SUBTRACT_RECORD,
 };
 use poddurance::raw;
 use reference::names::modified;
@@ -43,16 +45,18 @@ const POSSIBLE: [&[u8]; CALLS.len()] = [
     &[0, 1, 3, 5, 6, 7, 8, 9, 10, 11, 12],
     &[0, 1, 3, 5, 6, 7, 8, 9, 10, 11, 12],
     &[0, 1, 2, 3, 4, 5, 6, 7, 8, 9, 10, 11, 12, 255],
+    &[0, 1, 3, 5, 6, 7, 8, 9, 10, 11, 12],
+    &[0, 1, 3, 5, 6, 7, 10, 11, 12],
     &[0, 1, 2, 3, 6, 7, 10, 12, 13, 14],
     &[0, 10, 12],
     &[0, 10, 12],
 ];
 
 const DEFAULT_SEED: u64 = 20_240_101;
-const DEFAULT_CASES: u64 = 300_000;
-/// How many fixed calls there are at least. With the random ones, and the calls of the test `faults`, they are the README's nearly
-/// 1,000,000.
-const FIXED_CALLS: u64 = 250_000;
+const DEFAULT_CASES: u64 = 500_000;
+/// How many fixed calls there are at least. With the random ones, and the calls of the test `faults`, they are the README's about
+/// 1,300,000.
+const FIXED_CALLS: u64 = 330_000;
 
 const MAX: u64 = 2_147_483_647;
 
@@ -72,7 +76,7 @@ fn round(both: &mut Comparison, random: &mut Random) {
     for lender in [first, second, third, fourth, fifth, sixth] {
         lender.place_next(random.percent(50));
     }
-    match random.below(100) {
+    match random.below(130) {
         0..=34 => sound_column(both, random),
         35..=38 => large::many_values(both, random),
         39 => large::several_containers(both, random),
@@ -80,7 +84,9 @@ fn round(both: &mut Comparison, random: &mut Random) {
         65..=69 => misfit_questions(both, random),
         70..=79 => index_files(both, random),
         80..=94 => deletion_files(both, random),
-        _ => subtractions(both, random),
+        95..=99 => subtractions(both, random),
+        100..=111 => lookup::opened_column(both, random),
+        _ => lookup::unopened(both, random),
     }
 }
 
@@ -263,7 +269,7 @@ fn damaged_body(both: &mut Comparison, random: &mut Random) {
         let ty = if random.percent(3) { random.below(14) as u32 } else { column.ty };
         let near = rows + random.below(9);
         let before = random::field_or_short(random, near);
-        both.audit(&body, ty, &before);
+        lookup::open_as_audited(both, random, &body, ty, &before);
         let before = random::field_or_short(random, near);
         let (question, values) = random::question(random, &groups);
         let (edition, literals) = (random::edition_or_unknown(random), types::literals(column.ty, &values));
@@ -1006,7 +1012,7 @@ fn most_rows(both: &mut Comparison) {
     body.extend([&int(5)[..], &int(0), &int(6), &int(-(MAX as i32))].concat());
     body.extend(&all_rows);
     let bytes = MAX.div_ceil(8) as usize;
-    let file = deletion_file(&[all_rows]);
+    let file = deletion_file(std::slice::from_ref(&all_rows));
 
     let mut field = Lender::guarded();
     let field = field.lend_anything(bytes);
@@ -1032,6 +1038,7 @@ fn most_rows(both: &mut Comparison) {
         let expected = reader::ask(&body, INT, edition, NOT_IN, &int(6), &mut reference_field);
         compare(&mut both.tally, ASK, [found, expected], all_but_one, *field == *reference_field);
     }
+    most_rows_looked_up(both, &all_rows, field, &mut reference_field);
     let found = said(raw::read_deletions(&file, 0, MAX, field));
     let expected = reader::read_deletions(&file, 0, MAX, &mut reference_field);
     compare(&mut both.tally, READ_DELETIONS, [found, expected], MAX - 1, *field == *reference_field);
@@ -1051,6 +1058,31 @@ fn most_rows(both: &mut Comparison) {
     assert_eq!(*last, 0xC0);
     assert!(others.iter().all(|byte| *byte == 0));
     both.tally.add(SUBTRACT_RECORD, answer);
+}
+
+/// The most rows in version 2: all of them but one the first value's, by a bitmap, and one the second's.
+fn most_rows_looked_up(both: &mut Comparison, bitmap: &[u8], field: &mut [u8], reference_field: &mut [u8]) {
+    let mut body = vec![2];
+    body.extend(int(MAX as i32));
+    body.extend([0, 0, 0, 2, 0, 0, 0, 0, 1]);
+    let position = body.len() as u32;
+    let block = [int(2), int(5), int(0), int(-1), int(6), int(-(MAX as i32)), int(-1)].concat();
+    body.extend([int(5), int(0), int(block.len() as i32), block].concat());
+    body.extend(bitmap);
+    let (mut table, mut reference_table) = ([0], [0]);
+    let found = opened(raw::open(&body, INT, field, &mut table));
+    assert_eq!(found, reader::open(&body, INT, reference_field, &mut reference_table));
+    assert_eq!((found, table, reference_table), ((0, MAX, 1, NO_FAULT), [position], [position]));
+    assert!(*field == *reference_field, "Open of the most rows leaves another field");
+    both.tally.add(OPEN, found.0);
+    for (literal, matched, compared) in [(5, MAX - 1, 2), (6, 1, 3), (4, 0, 1)] {
+        let found = looked_up(raw::look_up(&body, INT, FIRST_EDITION, &int(literal), &table, field));
+        let expected = reader::look_up(&body, INT, FIRST_EDITION, &int(literal), &table, reference_field);
+        assert_eq!(found, expected, "Look up in the most rows");
+        assert_eq!(found, (0, Record { rows: MAX, nulls: 0, deleted: 0, matched }, compared, NO_FAULT));
+        assert!(*field == *reference_field, "Look up in the most rows leaves another field");
+        both.tally.add(LOOK_UP, found.0);
+    }
 }
 
 /// Buffers past the limit are refused before anything else; they are only mapped, not filled.
@@ -1100,6 +1132,7 @@ fn buffers_past_the_limit(both: &mut Comparison) {
             }
         }
     }
+    lookups_past_the_limit(both, long);
     let none = index_file(&[]);
     let mut ask_file = |[embedded, file, column, kind]: [&[u8]; 4], literals: &[u8], answer: u8| {
         let expected = (answer, Record::NONE, NO_FAULT);
@@ -1133,6 +1166,41 @@ fn buffers_past_the_limit(both: &mut Comparison) {
     assert_eq!((answer, record_of(record), removed), (0, sixteen, 0));
     assert_eq!(reader::subtract_record(&mut field, long, sixteen), (0, sixteen, 0));
     both.tally.add(SUBTRACT_RECORD, 0);
+}
+
+/// A body or literals past the limit are LIMIT; a table that has more words than any input buffer has bytes is none.
+fn lookups_past_the_limit(both: &mut Comparison, long: &[u8]) {
+    let column = Column::new(TINYINT, vec![Some(vec![7]), Some(vec![9]), None]);
+    let small = body_of(&column, &Layout::version(2).with_blocks_of(1));
+    let (mut field, mut table) = ([0xA5; 2], [0xA5A5; 2]);
+    for ty in [TINYINT, 99] {
+        let refused = (LIMIT, 0, 0, NO_FAULT);
+        assert_eq!(opened(raw::open(long, ty, &mut field, &mut table)), refused);
+        assert_eq!(reader::open(long, ty, &mut field, &mut table), refused);
+        both.tally.add(OPEN, LIMIT);
+        for edition in EDITIONS.into_iter().chain(UNKNOWN_EDITIONS) {
+            for (body, literals) in [(long, &[7][..]), (&small, long), (&[], long)] {
+                let refused = (LIMIT, Record::NONE, 0, NO_FAULT);
+                assert_eq!(looked_up(raw::look_up(body, ty, edition, literals, &table, &mut field)), refused);
+                assert_eq!(reader::look_up(body, ty, edition, literals, &table, &mut field), refused);
+                both.tally.add(LOOK_UP, LIMIT);
+            }
+        }
+    }
+    assert_eq!((field, table), ([0xA5; 2], [0xA5A5; 2]), "field or table was changed by LIMIT");
+
+    let mut words = Lender::guarded();
+    let words = words.lend_any_words(MAX as usize + 1);
+    let accepted = (0, 3, 2, NO_FAULT);
+    assert_eq!(opened(raw::open(&small, TINYINT, &mut field, words)), accepted);
+    assert_eq!(reader::open(&small, TINYINT, &mut [0xA5], &mut table), accepted);
+    assert_eq!((field, &words[..3]), ([0, 0xA5], &[table[0], table[1], 0][..]));
+    both.tally.add(OPEN, 0);
+    let seven = Record { rows: 3, nulls: 1, deleted: 0, matched: 1 };
+    let found = looked_up(raw::look_up(&small, TINYINT, FIRST_EDITION, &[7], words, &mut field));
+    assert_eq!(found, reader::look_up(&small, TINYINT, FIRST_EDITION, &[7], words, &mut [0xA5]));
+    assert_eq!((found.0, found.1, field), (0, seven, [1, 0xA5]));
+    both.tally.add(LOOK_UP, 0);
 }
 
 /// The file with the seed of the round that runs. What is written to it stays there however the program ends.
@@ -1184,6 +1252,12 @@ fn library_and_reference_reader_agree() {
         large::rows_of_containers(&mut both, random);
         large::last_row_of_bits(&mut both);
         large::fault_in_a_container(&mut both);
+        lookup::each_type(&mut both);
+        lookup::halving(&mut both);
+        lookup::every_cut_and_flip(&mut both);
+        lookup::each_table(&mut both);
+        lookup::orders(&mut both);
+        lookup::most_blocks(&mut both);
         most_rows(&mut both);
         buffers_past_the_limit(&mut both);
         fixed = both.tally.calls();

@@ -1,13 +1,13 @@
 //! Which entry, container and row a refusal names. Bitmaps of 1, 3, 4, 5 and 20 containers of mixed forms are damaged in each container in each
-//! way, cut at each byte and followed by bytes that are left over, as entries of bodies of both versions and in deletion bins. Library and
-//! reference reader are compared, and what they name is held against what the damage itself says, so that a mistake of both is found too.
+//! way, cut at each byte and followed by bytes that are left over, as entries of bodies of both versions and in deletion bins; bodies of
+//! version 2 are opened, and looked up in by the table that they had when they were sound. Library and reference reader are compared, and what they name is held against what the damage itself says, so that a mistake of both is found too.
 
 mod comparison;
 mod support;
 
 use std::ops::Range;
 
-use comparison::{Answered, Asked, Comparison, Found, Where};
+use comparison::{Answered, Asked, Comparison, Found, Opened, Where};
 use reference::reader::{Fault, NO_FAULT};
 use reference::record::Record;
 use reference::types::{EQUAL, FIRST_EDITION, INT, NOT_EQUAL, SECOND_EDITION, TINYINT};
@@ -29,11 +29,11 @@ const CONTAINER: u32 = 65_536;
 const COUNTS: [usize; 5] = [1, 3, 4, 5, 20];
 
 /// How many calls the tests that make most of them compare at least. With those of the test `differential` they are the README's
-/// nearly 1,000,000.
-const CUT_CALLS: u64 = 300_000;
-const LEFT_OVER_CALLS: u64 = 60_000;
-const DAMAGE_CALLS: u64 = 30_000;
-const OUTSIDE_CALLS: u64 = 30_000;
+/// about 1,300,000.
+const CUT_CALLS: u64 = 310_000;
+const LEFT_OVER_CALLS: u64 = 75_000;
+const DAMAGE_CALLS: u64 = 39_000;
+const OUTSIDE_CALLS: u64 = 40_000;
 
 // Sound bitmaps
 
@@ -292,6 +292,10 @@ struct Host {
     offset: usize,
     /// The place of the bitmap's length, in version 2.
     length: Option<usize>,
+    /// Where the entries of the directory start, in version 2.
+    table: Option<Vec<u32>>,
+    /// How many rows each value has.
+    rows: Vec<u64>,
     field: Vec<u8>,
 }
 
@@ -337,6 +341,7 @@ impl Host {
         let mut of: Vec<Vec<u32>> = vec![Vec::new(); VALUES + 1];
         of[entry] = sound.rows.clone();
         of[owner] = others;
+        let row_numbers = of[1..].iter().map(|rows| rows.len() as u64).collect();
         let mut of = of.into_iter();
         let nulls = of.next().expect("null's rows come first");
         let values = (1..).map(|value| vec![value]).zip(of).collect();
@@ -352,12 +357,16 @@ impl Host {
         assert_eq!(traced.bytes[base..], sound.bytes, "the bitmap is the last");
         let number = if has_null { entry } else { entry - 1 };
         let place = |name: &str| traced.fields.iter().filter(|field| field.name == name).nth(number).map(|field| field.at);
+        // A value of one byte stands right before its block's offset.
+        let entries = traced.fields.iter().filter(|field| field.name == "block offset").map(|field| field.at as u32 - 1);
         Host {
             entry,
             owner,
             base,
             offset: place("bitmap offset").expect("an offset for each entry"),
             length: place("bitmap length"),
+            table: (version == 2).then(|| entries.collect()),
+            rows: row_numbers,
             field: vec![0xA5; rows as usize / 8 + 1],
             bytes: traced.bytes,
         }
@@ -409,6 +418,33 @@ fn asked_too(both: &mut Comparison, host: &Host, body: &[u8]) {
         let asked_of_file = both.ask_file(Where::small(&file), same, &host.field);
         assert!(asked == refused && asked_of_file == refused, "question {question} in edition {edition}");
     }
+    if let Some(table) = &host.table {
+        looked_up_too(both, host, table, body, refused);
+    }
+}
+
+/// Open says what Audit says, and leaves its table alone. So does a lookup of the value whose bitmap is broken, and where it is null's of each
+/// value, the entry counted within its block; other values are answered.
+#[track_caller]
+fn looked_up_too(both: &mut Comparison, host: &Host, table: &[u32], body: &[u8], refused: Answered) {
+    let (answer, record, field, [entry, container, row]) = refused;
+    let untouched = vec![0xA5; table.len()];
+    let opened = both.open(body, TINYINT, &host.field, &untouched);
+    let fault = [entry, container, row];
+    let expected = Opened { answer, rows: 0, blocks: 0, fault, field: field.clone(), table: untouched };
+    assert!(opened == expected, "Open: {:?}", (opened.answer, opened.fault));
+
+    let within_block = if host.entry == 0 { 0 } else { (host.entry - 1) % BLOCK + 1 };
+    let broken = (answer, record, field, [within_block as u64, container, row]);
+    for value in [host.entry.max(1), host.owner.max(1), host.entry % VALUES + 1] {
+        let (found, _) = both.look_up(body, TINYINT, SECOND_EDITION, &[value as u8], table, &host.field);
+        if host.entry == 0 || host.entry == value {
+            assert!(found == broken, "value {value}: {:?} instead of {:?}", (found.0, found.3), (answer, broken.3));
+        } else {
+            let matched = host.rows[value - 1];
+            assert_eq!((found.0, found.1.matched, found.3), (ACCEPTED, matched, NO_FAULT), "value {value}");
+        }
+    }
 }
 
 /// Read deletions refuses the only bin of a file, naming this container and no entry.
@@ -450,6 +486,17 @@ fn sound_bitmaps_are_accepted() {
             let found = both.audit(&host.bytes, TINYINT, &host.field);
             let expected = (ACCEPTED, sound.row_count().into(), host.cleared(), NO_FAULT);
             assert!(found == expected, "{} in {kind:?}: {:?}", sound.describe(), (found.0, found.3));
+            let Some(table) = &host.table else {
+                continue;
+            };
+            let opened = both.open(&host.bytes, TINYINT, &host.field, &vec![0xA5; table.len()]);
+            assert!((opened.answer, opened.rows, opened.field, opened.fault) == expected, "Open of {}", sound.describe());
+            assert_eq!(opened.table, *table);
+            for value in 1..=VALUES {
+                let (found, _) = both.look_up(&host.bytes, TINYINT, SECOND_EDITION, &[value as u8], table, &host.field);
+                let asked = both.ask(&host.bytes, TINYINT, SECOND_EDITION, EQUAL, &[value as u8], &host.field);
+                assert!(found == asked && found.1.matched == host.rows[value - 1], "{value} in {}", sound.describe());
+            }
         }
         let rows = sound.row_count();
         let file = deletion_file(std::slice::from_ref(&sound.bytes));

@@ -1,10 +1,14 @@
-//! The guards beside lent buffers work: a byte before or behind a buffer ends the program that reads it.
+//! The guards beside lent buffers work: a byte before or behind a buffer ends the program that reads it. Open and Look up are lent all their
+//! buffers between guards, the table too.
 
 mod support;
 
 use std::os::unix::process::ExitStatusExt;
 use std::process::{Command, Stdio};
 
+use poddurance::raw;
+use reference::types;
+use reference::writer::{body, Groups, Layout};
 use support::Lender;
 
 /// Which byte the program started by the test is to read.
@@ -48,6 +52,79 @@ fn the_side_can_be_set_whatever_was_lent_before() {
         lender.place_next(false);
         assert_eq!(lender.lend(&[7; 100]).as_ptr(), at_beginning);
         assert_eq!(lender.lend(&[7; 100]).as_ptr(), at_end);
+    }
+}
+
+/// A word before or behind a table is a guard's too: tables lie as other buffers do.
+#[test]
+fn tables_lie_beside_guards() {
+    let mut lender = Lender::guarded();
+    lender.place_next(true);
+    let at_end = lender.lend_words(&[7; 100]).as_ptr_range().end.cast();
+    let at_beginning = lender.lend_words(&[7; 100]).as_ptr().cast();
+    lender.place_next(true);
+    assert_eq!(lender.lend(&[7; 100]).as_ptr_range().end, at_end);
+    assert_eq!(lender.lend(&[7; 100]).as_ptr(), at_beginning);
+}
+
+/// All buffers have exactly the room that is needed, and lie at the end and at the beginning of their memory. The body is looked up in whole,
+/// cut at each byte, and with each word of the table led to each place in the body and behind it. A byte that is read or written outside a
+/// buffer would end the test.
+#[test]
+fn open_and_look_up_stay_inside_their_buffers() {
+    let texts = ["", "a", "fault", "idle", "running", "stopped", "z"].map(|text| text.as_bytes().to_vec());
+    let numbers = |width: usize| [1, 2, 3, 4, 5, 6, 7].map(|number| vec![number; width]);
+    for (ty, values) in [(types::STRING, texts), (types::TINYINT, numbers(1)), (types::BIGINT, numbers(8))] {
+        // Each value but the last in two rows, in blocks of two values; then two null rows.
+        let stored = &values[..6];
+        let rows = 2 * stored.len() as u32 + 2;
+        let placed = stored.iter().cloned().zip(0..).map(|(value, at)| (value, vec![2 * at, 2 * at + 1])).collect();
+        let groups = Groups { ty, rows, nulls: vec![rows - 2, rows - 1], values: placed };
+        let whole = body(&groups, &Layout::version(2).with_blocks_of(2));
+        let field = vec![0xFF; rows.div_ceil(8) as usize];
+
+        let mut lenders: [Lender; 4] = std::array::from_fn(|_| Lender::guarded());
+        let mut at_both_ends = |call: &mut dyn FnMut(&mut [Lender; 4]) -> u8| {
+            let answers = [true, false].map(|at_end| {
+                lenders.iter_mut().for_each(|lender| lender.place_next(at_end));
+                call(&mut lenders)
+            });
+            assert_eq!(answers[0], answers[1]);
+            answers[0]
+        };
+
+        let mut table = [0; 3];
+        let answer = at_both_ends(&mut |[bodies, _, tables, fields]| {
+            let lent = tables.lend_words(&table);
+            let answer = raw::open(bodies.lend(&whole), ty, fields.lend(&field), lent);
+            table.copy_from_slice(lent);
+            assert_eq!(answer, (raw::ACCEPTED, rows.into(), 3, raw::Fault::NONE));
+            answer.0
+        });
+        assert_eq!(answer, raw::ACCEPTED);
+
+        let mut look_up = |body: &[u8], value: &[u8], table: &[u32]| {
+            let (literal, edition) = (types::literals(ty, &[value]), types::SECOND_EDITION);
+            at_both_ends(&mut |[bodies, literals, tables, fields]| {
+                let (body, literal, table) = (bodies.lend(body), literals.lend(&literal), tables.lend_words(table));
+                raw::look_up(body, ty, edition, literal, table, fields.lend(&field)).0
+            })
+        };
+        for value in &values {
+            assert_eq!(look_up(&whole, value, &table), raw::ACCEPTED);
+            // Cut, it lacks at least what the body offset leads to; a bitmap that isn't looked at may be cut off.
+            let refused = (0..whole.len()).filter(|end| look_up(&whole[..*end], value, &table) != raw::ACCEPTED).count();
+            assert!(refused > table[2] as usize);
+            for block in 0..table.len() {
+                let mut led = table;
+                for place in (0..whole.len() as u32 + 9).chain([u32::MAX - 3, u32::MAX]) {
+                    led[block] = place;
+                    let answer = look_up(&whole, value, &led);
+                    // The last block's entry is always read, and behind the body there is none.
+                    assert!(block < 2 || place < whole.len() as u32 || answer != raw::ACCEPTED);
+                }
+            }
+        }
     }
 }
 

@@ -31,6 +31,7 @@ fn names_have_the_numbers_of_the_rust_crate() {
     expected.extend(Refusal::ALL.map(|refusal| (constant("REFUSED", refusal.name()), refusal.number().into())));
     expected.extend(Type::ALL.map(|ty| (constant("TYPE", ty.name()), ty.number())));
     expected.extend(Edition::ALL.map(|edition| (constant("EDITION", edition.name()), edition.number())));
+    expected.insert("MOST_BLOCKS".to_string(), raw::MOST_BLOCKS.try_into().unwrap());
     expected.extend(Question::ALL.map(|question| (constant("QUESTION", question.name()), question.number())));
     assert_eq!(names(), expected);
 }
@@ -49,6 +50,15 @@ static const uint8_t file[] = {0, 5, 0x4E, 0x4E, 0xD0, 0x1A, 0x35, 0xAE, 0, 0, 0
 static const uint8_t fire[] = {0, 5, 0x4E, 0x4E, 0xD0, 0x1A, 0x35, 0xAE, 0, 0, 0, 1, 0, 0, 0, 62, 0, 0, 0, 2,
                                0, 6, 0xED, 0xA0, 0xBD, 0xED, 0xB4, 0xA5, 0, 0, 0, 1, 0, 6, 'b', 'i', 't', 'm', 'a', 'p', 0, 0, 0, 62, 0, 0, 0, 0,
                                0, 4, 0xF0, 0x9F, 0x94, 0xA5, 0, 0, 0, 0, 0, 0, 0, 0};
+
+/* The file's column as a body of version 2: two blocks, of 7 and of 9. Its directory starts at 22. */
+static const uint8_t second_version[] = {2, 0, 0, 0, 3, 0, 0, 0, 2, 1, 0xFF, 0xFF, 0xFF, 0xFD, 0xFF, 0xFF, 0xFF, 0xFF, 0, 0, 0, 2,
+                                         7, 0, 0, 0, 0, 9, 0, 0, 0, 13, 0, 0, 0, 26,
+                                         0, 0, 0, 1, 7, 0xFF, 0xFF, 0xFF, 0xFF, 0xFF, 0xFF, 0xFF, 0xFF,
+                                         0, 0, 0, 1, 9, 0xFF, 0xFF, 0xFF, 0xFE, 0xFF, 0xFF, 0xFF, 0xFF};
+
+/* More words than any body has blocks, behind the first two. */
+static uint32_t table[2 + PODDURANCE_MOST_BLOCKS];
 
 static const char *named(uint8_t answer) {
     switch (answer) {
@@ -172,6 +182,44 @@ static void ask_lent(const uint8_t *body, size_t body_length, const uint8_t *byt
     printf(", %02X\n", field[0]);
 }
 
+/* That body with one byte changed, and so much room for the field and for the table. */
+static void open_changed(size_t place, uint8_t byte, size_t room, size_t words) {
+    uint8_t bytes[sizeof second_version], field[2] = {0xAA, 0xAA};
+    size_t i;
+    uint64_t rows = 99, blocks = 99;
+    guarded at = other;
+    uint8_t answer;
+    for (i = 0; i < sizeof bytes; i++) bytes[i] = i == place ? byte : second_version[i];
+    table[0] = table[1] = table[2] = 7;
+    answer = poddurance_open(bytes, sizeof bytes, PODDURANCE_TYPE_TINYINT, field, room, table, words, &rows, &blocks, &at.fault);
+    say(answer, rows, at);
+    printf(", %u blocks, %02X %02X, table %u %u %u\n", (unsigned)blocks, field[0], field[1], (unsigned)table[0], (unsigned)table[1],
+           (unsigned)table[2]);
+}
+
+/* EQUAL of a body with the table that was filled last: looked up, and where the body is the one that was opened also asked, which is to say the same. */
+static void look_up(const uint8_t *body, size_t length, uint32_t edition, const uint8_t *literals, size_t literals_length, size_t words) {
+    uint8_t field[2] = {0xAA, 0xAA};
+    uint64_t compared = 99;
+    guarded at = other;
+    uint8_t answer = poddurance_look_up(body, length, PODDURANCE_TYPE_TINYINT, edition, literals, literals_length, table, words, field, sizeof field,
+                                        &at.record, &compared, &at.fault);
+    say_record(answer, at);
+    say_fault(at);
+    printf(", %u compared, %02X %02X", (unsigned)compared, field[0], field[1]);
+    if (body == second_version && words >= 2) {
+        field[0] = field[1] = 0xAA;
+        at = other;
+        answer = poddurance_ask(body, length, PODDURANCE_TYPE_TINYINT, edition, PODDURANCE_QUESTION_EQUAL, literals, literals_length, field, sizeof field,
+                                &at.record, &at.fault);
+        printf("; ");
+        say_record(answer, at);
+        say_fault(at);
+        printf(", %02X %02X", field[0], field[1]);
+    }
+    printf("\n");
+}
+
 /* Of the file, of the same bytes embedded, and of no bytes. */
 static void locate(const char *column, size_t column_length, const char *kind, size_t kind_length) {
     int where;
@@ -215,7 +263,7 @@ static void subtract_record(uint64_t rows, size_t first_length, size_t second_le
 int main(void) {
     static const uint8_t many[1025] = {0};
     static const char zeros[32768] = {0};
-    const uint8_t seven[] = {7}, eight[] = {8};
+    const uint8_t seven[] = {7}, eight[] = {8}, nine[] = {9}, six[] = {6};
     const size_t too_long = 2147483648u;
     /* No call touches it, so that it takes no room. */
     uint8_t *const untouched = (uint8_t *)calloc(too_long, 1);
@@ -247,6 +295,29 @@ int main(void) {
     ask_lent(file + 47, 24, file, sizeof file, many, 1025, 1);
     ask_lent(file + 47, 24, file, sizeof file, untouched, too_long, 1);
     ask_lent(untouched, too_long, untouched, too_long, seven, sizeof seven, 1);
+    open_changed(0, 1, 2, 3);
+    open_changed(0, 2, 2, 1);
+    open_changed(0, 2, 0, 3);
+    open_changed(9, 2, 2, 3);
+    open_changed(54, 0, 2, 3);
+    open_changed(57, 0xFC, 2, 3);
+    open_changed(57, 0xFF, 2, 3);
+    open_changed(4, 4, 2, 3);
+    open_changed(0, 2, 2, 2);
+    open_changed(0, 2, 2, sizeof table / sizeof table[0]);
+    look_up(second_version, sizeof second_version, PODDURANCE_EDITION_1, seven, sizeof seven, 2);
+    look_up(second_version, sizeof second_version, PODDURANCE_EDITION_2, seven, sizeof seven, PODDURANCE_MOST_BLOCKS);
+    look_up(second_version, sizeof second_version, PODDURANCE_EDITION_2, nine, sizeof nine, 2);
+    look_up(second_version, sizeof second_version, PODDURANCE_EDITION_2, eight, sizeof eight, 2);
+    look_up(second_version, sizeof second_version, PODDURANCE_EDITION_2, six, sizeof six, 2);
+    look_up(second_version, sizeof second_version, PODDURANCE_EDITION_2 + 1, seven, sizeof seven, 2);
+    look_up(second_version, sizeof second_version, PODDURANCE_EDITION_2, seven, 0, 2);
+    look_up(second_version, sizeof second_version, PODDURANCE_EDITION_2, many, 1025, 2);
+    look_up(second_version, sizeof second_version, PODDURANCE_EDITION_2, untouched, too_long, 2);
+    look_up(second_version, sizeof second_version, PODDURANCE_EDITION_2, seven, sizeof seven, 1);
+    look_up(untouched, too_long, PODDURANCE_EDITION_2, seven, sizeof seven, 2);
+    look_up(second_version, 0, PODDURANCE_EDITION_2, seven, sizeof seven, 2);
+    look_up(file + 47, 24, PODDURANCE_EDITION_2, seven, sizeof seven, 2);
     free(untouched);
     ask_lent(file + 47, 23, file, 11, seven, sizeof seven, 1);
     ask_lent(file + 47, 0, file, 0, seven, sizeof seven, 1);
@@ -313,6 +384,29 @@ accepted, 0 of 3 rows, 1 null, 0 deleted, entry 0, container 0, row 0, 00; accep
 LIMIT, 0 of 0 rows, 0 null, 0 deleted, entry 0, container 0, row 0, AA; LIMIT, 0 of 0 rows, 0 null, 0 deleted, entry 0, container 0, row 0, AA
 LIMIT, 0 of 0 rows, 0 null, 0 deleted, entry 0, container 0, row 0, AA; LIMIT, 0 of 0 rows, 0 null, 0 deleted, entry 0, container 0, row 0, AA
 LIMIT, 0 of 0 rows, 0 null, 0 deleted, entry 0, container 0, row 0, AA; LIMIT, 0 of 0 rows, 0 null, 0 deleted, entry 0, container 0, row 0, AA
+VERSION, 0, entry 0, container 0, row 0, 0 blocks, AA AA, table 7 7 7
+ROOM, 0, entry 0, container 0, row 0, 0 blocks, AA AA, table 7 7 7
+ROOM, 0, entry 0, container 0, row 0, 0 blocks, AA AA, table 7 7 7
+DICT, 0, entry 0, container 0, row 0, 0 blocks, AA AA, table 7 7 7
+BITMAP, 0, entry 2, container 0, row 0, 0 blocks, 00 AA, table 7 7 7
+RANGE, 0, entry 2, container 0, row 0, 0 blocks, 00 AA, table 7 7 7
+TWICE, 0, entry 2, container 0, row 0, 0 blocks, 00 AA, table 7 7 7
+MISSING, 0, entry 0, container 0, row 3, 0 blocks, 00 AA, table 7 7 7
+accepted, 3, entry 0, container 0, row 0, 2 blocks, 00 AA, table 22 27 7
+accepted, 3, entry 0, container 0, row 0, 2 blocks, 00 AA, table 22 27 7
+accepted, 1 of 3 rows, 1 null, 0 deleted, entry 0, container 0, row 0, 3 compared, 01 AA; accepted, 1 of 3 rows, 1 null, 0 deleted, entry 0, container 0, row 0, 01 AA
+accepted, 1 of 3 rows, 1 null, 0 deleted, entry 0, container 0, row 0, 3 compared, 01 AA; accepted, 1 of 3 rows, 1 null, 0 deleted, entry 0, container 0, row 0, 01 AA
+accepted, 1 of 3 rows, 1 null, 0 deleted, entry 0, container 0, row 0, 2 compared, 02 AA; accepted, 1 of 3 rows, 1 null, 0 deleted, entry 0, container 0, row 0, 02 AA
+accepted, 0 of 3 rows, 1 null, 0 deleted, entry 0, container 0, row 0, 3 compared, 00 AA; accepted, 0 of 3 rows, 1 null, 0 deleted, entry 0, container 0, row 0, 00 AA
+accepted, 0 of 3 rows, 1 null, 0 deleted, entry 0, container 0, row 0, 2 compared, 00 AA; accepted, 0 of 3 rows, 1 null, 0 deleted, entry 0, container 0, row 0, 00 AA
+LITERAL, 0 of 0 rows, 0 null, 0 deleted, entry 0, container 0, row 0, 0 compared, AA AA; LITERAL, 0 of 0 rows, 0 null, 0 deleted, entry 0, container 0, row 0, AA AA
+LITERAL, 0 of 0 rows, 0 null, 0 deleted, entry 0, container 0, row 0, 0 compared, AA AA; LITERAL, 0 of 0 rows, 0 null, 0 deleted, entry 0, container 0, row 0, AA AA
+LIMIT, 0 of 0 rows, 0 null, 0 deleted, entry 0, container 0, row 0, 0 compared, AA AA; LIMIT, 0 of 0 rows, 0 null, 0 deleted, entry 0, container 0, row 0, AA AA
+LIMIT, 0 of 0 rows, 0 null, 0 deleted, entry 0, container 0, row 0, 0 compared, AA AA; LIMIT, 0 of 0 rows, 0 null, 0 deleted, entry 0, container 0, row 0, AA AA
+ROOM, 0 of 0 rows, 0 null, 0 deleted, entry 0, container 0, row 0, 0 compared, AA AA
+LIMIT, 0 of 0 rows, 0 null, 0 deleted, entry 0, container 0, row 0, 0 compared, AA AA
+SHORT, 0 of 0 rows, 0 null, 0 deleted, entry 0, container 0, row 0, 0 compared, AA AA; SHORT, 0 of 0 rows, 0 null, 0 deleted, entry 0, container 0, row 0, AA AA
+VERSION, 0 of 0 rows, 0 null, 0 deleted, entry 0, container 0, row 0, 0 compared, AA AA
 SHORT, 0 of 0 rows, 0 null, 0 deleted, entry 0, container 0, row 0, AA; SHORT, 0 of 0 rows, 0 null, 0 deleted, entry 0, container 0, row 0, AA
 SHORT, 0 of 0 rows, 0 null, 0 deleted, entry 0, container 0, row 0, AA; SHORT, 0 of 0 rows, 0 null, 0 deleted, entry 0, container 0, row 0, AA
 ROOM, 0 of 0 rows, 0 null, 0 deleted, entry 0, container 0, row 0, AA; ROOM, 0 of 0 rows, 0 null, 0 deleted, entry 0, container 0, row 0, AA

@@ -1,7 +1,11 @@
 //! The functions at the top of the crate: what a field holds after each call, and what they don't let happen.
 
-use poddurance::{ask, ask_file, audit, locate, raw, read_deletions, subtract, subtract_record};
-use poddurance::{Answer, Edition, Error, Literals, Question, Record, Refusal, RowField, Subtracted, Type, Value};
+use poddurance::{ask, ask_file, audit, locate, open, raw, read_deletions, subtract, subtract_record};
+use poddurance::{
+    Answer, Edition, Error, Literals, LookedUp, OpenedBody, Question, Record, Refusal, RowField, Subtracted, Type, Value,
+};
+use reference::types;
+use reference::writer::{body_of, Column, Layout};
 
 /// TINYINT 7, 9, null.
 const SMALL: [u8; 24] = [1, 0, 0, 0, 3, 0, 0, 0, 2, 1, 255, 255, 255, 253, 7, 255, 255, 255, 255, 9, 255, 255, 255, 254];
@@ -521,6 +525,361 @@ fn a_file_of_fewer_or_more_rows_is_no_answer() {
         assert_eq!(ask_file(&file, &[], "s", "bitmap", Edition::Second, Question::Equal, &seven(), used(rows)), expected);
     }
     assert_eq!(asked(&file, "s", Question::Equal, &seven(), 0), Err(Error::Refused(Refusal::Room)));
+}
+
+/// Document 01's body of version 2, opened, with a field that holds rows of an earlier answer.
+fn opened_small() -> (OpenedBody<'static>, RowField) {
+    open(&SMALL_2, Type::TinyInt, used(3)).unwrap()
+}
+
+#[test]
+fn an_opened_body_tells_what_it_is() {
+    let (opened, field) = opened_small();
+    assert_eq!((opened.ty(), opened.rows(), opened.blocks()), (Type::TinyInt, 3, 2));
+    // The directory starts behind version, three counts, has-null and null's offset and length; a value and an offset are 5 bytes.
+    assert_eq!(opened.table(), [22, 27]);
+    assert_eq!(field, RowField::for_rows(3).unwrap());
+    assert_eq!(format!("{opened:?}"), "OpenedBody { ty: TinyInt, rows: 3, blocks: 2, .. }");
+    assert_eq!(opened.clone(), opened);
+    // Threads may have it and share it.
+    fn shared<T: Send + Sync>(_: &T) {}
+    shared(&opened);
+
+    // No rows and no values, and so no blocks.
+    let none = [2, 0, 0, 0, 0, 0, 0, 0, 0, 0, 0, 0, 0, 0, 0, 0, 0, 0];
+    let (opened, field) = open(&none, Type::Int, used(0)).unwrap();
+    assert_eq!((opened.rows(), opened.table()), (0, &[][..]));
+    let found = opened.look_up(Edition::Second, &Literals::of(Type::Int, [7]).unwrap(), field).unwrap();
+    assert_eq!((counts(found.answer.record()), found.compared, found.answer.is_skip()), ([0; 4], 0, true));
+}
+
+/// On an opened body a lookup is EQUAL in every part, for every value of the type and in both editions. The values compared are by document
+/// 02's halving: with two blocks the second one's first value is looked at, and then the first one's where the literal is less.
+#[test]
+fn a_lookup_answers_as_ask() {
+    let (opened, mut field) = opened_small();
+    for value in i8::MIN..=i8::MAX {
+        for edition in Edition::ALL {
+            let literal = Literals::of(Type::TinyInt, [value]).unwrap();
+            let LookedUp { answer, compared } = opened.look_up(edition, &literal, field).unwrap();
+            assert_eq!(Ok(answer.clone()), ask(&SMALL_2, edition, Question::Equal, &literal, used(3)), "{value} {edition}");
+            // Less than both first values, equal to or behind the first, equal to or behind the second; each block has one value.
+            let expected = match value {
+                ..7 => 2,
+                7..9 => 3,
+                9.. => 2,
+            };
+            assert_eq!(compared, expected, "{value} {edition}");
+            field = answer.into_field();
+        }
+    }
+}
+
+/// Many values in blocks of several sizes, of numbers that compare signed and of strings: each is found, and those beside it are not. What is
+/// compared keeps document 02's bounds.
+#[test]
+fn lookups_compare_few_values() {
+    let numbers: Vec<Vec<u8>> = (-500..500).map(|value: i16| (2 * value).to_be_bytes().to_vec()).collect();
+    let between: Vec<Vec<u8>> = (-500..=500).map(|value: i16| (2 * value - 1).to_be_bytes().to_vec()).collect();
+    let texts: Vec<Vec<u8>> = (0..1_000).map(|number| format!("pump {number:03}").into_bytes()).collect();
+    let beside: Vec<Vec<u8>> = (0..1_000).map(|number| format!("pump {number:03} ").into_bytes()).collect();
+    for (ty, values, others) in [(Type::SmallInt, &numbers, &between), (Type::String, &texts, &beside)] {
+        // Each value in one row, from the last one to the first, and two null rows.
+        let cells = values.iter().rev().cloned().map(Some).chain([None, None]).collect();
+        let column = Column::new(ty.number(), cells);
+        for entries in [1, 2, 7, 333, 999, 1_000] {
+            let body = body_of(&column, &Layout::version(2).with_blocks_of(entries));
+            let (opened, mut field) = open(&body, ty, used(1_002)).unwrap();
+            let blocks = 1_000_u64.div_ceil(entries as u64);
+            assert_eq!((opened.rows(), opened.blocks(), opened.table().len() as u64), (1_002, blocks, blocks));
+            let mut look_up = |value: &Vec<u8>| {
+                let value = match ty {
+                    Type::SmallInt => Value::from(i16::from_be_bytes([value[0], value[1]])),
+                    _ => Value::String(value),
+                };
+                let literal = Literals::of(ty, [value]).unwrap();
+                let lent = std::mem::replace(&mut field, used(0));
+                let LookedUp { answer, compared } = opened.look_up(Edition::Second, &literal, lent).unwrap();
+                let rows: Vec<u64> = answer.field().iter().collect();
+                assert_eq!(counts(answer.record()), [1_002, 2, 0, rows.len() as u64]);
+                field = answer.into_field();
+                (rows, compared)
+            };
+            let in_directory = u64::from(blocks.ilog2()) + 1;
+            for (number, value) in values.iter().enumerate() {
+                let (rows, compared) = look_up(value);
+                assert_eq!(rows, [999 - number as u64]);
+                // In its block the values up to it are compared, and in the directory as many as the bound says or one less.
+                let in_block = (number % entries) as u64 + 1;
+                assert!(
+                    (in_directory - 1..=in_directory).contains(&(compared - in_block)),
+                    "{ty} {entries} {number}: {compared}"
+                );
+            }
+            for value in others {
+                let (rows, compared) = look_up(value);
+                assert_eq!(rows, []);
+                assert!(compared <= in_directory + entries as u64, "{ty} {entries}: {compared}");
+            }
+        }
+    }
+}
+
+#[test]
+fn only_version_2_is_opened() {
+    assert_eq!(open(&SMALL, Type::TinyInt, used(3)), Err(Error::Refused(Refusal::Version)));
+    let mut body = SMALL_2;
+    for version in (0..=u8::MAX).filter(|version| *version != 2) {
+        body[0] = version;
+        assert_eq!(open(&body, Type::TinyInt, used(3)), Err(Error::Refused(Refusal::Version)));
+        // It is read first: a body of another version is not SHORT.
+        assert_eq!(open(&body[..1], Type::TinyInt, used(3)), Err(Error::Refused(Refusal::Version)));
+    }
+    assert_eq!(open(&[], Type::TinyInt, used(3)), Err(Error::Refused(Refusal::Short)));
+}
+
+/// Each byte of the body changed to each other one, and the body cut at each byte: but for the version, Open accepts and refuses as Audit does,
+/// by the same row count too. The table that the crate lends is never too short, whatever the body claims.
+#[test]
+fn a_body_is_opened_exactly_if_it_is_audited() {
+    let (mut accepted, mut refused) = (0, 0);
+    let mut compare = |body: &[u8], ty: Type| {
+        let audited = audit(body, ty, used(3)).map(|audited| audited.rows());
+        let opened = open(body, ty, used(3)).map(|(opened, field)| {
+            assert_eq!((field.rows(), field.count()), (opened.rows(), 0));
+            opened.rows()
+        });
+        assert_eq!(opened, audited, "{body:?}");
+        *if opened.is_ok() { &mut accepted } else { &mut refused } += 1;
+    };
+    for at in 1..SMALL_2.len() {
+        compare(&SMALL_2[..at], Type::TinyInt);
+        for byte in 0..=u8::MAX {
+            let mut body = SMALL_2;
+            body[at] = byte;
+            compare(&body, Type::TinyInt);
+        }
+    }
+    // As every type; of those that fit its form it is accepted.
+    for ty in Type::ALL {
+        compare(&SMALL_2, ty);
+    }
+    // Block numbers that are negative, at the limit, over it, and more than 32 bits of words would be; with null's place and without.
+    for number in [0x8000_0000_u32, u32::MAX, 0x7FFF_FFFF, 65_535, 65_536, 65_537, 3, 1, 0] {
+        for (has_null, at) in [(1, 18), (0, 10), (2, 10)] {
+            let mut body = SMALL_2;
+            body[9] = has_null;
+            body[at..at + 4].copy_from_slice(&number.to_be_bytes());
+            compare(&body, Type::TinyInt);
+        }
+    }
+    assert!(accepted > 60 && refused > 10_000, "{accepted} {refused}");
+}
+
+#[test]
+fn fields_of_other_row_counts_are_not_lent_to_an_opened_body() {
+    for rows in [1, 2, 4, 8, 9, 1_000] {
+        let expected = Error::RowsDiffer { expected: rows, found: 3 };
+        assert_eq!(open(&SMALL_2, Type::TinyInt, used(rows)), Err(expected));
+        let (opened, _) = opened_small();
+        assert_eq!(opened.look_up(Edition::Second, &seven(), used(rows)), Err(expected));
+    }
+    assert_eq!(open(&SMALL_2, Type::TinyInt, used(0)), Err(Error::Refused(Refusal::Room)));
+    assert_eq!(opened_small().0.look_up(Edition::Second, &seven(), used(0)), Err(Error::Refused(Refusal::Room)));
+}
+
+/// Literals of another type are an error, also where the library would find them well formed: those of no literals, and of types of the same
+/// form.
+#[test]
+fn literals_of_another_type_are_not_looked_up() {
+    let value = |ty| match ty {
+        Type::Boolean => Value::Boolean(true),
+        Type::Char | Type::VarChar | Type::String => Value::String(b"x"),
+        _ => Value::Number(7),
+    };
+    // All rows are null, so that the body is one of every type.
+    let body = [2, 0, 0, 0, 1, 0, 0, 0, 0, 1, 255, 255, 255, 255, 255, 255, 255, 255, 0, 0, 0, 0, 0, 0, 0, 0];
+    for expected in Type::ALL {
+        let (opened, _) = open(&body, expected, used(1)).unwrap();
+        for found in Type::ALL {
+            for literals in [Literals::of(found, [value(found)]).unwrap(), Literals::none(found)] {
+                let looked_up = opened.look_up(Edition::Second, &literals, used(1)).map(|found| counts(found.answer.record()));
+                let answer = match (found == expected, literals.len()) {
+                    (true, 1) => Ok([1, 1, 0, 0]),
+                    (true, _) => Err(Error::Refused(Refusal::Literal)),
+                    (false, _) => Err(Error::TypesDiffer { expected, found }),
+                };
+                assert_eq!(looked_up, answer);
+            }
+        }
+    }
+    let error = Error::TypesDiffer { expected: Type::TinyInt, found: Type::LocalZonedTimestamp };
+    assert_eq!(error.to_string(), "the body was opened as TINYINT, the literals are of LOCAL ZONED TIMESTAMP");
+    assert_eq!(error.refusal(), None);
+    assert!(std::error::Error::source(&error).is_none());
+}
+
+/// EQUAL takes one literal, and its limits are the library's.
+#[test]
+fn a_lookup_takes_one_literal() {
+    let (opened, _) = opened_small();
+    let refused = |literals: &Literals| opened.look_up(Edition::Second, literals, used(3)).unwrap_err().refusal();
+    assert_eq!(refused(&none()), Some(Refusal::Literal));
+    assert_eq!(refused(&Literals::of(Type::TinyInt, [7, 9]).unwrap()), Some(Refusal::Literal));
+    assert_eq!(refused(&Literals::of(Type::TinyInt, vec![7; 1_024]).unwrap()), Some(Refusal::Literal));
+    assert_eq!(refused(&Literals::of(Type::TinyInt, vec![7; 1_025]).unwrap()), Some(Refusal::Limit));
+    // The opened body is as good as before.
+    let found = opened.look_up(Edition::Second, &seven(), used(3)).unwrap();
+    assert!(found.answer.field().iter().eq([0]));
+
+    let body = body_of(&Column::strings(&[Some("login"), None]), &Layout::version(2));
+    let (opened, _) = open(&body, Type::String, used(2)).unwrap();
+    for (length, expected) in [(65_535, Ok([2, 1, 0, 0])), (65_536, Err(Error::Refused(Refusal::Limit)))] {
+        let literal = Literals::of(Type::String, ["x".repeat(length).as_str()]).unwrap();
+        let found = opened.look_up(Edition::Second, &literal, used(2)).map(|found| counts(found.answer.record()));
+        assert_eq!(found, expected);
+    }
+}
+
+/// The field that comes back from one lookup is lent to the next, and holds the rows of that one alone.
+#[test]
+fn deletions_are_subtracted_from_what_is_looked_up() {
+    let states = ["fault", "idle", "fault", "running", "idle", "fault"].map(Some);
+    let body = body_of(&Column::strings(&states), &Layout::version(2).with_blocks_of(1));
+    let (opened, mut field) = open(&body, Type::String, used(6)).unwrap();
+    // Rows 0, 2 and 5.
+    let deleted = read_deletions(&DELETIONS, 0, used(6)).unwrap();
+    for (state, rows, left) in
+        [("fault", &[0, 2, 5][..], &[][..]), ("idle", &[1, 4], &[1, 4]), ("stopped", &[], &[]), ("running", &[3], &[3])]
+    {
+        let literal = Literals::of(Type::String, [state]).unwrap();
+        let found = opened.look_up(Edition::Second, &literal, field).unwrap();
+        assert!(found.answer.field().iter().eq(rows.iter().copied()), "{state}");
+        let (mut field_left, record) = found.answer.into_parts();
+        let subtracted = subtract_record(&mut field_left, deleted.field(), record).unwrap();
+        assert_eq!(counts(&subtracted.record), [6, 0, 3, left.len() as u64], "{state}");
+        assert_eq!(subtracted.removed, (rows.len() - left.len()) as u64, "{state}");
+        assert!(field_left.iter().eq(left.iter().copied()), "{state}");
+        field = field_left;
+    }
+}
+
+/// Field and table are as they were up to ROOM, and behind it the field's bytes are zero and the table still as it was; accepted, the table has a
+/// word for each block, and what lies behind both stays.
+#[test]
+fn the_raw_open_leaves_what_it_may_not_write() {
+    let changed = |at: usize, byte: u8| {
+        let mut body = SMALL_2;
+        body[at] = byte;
+        body
+    };
+    let opened = |body: &[u8], ty: u32, field_len: usize, words: usize| {
+        let (mut field, mut table) = (vec![0xAA; field_len], vec![0xAAAA_AAAA; words]);
+        let answer = raw::open(body, ty, &mut field, &mut table);
+        (answer, field, table)
+    };
+    let untouched =
+        |number: u8, field_len, words| ((number, 0, 0, raw::Fault::NONE), vec![0xAA; field_len], vec![0xAAAA_AAAA; words]);
+    for (body, ty, number) in [
+        (&SMALL_2[..], 12, Refusal::Literal),
+        (&SMALL_2, u32::MAX, Refusal::Literal),
+        (&[], 12, Refusal::Literal),
+        (&[], 0, Refusal::Short),
+        (&SMALL_2[..61], 0, Refusal::Short),
+        (&SMALL, 0, Refusal::Version),
+        (&changed(9, 2), 0, Refusal::Dict),
+        (&changed(6, 2), 0, Refusal::Limit),
+    ] {
+        // Before ROOM: there is room, or there is none in field or table.
+        for (field_len, words) in [(2, 3), (0, 3), (2, 0), (0, 0)] {
+            assert_eq!(opened(body, ty, field_len, words), untouched(number.number(), field_len, words), "{number}");
+        }
+    }
+    let room = Refusal::Room.number();
+    for (field_len, words) in [(0, 0), (0, 2), (0, 3), (1, 0), (1, 1), (2, 1)] {
+        assert_eq!(opened(&SMALL_2, 0, field_len, words), untouched(room, field_len, words));
+        // ROOM goes before what is wrong with a bitmap.
+        assert_eq!(opened(&changed(57, 0xFF), 0, field_len, words), untouched(room, field_len, words));
+    }
+    for (body, refusal) in [
+        (changed(10, 0), Refusal::Bitmap { entry: 0, container: 0 }),
+        // The entry is counted through all blocks.
+        (changed(54, 0), Refusal::Bitmap { entry: 2, container: 0 }),
+        (changed(57, 0xFC), Refusal::Range { entry: 2 }),
+        (changed(57, 0xFF), Refusal::Twice { entry: 2 }),
+        (changed(4, 4), Refusal::Missing { row: 3 }),
+    ] {
+        let expected = ((refusal.number(), 0, 0, refusal.fault()), vec![0, 0xAA], vec![0xAAAA_AAAA; 3]);
+        assert_eq!(opened(&body, 0, 2, 3), expected, "{refusal}");
+    }
+    for words in [2, 3, 100] {
+        let mut table = vec![0xAAAA_AAAA; words];
+        table[..2].copy_from_slice(&[22, 27]);
+        assert_eq!(opened(&SMALL_2, 0, 2, words), ((raw::ACCEPTED, 3, 2, raw::Fault::NONE), vec![0, 0xAA], table));
+    }
+    // A string's entry starts at its length.
+    let body = body_of(&Column::strings(&[Some("login"), Some("click")]), &Layout::version(2).with_blocks_of(1));
+    let ((answer, ..), _, table) = opened(&body, types::STRING, 1, 2);
+    assert_eq!((answer, table), (raw::ACCEPTED, vec![14, 14 + 4 + 5 + 4]));
+}
+
+/// The raw lookup is of any bytes. Where body, type and table are not one open's its answers are document 02's own: entries count within their
+/// block, and the field is as it was up to ROOM and zero behind it.
+#[test]
+fn the_raw_lookup_of_bytes_that_were_not_opened() {
+    let changed = |at: usize, byte: u8| {
+        let mut body = SMALL_2;
+        body[at] = byte;
+        body
+    };
+    let looked_up = |body: &[u8], ty: u32, edition: u32, literal: &[u8], table: &[u32]| {
+        let mut field = [0xAA; 2];
+        (raw::look_up(body, ty, edition, literal, table, &mut field), field)
+    };
+    let refused = |refusal: Refusal, field| ((refusal.number(), raw::Record::NONE, 0, refusal.fault()), field);
+    let table = [22, 27];
+    for (body, ty, edition, literal, table, refusal) in [
+        (&SMALL_2[..], 12, 2, &[7][..], &table[..], Refusal::Literal),
+        (&SMALL_2, 0, 0, &[7], &table, Refusal::Literal),
+        (&SMALL_2, 0, 3, &[7], &table, Refusal::Literal),
+        (&SMALL_2, 0, 2, &[], &table, Refusal::Literal),
+        (&SMALL_2, 0, 2, &[7, 9], &table, Refusal::Literal),
+        // Four TINYINTs, of an INT's bytes.
+        (&SMALL_2, 0, 2, &[0, 0, 0, 7], &table, Refusal::Literal),
+        // The literals are read before the body.
+        (&[], 0, 2, &[], &table, Refusal::Literal),
+        (&[], 0, 2, &[7], &table, Refusal::Short),
+        (&SMALL, 0, 2, &[7], &table, Refusal::Version),
+        (&changed(9, 2), 0, 2, &[7], &table, Refusal::Dict),
+        (&changed(6, 2), 0, 2, &[7], &table, Refusal::Limit),
+        (&SMALL_2, 0, 2, &[7], &table[..1], Refusal::Room),
+        (&SMALL_2, 0, 2, &[7], &[], Refusal::Room),
+        // Positions behind the body.
+        (&SMALL_2, 0, 2, &[7], &[22, 62], Refusal::Short),
+        (&SMALL_2, 0, 2, &[7], &[22, u32::MAX], Refusal::Short),
+        // The block that 9 stands in, at 13 behind the body offset, says that it has no entry.
+        (&changed(52, 0), 0, 2, &[9], &table, Refusal::Dict),
+    ] {
+        assert_eq!(looked_up(body, ty, edition, literal, table), refused(refusal, [0xAA; 2]), "{refusal}");
+    }
+    for (body, literal, refusal) in [
+        (changed(10, 0), 7, Refusal::Bitmap { entry: 0, container: 0 }),
+        (changed(13, 0xFC), 7, Refusal::Range { entry: 0 }),
+        // Of the second block the first entry, which Audit counts as the second.
+        (changed(54, 0), 9, Refusal::Bitmap { entry: 1, container: 0 }),
+        (changed(57, 0xFC), 9, Refusal::Range { entry: 1 }),
+    ] {
+        assert_eq!(looked_up(&body, 0, 2, &[literal], &table), refused(refusal, [0, 0xAA]), "{refusal}");
+    }
+    // A row that is placed twice, or never, is not noticed without an audit.
+    let record = raw::Record { rows: 3, nulls: 1, deleted: 0, matched: 1 };
+    assert_eq!(looked_up(&changed(57, 0xFF), 0, 2, &[9], &table), ((raw::ACCEPTED, record, 2, raw::Fault::NONE), [1, 0xAA]));
+    let record = raw::Record { rows: 4, ..record };
+    assert_eq!(looked_up(&changed(4, 4), 0, 2, &[9], &table), ((raw::ACCEPTED, record, 2, raw::Fault::NONE), [2, 0xAA]));
+    // A field that is too short, for an opened body too.
+    let mut field = [];
+    let answer = raw::look_up(&SMALL_2, 0, 2, &[7], &table, &mut field);
+    assert_eq!(answer, (Refusal::Room.number(), raw::Record::NONE, 0, raw::Fault::NONE));
 }
 
 #[test]

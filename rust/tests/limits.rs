@@ -1,8 +1,11 @@
 //! Buffers over document 01's limit are LIMIT before anything else is looked at. The memory is zeroed by the system when it is
 //! first touched, which none of these calls does, so that it takes no room.
 
+mod support;
+
 use poddurance::raw::{self, Fault, Record};
-use poddurance::{ask, ask_file, Edition, Error, Literals, Question, Refusal, RowField, Type, LIMIT};
+use poddurance::{ask, ask_file, open, Edition, Error, Literals, Question, Refusal, RowField, Type, LIMIT};
+use support::Lender;
 
 const LITERAL: u8 = 11;
 const LIMIT_PASSED: u8 = 12;
@@ -14,6 +17,12 @@ const UNKNOWN_EDITIONS: [u32; 5] = [0, 3, 257, 1 << 31, u32::MAX];
 const HEAD: [u8; 24] = [0, 5, 0x4E, 0x4E, 0xD0, 0x1A, 0x35, 0xAE, 0, 0, 0, 1, 0, 0, 0, 24, 0, 0, 0, 0, 0, 0, 0, 0];
 
 const BODY: [u8; 24] = [1, 0, 0, 0, 3, 0, 0, 0, 2, 1, 255, 255, 255, 253, 7, 255, 255, 255, 255, 9, 255, 255, 255, 254];
+
+/// The same as version 2, in two blocks.
+const BODY_2: [u8; 62] = [
+    2, 0, 0, 0, 3, 0, 0, 0, 2, 1, 255, 255, 255, 253, 255, 255, 255, 255, 0, 0, 0, 2, 7, 0, 0, 0, 0, 9, 0, 0, 0, 13, 0, 0, 0, 26,
+    0, 0, 0, 1, 7, 255, 255, 255, 255, 255, 255, 255, 255, 0, 0, 0, 1, 9, 255, 255, 255, 254, 255, 255, 255, 255,
+];
 
 /// The body as the bitmap index on column `s`.
 fn index_file() -> Vec<u8> {
@@ -78,6 +87,40 @@ fn audit_and_ask_refuse_body_and_literals() {
         }
     }
     assert_eq!(field, [0xAA]);
+}
+
+#[test]
+fn open_and_look_up_refuse_body_and_literals() {
+    let long = too_long();
+    let (mut field, mut table) = ([0xAA; 1], [7; 2]);
+    let refused = (LIMIT_PASSED, Record::NONE, 0, Fault::NONE);
+    // 99 is no type, and no table of so few words is one of the body's; LIMIT goes before that, and before an unknown edition, too.
+    for ty in [0, 11, 99] {
+        assert_eq!(raw::open(&long, ty, &mut field, &mut table), (LIMIT_PASSED, 0, 0, Fault::NONE));
+        assert_eq!(raw::open(&long, ty, &mut [], &mut []), (LIMIT_PASSED, 0, 0, Fault::NONE));
+        for edition in [1, 2].into_iter().chain(UNKNOWN_EDITIONS) {
+            for table in [&[22, 27][..], &[]] {
+                assert_eq!(raw::look_up(&long, ty, edition, &[7], table, &mut field), refused);
+                assert_eq!(raw::look_up(&BODY_2, ty, edition, &long, table, &mut field), refused);
+                assert_eq!(raw::look_up(&[], ty, edition, &long, table, &mut field), refused);
+            }
+        }
+    }
+    assert_eq!((field, table), ([0xAA], [7; 2]));
+    assert_eq!(open(&long, Type::TinyInt, RowField::for_rows(3).unwrap()), Err(Error::Refused(Refusal::Limit)));
+}
+
+/// A table has no limit: one of more words than an input buffer may have bytes is lent to both calls, which look at its first two.
+#[test]
+fn tables_may_be_longer() {
+    let mut lender = Lender::guarded();
+    let table = lender.lend_any_words(LIMIT as usize + 1);
+    let mut field = [0xAA];
+    assert_eq!(raw::open(&BODY_2, 0, &mut field, table), (0, 3, 2, Fault::NONE));
+    assert_eq!(table[..4], [22, 27, 0, 0]);
+    let record = Record { rows: 3, nulls: 1, deleted: 0, matched: 1 };
+    assert_eq!(raw::look_up(&BODY_2, 0, 2, &[9], table, &mut field), (0, record, 2, Fault::NONE));
+    assert_eq!(field, [0b010]);
 }
 
 #[test]
@@ -219,6 +262,46 @@ fn limits_of_literals_are_the_library_s() {
     }
 }
 
+/// As many blocks as may be, each of one value, are opened by the crate and in a table of as many words; one more is LIMIT.
+#[test]
+fn the_most_blocks_are_opened() {
+    const MOST: u32 = raw::MOST_BLOCKS as u32;
+    // INT 0 and on, each in the row of that number.
+    let body = |blocks: u32| {
+        let mut body = vec![2];
+        body.extend(blocks.to_be_bytes()); // rows
+        body.extend(blocks.to_be_bytes()); // values
+        body.push(0);
+        body.extend(blocks.to_be_bytes());
+        body.extend((0..blocks).flat_map(|block| [block, 16 * block]).flat_map(u32::to_be_bytes));
+        body.extend((16 * blocks).to_be_bytes());
+        body.extend((0..blocks).flat_map(|block| [1, block, !block, u32::MAX]).flat_map(u32::to_be_bytes));
+        body
+    };
+    let most = body(MOST);
+    let (opened, mut field) = open(&most, Type::Int, RowField::for_body(&most)).unwrap();
+    assert_eq!((opened.rows(), opened.blocks()), (MOST.into(), MOST.into()));
+    assert!(opened.table().iter().copied().eq((0..MOST).map(|block| 14 + 8 * block)));
+    for value in [0, 1, MOST / 2, MOST - 1] {
+        let found = opened.look_up(Edition::Second, &Literals::of(Type::Int, [value]).unwrap(), field).unwrap();
+        assert!(found.answer.field().iter().eq([u64::from(value)]));
+        // floor(log2 65536) + 1 first values and the block's one, at most.
+        assert!((17..=18).contains(&found.compared), "{value}: {}", found.compared);
+        field = found.answer.into_field();
+    }
+    let (mut field, mut table) = (vec![0xAA; 8192], vec![7; raw::MOST_BLOCKS]);
+    assert_eq!(raw::open(&most, 3, &mut field, &mut table[1..]), (10, 0, 0, Fault::NONE)); // one word less: ROOM
+    assert!(field.iter().all(|byte| *byte == 0xAA) && table.iter().all(|word| *word == 7));
+    assert_eq!(raw::open(&most, 3, &mut field, &mut table), (0, MOST.into(), MOST.into(), Fault::NONE));
+    assert_eq!(table, opened.table());
+
+    // The value number is over its limit too, and is read first. With one that isn't, the block number is.
+    let mut over = body(MOST + 1);
+    assert_eq!(open(&over, Type::Int, RowField::for_body(&over)), Err(Error::Refused(Refusal::Limit)));
+    over[5..9].copy_from_slice(&MOST.to_be_bytes());
+    assert_eq!(open(&over, Type::Int, RowField::for_body(&over)), Err(Error::Refused(Refusal::Limit)));
+}
+
 /// The edition stands between the limit of the literals' buffer and the limits that are met in reading them.
 #[test]
 fn an_unknown_edition_goes_before_limits_of_literals() {
@@ -234,6 +317,9 @@ fn an_unknown_edition_goes_before_limits_of_literals() {
             let found = raw::ask_file(&[], &index_file(), b"s", b"bitmap", 0, edition, question, &many, &mut field);
             assert_eq!(found, refused);
         }
+        let refused = (LITERAL, Record::NONE, 0, Fault::NONE);
+        assert_eq!(raw::look_up(&BODY_2, 0, edition, &many, &[22, 27], &mut field), refused);
+        assert_eq!(raw::look_up(&BODY_2, 11, edition, &long_string, &[22, 27], &mut field), refused);
     }
     // In a known one they are LIMIT, whatever the question.
     for edition in [1, 2] {
@@ -241,6 +327,8 @@ fn an_unknown_edition_goes_before_limits_of_literals() {
             assert_eq!(raw::ask(&BODY, 0, edition, question, &many, &mut field).0, LIMIT_PASSED);
             assert_eq!(raw::ask(&BODY, 11, edition, question, &long_string, &mut field).0, LIMIT_PASSED);
         }
+        assert_eq!(raw::look_up(&BODY_2, 0, edition, &many, &[22, 27], &mut field).0, LIMIT_PASSED);
+        assert_eq!(raw::look_up(&BODY_2, 11, edition, &long_string, &[22, 27], &mut field).0, LIMIT_PASSED);
     }
     assert_eq!(field, [0xAA]);
 }

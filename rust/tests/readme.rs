@@ -46,6 +46,7 @@ fn commands_answer_as_shown() {
     assert!(
         shown.iter().any(|one| one.output.starts_with("keep: ")) && shown.iter().any(|one| one.output.starts_with("refused: "))
     );
+    assert!(shown.iter().any(|one| one.words[0] == "open") && shown.iter().any(|one| one.words[0] == "lookup"));
     // And one question on the column with null rows in both editions, with different answers.
     let in_edition = |number: &str| {
         let asked = shown.iter().find(|one| one.words.windows(2).any(|pair| pair == ["--edition", number]));
@@ -80,23 +81,29 @@ fn usage_is_that_of_the_help() {
     let help = lines(Command::new(env!("CARGO_BIN_EXE_poddurance")).arg("--help").output().unwrap());
     let section = section("## The command line");
     assert_eq!(usage(section.clone()), usage(help.clone()));
-    assert_eq!(usage(help).iter().filter(|line| line.starts_with("poddurance ")).count(), 5);
+    assert_eq!(usage(help).iter().filter(|line| line.starts_with("poddurance ")).count(), 7);
     // What isn't proved is called so.
     let text = section.join(" ");
     assert!(text.contains("`columns`") && text.contains("not proved"));
 }
 
 #[test]
-fn rust_example() {
-    let (block, _) = block(&section("## From Rust"), "rust");
+fn rust_examples() {
+    let (first, behind) = block(&section("## From Rust"), "rust");
+    let (second, behind) = block(&behind, "rust");
+    assert!(!behind.iter().any(|line| line == "```rust"), "a third example in Rust");
+    rust_example(&first, "readme");
+    rust_example(&second, "readme_lookup");
+}
 
-    // The example is the block, what stands behind its first blank line in a main function.
+/// The example of that name is the block, what stands behind its first blank line in a main function, and prints what the block says.
+fn rust_example(block: &[String], name: &str) {
     let blank = block.iter().position(|line| line.is_empty()).expect("the names come first");
     let (names, code) = block.split_at(blank);
     let main = ["fn main() -> Result<(), Box<dyn std::error::Error>> {".to_string()];
     let end = ["Ok(())", "}"].map(str::to_string);
     let parts = [names, &main, code, &end].concat();
-    let example = fs::read_to_string(root().join("rust/examples/readme.rs")).unwrap();
+    let example = fs::read_to_string(root().join("rust/examples").join(name).with_extension("rs")).unwrap();
     let bare = |lines: Vec<&str>| -> Vec<String> {
         let trimmed = lines.into_iter().map(str::trim);
         trimmed.filter(|line| !line.is_empty() && !line.starts_with("//!")).map(str::to_string).collect()
@@ -108,7 +115,7 @@ fn rust_example() {
     let expected: Vec<&str> = printing.map(|line| line.split_once("); // ").expect("a comment with the output").1).collect();
     assert!(!expected.is_empty());
     let output = Command::new(env!("CARGO"))
-        .args(["run", "--quiet", "--offline", "--manifest-path", "rust/Cargo.toml", "--example", "readme"])
+        .args(["run", "--quiet", "--offline", "--manifest-path", "rust/Cargo.toml", "--example", name])
         .current_dir(root())
         .output()
         .unwrap();
@@ -116,24 +123,32 @@ fn rust_example() {
 }
 
 #[test]
-fn c_example() {
+fn c_examples() {
     if Command::new("cc").arg("--version").output().is_err() {
-        return say("\nskipped: README's example in C, since there is no C compiler 'cc'");
+        return say("\nskipped: README's examples in C, since there is no C compiler 'cc'");
     }
-    let (block, behind) = block(&section("## From C"), "c");
-    let mut shown = behind.iter().skip_while(|line| !line.ends_with("./example"));
-    let command = shown.next().expect("the command that compiles and runs ./example").trim_start().trim_start_matches("$ ");
+    let (first, behind) = block(&section("## From C"), "c");
+    c_example(&first, &behind, "example");
+    let (second, behind) = block(&behind, "c");
+    c_example(&second, &behind, "lookup");
+    assert!(!behind.iter().any(|line| line == "```c"), "a third example in C");
+}
+
+/// The block is the program of that name, and prints what is shown behind it.
+fn c_example(block: &[String], behind: &[String], name: &str) {
+    let mut shown = behind.iter().skip_while(|line| !line.ends_with(&format!("./{name}")));
+    let command = shown.next().expect("the command that compiles and runs it").trim_start().trim_start_matches("$ ");
     let expected: Vec<&str> = shown.map_while(|line| line.strip_prefix("    ")).collect();
     assert!(!expected.is_empty());
 
     // The command is run as printed, in a folder that has the repository's headers and archive.
-    let folder = Path::new(env!("CARGO_TARGET_TMPDIR")).join("readme-c");
+    let folder = Path::new(env!("CARGO_TARGET_TMPDIR")).join(format!("readme-c-{name}"));
     let _ = fs::remove_dir_all(&folder);
     fs::create_dir(&folder).unwrap();
     for name in ["include", "target"] {
         symlink(root().join(name), folder.join(name)).unwrap();
     }
-    fs::write(folder.join("example.c"), block.join("\n") + "\n").unwrap();
+    fs::write(folder.join(name).with_extension("c"), block.join("\n") + "\n").unwrap();
     let output = Command::new("sh").args(["-c", command]).current_dir(&folder).output().unwrap();
     assert_eq!(lines(output), expected);
 }

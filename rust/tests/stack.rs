@@ -13,6 +13,9 @@ const STACK: usize = 128 << 10;
 const VALUES: u32 = 4_096;
 const LITERALS: u32 = 1_024;
 
+/// The values of a block of version 2.
+const BLOCK: u32 = 500;
+
 /// The null rows, behind the others, of the columns that have some.
 const NULLS: u32 = 1_000;
 const MOST_ROWS: u32 = VALUES + NULLS;
@@ -37,16 +40,26 @@ fn every_call_on_a_small_stack() {
         let rows = VALUES + nulls;
         let values = numbers(VALUES).zip(0..).map(|(value, row)| (value.to_vec(), vec![row])).collect();
         let groups = Groups { ty: types::INT, rows, nulls: (VALUES..rows).collect(), values };
-        let body = body(&groups, &Layout::version(version).with_blocks_of(500));
+        let body = body(&groups, &Layout::version(version).with_blocks_of(BLOCK as usize));
         let file = index_file(&[(&name, &name, &body)]);
         let record = Record { rows: rows.into(), nulls: nulls.into(), deleted: 0, matched: LITERALS.into() };
-        columns.push((body, file, record));
+        columns.push((version, body, file, record));
     }
     let deletions = deletion_file(&[bitmap(&(0..VALUES).collect::<Vec<_>>(), &BitmapForm::WithoutRuns)]);
 
     let calls = move || {
         let mut field = [0; MOST_ROWS.div_ceil(8) as usize];
-        for (body, file, record) in &columns {
+        let mut table = vec![0; raw::MOST_BLOCKS];
+        for (version, body, file, record) in &columns {
+            if *version == 2 {
+                let blocks = VALUES.div_ceil(BLOCK).into();
+                let opened = (raw::ACCEPTED, record.rows, blocks, Fault::NONE);
+                assert_eq!(raw::open(body, types::INT, &mut field, &mut table), opened);
+                let (literal, edition) = ((VALUES - 1).to_be_bytes(), types::SECOND_EDITION);
+                let (answer, found, compared, fault) = raw::look_up(body, types::INT, edition, &literal, &table, &mut field);
+                assert_eq!((answer, found, fault), (raw::ACCEPTED, Record { matched: 1, ..*record }, Fault::NONE));
+                assert!(compared > 0);
+            }
             assert_eq!(raw::audit(body, types::INT, &mut field), (raw::ACCEPTED, record.rows, Fault::NONE));
             let answer = (raw::ACCEPTED, *record, Fault::NONE);
             assert_eq!(raw::ask(body, types::INT, types::SECOND_EDITION, types::IN, &literals, &mut field), answer);

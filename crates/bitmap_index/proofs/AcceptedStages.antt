@@ -164,7 +164,9 @@ asked-back t q literal body ls e =
     let m = and-both _ _ (k .1) in
     (leb-true (length body) limit (s .0), leb-true (length literal) limit (s .1), ltb-true t types (k .0), m .0, ltb-true (q .name) questions (m .1), read ∙ ap ok i, rw i at takes)
 
-audit-joined : (t : ℕ) (body field : List ℕ) (d : Dictionary) (n : ℕ) → prepared t body field ≡ ok d → audited d (cleared (d .rows) field) ≡ ok n → audit t body field ≡ ok n
+-- Audit's two stages passed
+pub audit-joined : (t : ℕ) (body field : List ℕ) (d : Dictionary) (n : ℕ) → prepared t body field ≡ ok d → audited d (cleared (d .rows) field) ≡ ok n
+    → audit t body field ≡ ok n
 unfolding audit andThen
 audit-joined t body field d n x y = rw x y
 

@@ -199,7 +199,7 @@ module _ (q : Question) (ls : List (List ℕ)) (d : Dictionary) (f : List ℕ) {
 -- ---- the whole
 
 -- the number and the record are those of the answer, and so is the fault
-ask-numbers : (o : Out Refusal Answer) → askOut (answeredBy o) ≡ numbersOf noRecord askNumbers o
+pub ask-numbers : (o : Out Refusal Answer) → askOut (answeredBy o) ≡ numbersOf noRecord askNumbers o
 unfolding askOut numbersOf answeredBy
 ask-numbers (refuse r) = refl
 ask-numbers (ok b) = either (keeps (b .said .matched))
@@ -208,7 +208,7 @@ ask-numbers (ok b) = either (keeps (b .said .matched))
     either true = refl
     either false = refl
 
-ask-fault : (o : Out Refusal Answer) → askFault (answeredBy o) ≡ faultIn o
+pub ask-fault : (o : Out Refusal Answer) → askFault (answeredBy o) ≡ faultIn o
 unfolding askFault faultIn answeredBy
 ask-fault (refuse r) = refl
 ask-fault (ok b) = none (keeps (b .said .matched))

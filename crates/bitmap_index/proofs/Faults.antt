@@ -36,7 +36,7 @@ tick-none true e = absurd (omega arith)
 tick-none false e = refl
 
 -- a row that stands among rows below n is below n
-times-within : (n r : ℕ) (rs : List ℕ) → Below n rs → times r rs ≡ 1 → r < n
+pub times-within : (n r : ℕ) (rs : List ℕ) → Below n rs → times r rs ≡ 1 → r < n
 times-within n r rs b m = go (decLt r n)
   where
     go : Dec (r < n) → r < n
@@ -49,7 +49,7 @@ unfolding entryNumber
 number-behind earlier null = refl
 number-behind earlier (value v) = omega arith
 
-extent-said : (long : ℕ) → LengthSays long (extentOf long)
+pub extent-said : (long : ℕ) → LengthSays long (extentOf long)
 extent-said long = go (ℕ-discrete long minusOne)
   where
     go : Dec (long ≡ minusOne) → LengthSays long (extentOf long)

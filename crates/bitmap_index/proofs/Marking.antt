@@ -121,7 +121,7 @@ pub sound-null : (body : List ℕ) (h : Summary) → SoundNull body h → h .«h
     → SoundAt (h .rows) (drop (h .region .0) body) (toZ w32 (pattern (h .«null_offset»)))
 sound-null body h w t = sound-entry body h (nullEntry h) ((rw t at (w .sound)) .0)
 
-all-parts : (P : Entry → Type 0) (xs ys : List Entry) → All P (xs ++ ys) → All P xs × All P ys
+pub all-parts : {A : Type 0} (P : A → Type 0) (xs ys : List A) → All P (xs ++ ys) → All P xs × All P ys
 all-parts P [] ys a = (tt, a)
 all-parts P (x ∷ xs) ys a = let (i, j) = all-parts P xs ys (a .1) in ((a .0, i), j)
 

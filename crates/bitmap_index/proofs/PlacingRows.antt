@@ -46,7 +46,7 @@ pub cleared-mark : (n : ℕ) (f : List ℕ) (r : ℕ) → r < n → cleared n (m
 unfolding mark
 cleared-mark n f r h = zeroed-set (size n) f (r / 8) _ (omega arith)
 
-cleared-marks : (n : ℕ) (f rs : List ℕ) → Below n rs → cleared n (markAll f rs) ≡ cleared n f
+pub cleared-marks : (n : ℕ) (f rs : List ℕ) → Below n rs → cleared n (markAll f rs) ≡ cleared n f
 unfolding markAll
 cleared-marks n f [] b = refl
 cleared-marks n f (r ∷ rs) b = cleared-marks n (mark f r) rs (b .1) ∙ cleared-mark n f r (b .0)

@@ -124,7 +124,7 @@ module _ (cells : List Cell) (es : List Entry) (region field : List ℕ) (w : Ha
 
 module _ (q : Question) (ls : List (List ℕ)) where
   -- a cell stands among the chosen entries if the question chooses it and it stands among all
-  chosen-has : (c : Cell) (es : List Entry) → someHas c (chosenOf q ls es) ≡ chosen q ls c && someHas c es
+  pub chosen-has : (c : Cell) (es : List Entry) → someHas c (chosenOf q ls es) ≡ chosen q ls c && someHas c es
   unfolding chosenOf
   chosen-has c [] = sym (and-false (chosen q ls c))
   chosen-has c (e ∷ es) = go (sameCell c (e .cell)) (chosen q ls (e .cell)) refl refl (chosen-has c es)
@@ -140,7 +140,7 @@ module _ (q : Question) (ls : List (List ℕ)) where
       go false true x y i = rw x i
       go false false x y i = i
 
-  chosen-placed : (region : List ℕ) (cells : List Cell) (es : List Entry) → ExactRows region cells es → ExactRows region cells (chosenOf q ls es)
+  pub chosen-placed : (region : List ℕ) (cells : List Cell) (es : List Entry) → ExactRows region cells es → ExactRows region cells (chosenOf q ls es)
   unfolding chosenOf
   chosen-placed region cells [] a = tt
   chosen-placed region cells (e ∷ es) a = go (chosen q ls (e .cell)) (chosen-placed region cells es (a .1))

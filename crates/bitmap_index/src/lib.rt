@@ -55,9 +55,9 @@ const FIRST_NUMBER: u64 = 1;
 
 // Whether null's rows are counted as ones when they are placed. Ask answers how many they are, and counts what it answers (document 01); Audit doesn't, and the
 // sum of cardinalities is enough for it.
-const COUNT_NULLS: bool = true;
+pub const COUNT_NULLS: bool = true;
 
-const SUM_NULLS: bool = false;
+pub const SUM_NULLS: bool = false;
 
 // What is asked, by the numbers of the edition and of the name. The literals are lent beside it.
 pub struct Question {
@@ -79,19 +79,19 @@ pub enum Answered {
 }
 
 // What a step comes to that has nothing to hand on.
-enum Outcome {
+pub enum Outcome {
     Refused(Refusal),
     Done,
 }
 
 // What placing rows comes to: a refusal, or how many were placed.
-enum Placing {
+pub enum Placing {
     Refused(Refusal),
     Placed(u64),
 }
 
 // What an audit of the bitmaps comes to: a refusal, or how many rows null has.
-enum BitmapsAudited {
+pub enum BitmapsAudited {
     Refused(Refusal),
     Nulls(u64),
 }
@@ -161,7 +161,7 @@ fn place_bitmap(
 }
 
 // Places an entry's rows. A negative offset stands for the single row -1 - offset, and its extent isn't looked at.
-fn place_at(
+pub fn place_at(
     field: &mut [u8],
     region: &[u8],
     offset: i32,
@@ -186,7 +186,7 @@ fn place_at(
 }
 
 // Places null's rows, if it has an entry, in a field that is clear, and says how many they are.
-fn place_null(field: &mut [u8], body: &[u8], summary: Summary, counted: bool) -> Placing
+pub fn place_null(field: &mut [u8], body: &[u8], summary: Summary, counted: bool) -> Placing
     requires { ⌜ (summary .region .0 ≤ length (now body)) × (size (summary .rows) ≤ length (now field)) × (count (now field) (summary .rows) ≡ 0) ⌝ }
     ensures { λ r. ⌜ PlacesNull (now (body .entry)) summary (now (field .entry)) (now (field .exit)) r ⌝ }
 {
@@ -275,7 +275,7 @@ fn audit_zero(
 }
 
 // Audits the bitmaps of a dictionary in a field that has room, and leaves the field zero.
-fn audit_field(
+pub fn audit_field(
     field: &mut [u8],
     body: &[u8],
     summary: Summary,
@@ -293,7 +293,7 @@ fn audit_field(
 }
 
 // The limit, the dictionary, which tests the type first, and ROOM: all that comes before a byte of the field is written.
-fn prepare(body: &[u8], t: u32, field: &[u8]) -> Checked
+pub fn prepare(body: &[u8], t: u32, field: &[u8]) -> Checked
     ensures { λ r. ⌜ Prepares t (now (body .entry)) (now (field .entry)) r ⌝ }
 {
     if refusal::LIMIT < body.len() as u64 {
@@ -353,7 +353,7 @@ fn takes(name: u32, count: u64) -> bool
 }
 
 // The limits, the type, the edition and the name, then the literals and their number.
-fn test_question(body: &[u8], t: u32, question: Question, literals: &[u8]) -> Outcome
+pub fn test_question(body: &[u8], t: u32, question: Question, literals: &[u8]) -> Outcome
     ensures { λ r. ⌜ TestsQuestion t question (now (literals .entry)) (now (body .entry)) r ⌝ }
 {
     if refusal::LIMIT < body.len() as u64 {

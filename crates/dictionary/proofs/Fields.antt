@@ -99,7 +99,7 @@ module _ (s : List ℕ) (p : ℕ) (version2 : Bool) {has : Bool} where
 
 -- ---- the first ten bytes
 
-byte-at : (s : List ℕ) (p : ℕ) → beAt 1 s p ≡ getD s p 0
+pub byte-at : (s : List ℕ) (p : ℕ) → beAt 1 s p ≡ getD s p 0
 byte-at s p = simp (zero-add, add-zero)
 
 -- what follows a version v

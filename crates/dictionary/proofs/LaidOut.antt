@@ -26,11 +26,11 @@ use Rattle.stored_value.proofs.Laws.{value-laid, sameCell-sym}
 
 -- ---- a value
 
-cell-back : (t : ℕ) (c : Cell) → Valued t c → value (valueBytes c) ≡ c
+pub cell-back : (t : ℕ) (c : Cell) → Valued t c → value (valueBytes c) ≡ c
 cell-back t null h = absurd h
 cell-back t (value v) h = refl
 
-valueOf-laid : {A : Type 0} (t : ℕ) (c : Cell) (tail : List ℕ) (k : List ℕ → List ℕ → Out Refusal A) → Valued t c
+pub valueOf-laid : {A : Type 0} (t : ℕ) (c : Cell) (tail : List ℕ) (k : List ℕ → List ℕ → Out Refusal A) → Valued t c
     → valueOf Short Dict t (valueBytes c ++ tail) k ≡ k (valueBytes c) tail
 unfolding valueOf andThen
 valueOf-laid t null tail k v = absurd v
@@ -74,7 +74,7 @@ entriesOne-laid t rows nulls before (e ∷ es) region d a x p =
 
 -- ---- the fields before the entries
 
-patterns-cut : (xs ys : List Entry) → Patterns (xs ++ ys) → Patterns xs × Patterns ys
+pub patterns-cut : (xs ys : List Entry) → Patterns (xs ++ ys) → Patterns xs × Patterns ys
 patterns-cut [] ys p = (tt, p)
 patterns-cut (x ∷ xs) ys p = let q = patterns-cut xs ys (p .2) in ((p .0, p .1, q .0), q .1)
 
@@ -82,7 +82,7 @@ extents-cut : (xs ys : List Entry) → NoExtents (xs ++ ys) → NoExtents xs × 
 extents-cut [] ys p = (tt, p)
 extents-cut (x ∷ xs) ys p = let q = extents-cut xs ys (p .1) in ((p .0, q .0), q .1)
 
-counted-laid : {A : Type 0} (most n : ℕ) (s : List ℕ) (k : ℕ → List ℕ → Out Refusal A) → n ≤ most → n ≤ limit → countAtMost most (be 4 n ++ s) k ≡ k n s
+pub counted-laid : {A : Type 0} (most n : ℕ) (s : List ℕ) (k : ℕ → List ℕ → Out Refusal A) → n ≤ most → n ≤ limit → countAtMost most (be 4 n ++ s) k ≡ k n s
 unfolding countAtMost check
 counted-laid most n s k h l =
     number-laid big 4 (refuse Short) n s _ (omega arith) ∙ rw (lt-ltb n signBit (omega arith), le-leb n most h)
@@ -91,7 +91,7 @@ pub byte-laid : {A : Type 0} (b : ℕ) (s : List ℕ) (k : ℕ → List ℕ → 
 unfolding number
 byte-laid b s k = rw (le-leb 1 (suc (length s)) (omega arith), zero-add b)
 
-null-flag : (nulls : List Entry) → hasNull nulls ≤ 1
+pub null-flag : (nulls : List Entry) → hasNull nulls ≤ 1
 null-flag [] = omega arith
 null-flag (e ∷ es) = omega arith
 
@@ -119,7 +119,8 @@ null1-laid [] s k h x p = refl
 null1-laid (e ∷ es) s k h x p =
     number-laid big 4 (refuse Short) (e .offset) s _ (p .0) ∙ rw (← h .0, ← x .0, h .1)
 
-null2-laid : (nulls : List Entry) (s : List ℕ) (k : AfterEntries) → NullOnly nulls → Patterns nulls
+-- whatever follows it
+pub null2-laid : {A : Type 0} (nulls : List Entry) (s : List ℕ) (k : List Entry → List ℕ → Out Refusal A) → NullOnly nulls → Patterns nulls
     → nullOf true (eqb (hasNull nulls) 1) (null2 nulls ++ s) k ≡ k nulls s
 unfolding nullOf
 null2-laid [] s k h p = refl
@@ -146,7 +147,7 @@ abbrev pub listingsOf : ℕ → List (List Entry) → List Listing
 listingsOf at [] = []
 listingsOf at (b ∷ bs) = record { first = valueBytes (first b); at = at } ∷ listingsOf (at + length (block b)) bs
 
-abbrev Headed : ℕ → List (List Entry) → Type 0
+abbrev pub Headed : ℕ → List (List Entry) → Type 0
 Headed t [] = Unit {0}
 Headed t (b ∷ bs) = Valued t (first b) × Headed t bs
 
@@ -155,7 +156,7 @@ abbrev pub lastOf : Cell → List Entry → Cell
 lastOf before [] = before
 lastOf before (e ∷ es) = lastOf (e .cell) es
 
-rises-cut : (t : ℕ) (before : Cell) (xs ys : List Entry) → Rises t before (xs ++ ys) → Rises t before xs × Rises t (lastOf before xs) ys
+pub rises-cut : (t : ℕ) (before : Cell) (xs ys : List Entry) → Rises t before (xs ++ ys) → Rises t before xs × Rises t (lastOf before xs) ys
 rises-cut t before [] ys r = (tt, r)
 rises-cut t before (x ∷ xs) ys r = let q = rises-cut t (x .cell) xs ys (r .2) in ((r .0, r .1, q .0), q .1)
 
@@ -163,7 +164,7 @@ first-valued : (t : ℕ) (before : Cell) (b : List Entry) → 1 ≤ length b →
 first-valued t before [] h r = absurd (omega arith)
 first-valued t before (e ∷ es) h r = r .0
 
-headed : (t : ℕ) (before : Cell) (bs : List (List Entry)) → NoneEmpty bs → Rises t before (joined bs) → Headed t bs
+pub headed : (t : ℕ) (before : Cell) (bs : List (List Entry)) → NoneEmpty bs → Rises t before (joined bs) → Headed t bs
 headed t before [] h r = tt
 headed t before (b ∷ bs) h r =
     let q = rises-cut t before b (joined bs) r in
@@ -246,7 +247,7 @@ blocksOf-laid t at base before (b ∷ bs) sofar s k z n r p l =
     ∙ rw (append-assoc sofar b (joined bs))))
 
 -- blocks are there exactly when values are
-none-exactly : (bs : List (List Entry)) → NoneEmpty bs → cond (eqb (length (joined bs)) 0) (eqb (length bs) 0) (leb 1 (length bs)) ≡ true
+pub none-exactly : (bs : List (List Entry)) → NoneEmpty bs → cond (eqb (length (joined bs)) 0) (eqb (length bs) 0) (leb 1 (length bs)) ≡ true
 none-exactly [] n = refl
 none-exactly (b ∷ bs) n =
     let m : length (b ++ joined bs) ≡ length b + length (joined bs) = length-append b (joined bs) in

@@ -89,11 +89,11 @@ unfolding sameCell
 past-differs t v null p = absurd p
 past-differs t v (value w) p = less-differs t v w p
 
-past-rises : (t : ℕ) (v : List ℕ) (c : Cell) (es : List Entry) → Past t (value v) c → Rises t c es → Rises t (value v) es
+pub past-rises : (t : ℕ) (v : List ℕ) (c : Cell) (es : List Entry) → Past t (value v) c → Rises t c es → Rises t (value v) es
 past-rises t v null es p r = absurd p
 past-rises t v (value w) es p r = rises-lower t v w es p r
 
-rises-none : (t : ℕ) (v : List ℕ) (es : List Entry) → Rises t (value v) es → someHas (value v) es ≡ false
+pub rises-none : (t : ℕ) (v : List ℕ) (es : List Entry) → Rises t (value v) es → someHas (value v) es ≡ false
 rises-none t v [] r = refl
 rises-none t v (e ∷ es) r = rw (past-differs t v (e .cell) (r .1), rises-none t v es (past-rises t v (e .cell) es (r .1) (r .2)))
 

@@ -80,7 +80,7 @@ blocked t rows n nulls s =
     (ok (record { rows = rows; entries = nulls ++ es; region = region }))))))))
 
 -- null's entry, if there is one; in version 2 with a length
-unfoldable pub nullOf : Bool → Bool → List ℕ → (List Entry → List ℕ → Out Refusal Dictionary) → Out Refusal Dictionary
+unfoldable pub nullOf : {A : Type 0} → Bool → Bool → List ℕ → (List Entry → List ℕ → Out Refusal A) → Out Refusal A
 nullOf version2 false s k = k [] s
 nullOf false true s k = number big 4 (refuse Short) s (λ offset s. k (record { cell = null; offset = offset; extent = minusOne } ∷ []) s)
 nullOf true true s k =

@@ -18,9 +18,9 @@ use stored_value::Sized;
 // Document 01, "Limits": the value number of each version, and the block number.
 const MOST_VALUES_1: u64 = 4_096;
 
-const MOST_VALUES_2: u64 = 65_536;
+pub const MOST_VALUES_2: u64 = 65_536;
 
-const MOST_BLOCKS: u64 = 65_536;
+pub const MOST_BLOCKS: u64 = 65_536;
 
 // Up to so many values each is compared with those before it: zeroing a table would take longer.
 const FEW_VALUES: u64 = 32;
@@ -64,18 +64,19 @@ pub struct EntryAt {
 }
 
 // Where a value ends.
-enum ValueEnd {
+pub enum ValueEnd {
     Refused(Refusal),
     To(Position),
 }
 
-enum Count {
+// A count that was read.
+pub enum Count {
     Refused(Refusal),
     Is(u64),
 }
 
 // Null's two numbers, and where what follows begins.
-enum Null {
+pub enum Null {
     Refused(Refusal),
     Numbers {
         offset: i32,
@@ -137,7 +138,7 @@ enum AllEntries {
 }
 
 // A count of four bytes, negative ones refused.
-fn count_at(body: &[u8], at: Position, most: u64) -> Count
+pub fn count_at(body: &[u8], at: Position, most: u64) -> Count
     requires { ⌜ at .0 ≤ length (now body) ⌝ }
     ensures { λ r. ⌜ CountAt most (now (body .entry)) (at .0) r ⌝ }
 {
@@ -208,7 +209,7 @@ fn fixed_fields(body: &[u8]) -> Fixed
 }
 
 // The offset at a position, signed.
-fn offset_at(body: &[u8], at: Position) -> i32
+pub fn offset_at(body: &[u8], at: Position) -> i32
     requires { ⌜ at .0 + 4 ≤ length (now body) ⌝ }
     ensures { λ r. ⌜ OffsetAt (now (body .entry)) (at .0) r ⌝ }
 {
@@ -216,7 +217,7 @@ fn offset_at(body: &[u8], at: Position) -> i32
 }
 
 // Null's entry, if there is one.
-fn null_entry(body: &[u8], version2: bool, has: bool, at: Position) -> Null
+pub fn null_entry(body: &[u8], version2: bool, has: bool, at: Position) -> Null
     requires { ⌜ at .0 ≤ length (now body) ⌝ }
     ensures { λ r. ⌜ NullAt version2 has (now (body .entry)) (at .0) r ⌝ }
 {
@@ -251,7 +252,7 @@ fn null_entry(body: &[u8], version2: bool, has: bool, at: Position) -> Null
 }
 
 // Where the value at `at` ends.
-fn value_end(body: &[u8], t: u32, at: Position) -> ValueEnd
+pub fn value_end(body: &[u8], t: u32, at: Position) -> ValueEnd
     ensures { λ r. ⌜ ValueAt t (now (body .entry)) (at .0) r ⌝ }
 {
     match stored_value::size(body, at, t, Refusal::Short, Refusal::Dict) {
@@ -554,7 +555,7 @@ fn all_blocks(body: &[u8], t: u32, b: u64, directory: Position, base: Position) 
 }
 
 // No blocks exactly where there is no value.
-fn blocks_fit(n: u64, b: u64) -> bool
+pub fn blocks_fit(n: u64, b: u64) -> bool
     ensures { λ r. ⌜ r ≡ cond (eqb n 0) (eqb b 0) (leb 1 b) ⌝ }
 {
     if n == 0 {

@@ -10,6 +10,8 @@ use Rattle.deletion_file.specs.Reading.{deletions, deletionsBuffer, deletionsNu
 use Rattle.index_file.specs.Reading.{find, locateNumbers}
 use Rattle.bitmap_index.specs.declared.Question.{Question}
 use Rattle.bitmap_index.specs.Reading.{audit, auditBuffer, auditNumbers, ask, askBuffer, askNumbers}
+use Rattle.opening.specs.Reading.{opened, openBuffer, openTable, openNumbers}
+use Rattle.lookup.specs.Reading.{answerOf, comparedOf, lookUp, lookUpBuffer}
 use Rattle.file_to_answers.specs.Reading.{askFile, askFileBuffer, askFileNumbers}
 
 pub record ReadDeletions (file : List ℕ) (bin rows : ℕ) (before after : List ℕ) (number deleted : ℕ) (fault : List ℕ) : Type 0 where
@@ -41,6 +43,20 @@ pub record Ask (body : List ℕ) (t : ℕ) (q : Question) (literals before after
   pub numbers : (number, said) ≡ numbersOf noRecord askNumbers (ask t q literals body before)
   pub fault-is : fault ≡ faultIn (ask t q literals body before)
   pub buffer : after ≡ askBuffer t q literals body before
+
+-- `words` and `filled` are the table's around the call
+pub record Open (body : List ℕ) (t : ℕ) (before after words filled : List ℕ) (number rows blocks : ℕ) (fault : List ℕ) : Type 0 where
+  pub numbers : (number, (rows, blocks)) ≡ numbersOf (0, 0) openNumbers (opened t body before words)
+  pub fault-is : fault ≡ faultIn (opened t body before words)
+  pub buffer : after ≡ openBuffer t body before words
+  pub table : filled ≡ openTable t body before words
+
+-- `said` as for Ask; `compared` are values compared
+pub record LookUp (body : List ℕ) (t edition : ℕ) (literals table before after : List ℕ) (number : ℕ) (said : List ℕ) (compared : ℕ) (fault : List ℕ) : Type 0 where
+  pub numbers : (number, said) ≡ numbersOf noRecord askNumbers (answerOf (lookUp t edition literals table body before))
+  pub steps : compared ≡ comparedOf (lookUp t edition literals table body before)
+  pub fault-is : fault ≡ faultIn (answerOf (lookUp t edition literals table body before))
+  pub buffer : after ≡ lookUpBuffer t edition literals table body before
 
 -- `bytes` as for Locate, `said` as for Ask
 pub record AskFile (bytes column kind : List ℕ) (t : ℕ) (q : Question) (literals before after : List ℕ) (number : ℕ) (said fault : List ℕ) : Type 0 where

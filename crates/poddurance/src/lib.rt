@@ -9,13 +9,14 @@ ghost use Rattle.bitmap_index.specs.Meaning.{question};
 ghost use Rattle.bitmap_index.specs.Reading.{askOut, askFault};
 ghost use Rattle.file_to_answers.specs.Reading.{lookedAt};
 ghost use Rattle.file_to_answers.specs.Promises.{FileAsScan};
-ghost use Rattle.poddurance.specs.Promises.{ReadDeletions, Subtract, SubtractRecord, Locate, Audit, Ask, AskFile};
+ghost use Rattle.poddurance.specs.Promises.{ReadDeletions, Subtract, SubtractRecord, Locate, Audit, Ask, Open, LookUp, AskFile};
 use bitmap_index::Answered;
 use bitmap_index::Audited;
 use bitmap_index::Question;
 use deletion_file::Deletions;
 use file_to_answers::FileAnswer;
 use index_file::Located;
+use opening::Opened;
 use subtract::RecordSubtracted;
 use subtract::Subtracted;
 
@@ -224,6 +225,62 @@ pub extern "C" fn poddurance_ask(
         said,
         fault,
     )
+}
+
+// Open (document 02, Ticket 6). An accepted body's table is lent to `poddurance_look_up`.
+#[no_mangle]
+pub extern "C" fn poddurance_open(
+    body: &[u8],
+    t: u32,
+    field: &mut [u8],
+    table: &mut [u32],
+    rows: &mut u64,
+    blocks: &mut u64,
+    fault: &mut [u64; 3],
+) -> u8
+    ensures { λ r. ⌜ Open (now (body .entry)) t (now (field .entry)) (now (field .exit)) (now (table .entry)) (now (table .exit))
+        r (now (rows .exit)) (now (blocks .exit)) (now (fault .exit)) ⌝ }
+{
+    let answer = opening::open(body, t, field, table);
+    match answer {
+        Opened::Refused(r) => {
+            *rows = 0;
+            *blocks = 0;
+            *fault = refusal::fault(r);
+            refusal::number(r)
+        }
+        Opened::Accepted {
+            rows: count,
+            blocks: number,
+        } => {
+            *rows = count;
+            *blocks = number;
+            *fault = refusal::NO_FAULT;
+            ACCEPTED
+        }
+    }
+}
+
+// A lookup (document 02, Ticket 6): EQUAL, without an audit.
+#[no_mangle]
+pub extern "C" fn poddurance_look_up(
+    body: &[u8],
+    t: u32,
+    edition: u32,
+    literals: &[u8],
+    table: &[u32],
+    field: &mut [u8],
+    said: &mut [u64; 4],
+    compared: &mut u64,
+    fault: &mut [u64; 3],
+) -> u8
+    ensures { λ r. ⌜ LookUp (now (body .entry)) t edition (now (literals .entry)) (now (table .entry)) (now (field .entry)) (now (field .exit))
+        r (now (said .exit)) (now (compared .exit)) (now (fault .exit)) ⌝ }
+{
+    let looked = lookup::look_up(body, t, edition, literals, table, field);
+    *compared = looked.compared;
+    let answer = looked.answer;
+    answered(answer, said, fault)
 }
 
 // Locate, then Ask on the part that it finds. The second promise is demand 3: of a column's file the answer, the record and the field are those of the scan.

@@ -99,7 +99,7 @@ first-taken : (t k : ℕ) (s : List ℕ) → 0 < k → booleanOk t (take k s) �
 unfolding booleanOk
 first-taken t k s p = rw (getD-take k s 0 0 p)
 
-number-ok : {A : Type 0} (w : ℕ) (r : Refusal) (s : List ℕ) (k : ℕ → List ℕ → Out Refusal A) (a : A) → meaning.number big w (refuse r) s k ≡ ok a
+pub number-ok : {A : Type 0} (w : ℕ) (r : Refusal) (s : List ℕ) (k : ℕ → List ℕ → Out Refusal A) (a : A) → meaning.number big w (refuse r) s k ≡ ok a
     → (w ≤ length s) × (k (beAt w s 0) (drop w s) ≡ ok a)
 unfolding meaning.number
 number-ok {A} w r s k a e = go (leb w (length s)) refl e

@@ -25,6 +25,14 @@
 //!     assert_eq!((field.to_vec(), record), scan(&column, edition, NOT_EQUAL, &["off"]));
 //! }
 //!
+//! // Opened once, EQUAL is looked up without an audit: one block, whose first value is compared, and then its two.
+//! let mut table = [0];
+//! assert_eq!(reader::open(&body, STRING, &mut field, &mut table), (0, 4, 1, reader::NO_FAULT));
+//! let on = literals(STRING, &["on"]);
+//! let found = reader::look_up(&body, STRING, FIRST_EDITION, &on, &table, &mut field);
+//! assert_eq!(found, (0, Record { rows: 4, nulls: 1, deleted: 0, matched: 2 }, 3, reader::NO_FAULT));
+//! assert_eq!(field, [0b1001]);
+//!
 //! let deletions = deletion_file(&[bitmap(&[2, 3], &BitmapForm::Smallest)]);
 //! let mut deleted = [0];
 //! assert_eq!(reader::read_deletions(&deletions, 0, 4, &mut deleted), (0, 2, reader::NO_FAULT));

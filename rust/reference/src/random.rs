@@ -765,7 +765,7 @@ pub fn question(random: &mut Random, groups: &Groups) -> (u32, Vec<Vec<u8>>) {
 }
 
 /// A literal: mostly a value of the groups, also its neighbours and any other.
-fn literal(random: &mut Random, groups: &Groups) -> Vec<u8> {
+pub fn literal(random: &mut Random, groups: &Groups) -> Vec<u8> {
     if groups.values.is_empty() || random.percent(25) {
         return value(random, groups.ty, 40);
     }

@@ -1,4 +1,4 @@
-//! The calls: Locate, Audit, Ask, Ask of a file, Read deletions, Subtract and Subtract of a record.
+//! The calls: Locate, Audit, Ask, Ask of a file, Open, Look up, Read deletions, Subtract and Subtract of a record.
 //!
 //! Each answers a number first: 0 accepted, 255 ABSENT (Locate and Ask of a file alone), otherwise a refusal's number.
 //! Counts, records, start and length are 0 with any answer but 0. The calls that read bitmaps end with where a refusal's cause is.
@@ -11,6 +11,10 @@ use crate::names;
 use crate::record::Record;
 use crate::roaring::{count_ones, Bitmap, Broken};
 use crate::types::{self, Width};
+
+mod lookup;
+
+pub use lookup::look_up;
 
 pub const ACCEPTED: u8 = 0;
 pub const ABSENT: u8 = 255;
@@ -122,6 +126,13 @@ pub fn ask_file(
         }
         (answer, ..) => (answer, Record::NONE, NO_FAULT),
     }
+}
+
+/// Audits a body of version 2 and writes down where its directory's entries start: answer, row count, number of blocks and fault. The
+/// field is left zero from ROOM on; the table changes only where the answer is 0, and there as many words as there are blocks.
+pub fn open(body: &[u8], ty: u32, field: &mut [u8], table: &mut [u32]) -> (u8, u64, u64, Fault) {
+    let (answer, (rows, blocks), fault) = said(try_open(body, ty, field, table), (0, 0));
+    (answer, rows, blocks, fault)
 }
 
 /// Sets the rows of one bin of a deletion file: answer, their count, and fault.
@@ -262,6 +273,22 @@ fn try_audit(body: &[u8], ty: u32, buffer: &mut [u8]) -> Result<u64, Refusal> {
     result.map(|_| dictionary.rows)
 }
 
+fn try_open(body: &[u8], ty: u32, buffer: &mut [u8], table: &mut [u32]) -> Result<(u64, u64), Refusal> {
+    within_limit(body)?;
+    let width = types::width(ty).ok_or(Refusal::Literal)?;
+    demand_version_2(body)?;
+    let dictionary = Dictionary::read(body, ty, width)?;
+    let field = field_for(dictionary.rows, buffer)?;
+    let words = table.get_mut(..dictionary.directory.len()).ok_or(Refusal::Room)?;
+    let result = dictionary.place_all(field, |_| false);
+    field.fill(0);
+    result?;
+    for (word, first) in words.iter_mut().zip(&dictionary.directory) {
+        *word = first.at as u32;
+    }
+    Ok((dictionary.rows, words.len() as u64))
+}
+
 fn try_ask(body: &[u8], ty: u32, edition: u32, question: u32, literals: &[u8], buffer: &mut [u8]) -> Result<Record, Refusal> {
     within_limit(body)?;
     within_limit(literals)?;
@@ -331,18 +358,43 @@ fn read_literals(bytes: &[u8], ty: u32, width: Width) -> Result<Vec<&[u8]>, Refu
     Ok(literals)
 }
 
+/// The first fields of a body.
+struct Front {
+    version: u8,
+    rows: u64,
+    /// How many values have entries.
+    values: usize,
+    null: Option<RowsAt>,
+}
+
 /// What a body says before its bitmaps.
 struct Dictionary<'a> {
     rows: u64,
     null: Option<Entry<'a>>,
+    /// Of version 2.
+    directory: Vec<First<'a>>,
     /// In stored order.
     values: Vec<Entry<'a>>,
     bitmaps: &'a [u8],
 }
 
+/// A directory's entry: a block's first value and its offset.
+struct First<'a> {
+    /// Where it starts in the body.
+    at: usize,
+    value: &'a [u8],
+    offset: i32,
+}
+
 struct Entry<'a> {
     /// Nothing for null.
     value: Option<&'a [u8]>,
+    rows: RowsAt,
+}
+
+/// Where the rows of an entry are, as stored: a negative offset is the single row.
+#[derive(Clone, Copy)]
+struct RowsAt {
     offset: i32,
     length: i32,
 }
@@ -350,9 +402,8 @@ struct Entry<'a> {
 /// A stored length that says: as long as the bitmap is.
 const OPEN_LENGTH: i32 = -1;
 
-impl<'a> Dictionary<'a> {
-    fn read(body: &'a [u8], ty: u32, width: Width) -> Result<Dictionary<'a>, Refusal> {
-        let mut input = Input::new(body);
+impl Front {
+    fn read(input: &mut Input) -> Result<Front, Refusal> {
         let version = input.u8()?;
         let max_values = match version {
             1 => MAX_VALUES_V1,
@@ -370,13 +421,22 @@ impl<'a> Dictionary<'a> {
         if has_null {
             let offset = input.i32()?;
             let length = if version == 2 { input.i32()? } else { OPEN_LENGTH };
-            null = Some(Entry { value: None, offset, length });
+            null = Some(RowsAt { offset, length });
         }
-        let values = match version {
-            1 => read_entries_v1(&mut input, ty, width, values)?,
+        Ok(Front { version, rows, values, null })
+    }
+}
+
+impl<'a> Dictionary<'a> {
+    fn read(body: &'a [u8], ty: u32, width: Width) -> Result<Dictionary<'a>, Refusal> {
+        let mut input = Input::new(body);
+        let Front { version, rows, values, null } = Front::read(&mut input)?;
+        let (directory, values) = match version {
+            1 => (Vec::new(), read_entries_v1(&mut input, ty, width, values)?),
             _ => read_entries_v2(&mut input, ty, width, values)?,
         };
-        Ok(Dictionary { rows, null, values, bitmaps: input.rest() })
+        let null = null.map(|rows| Entry { value: None, rows });
+        Ok(Dictionary { rows, null, directory, values, bitmaps: input.rest() })
     }
 
     /// Each entry with its number: null's, if there is one, is 0; the values' are 1 and on, whether there is a null or not.
@@ -391,10 +451,7 @@ impl<'a> Dictionary<'a> {
         let mut nulls = 0;
         let mut placed = 0;
         for (number, entry) in self.numbered() {
-            let rows = self.entry_rows(entry).map_err(|broken| bitmap_refusal(number, broken))?;
-            if rows.last().is_some_and(|last| u64::from(last) >= self.rows) {
-                return Err(Refusal::Range { entry: number });
-            }
+            let rows = rows_below(self.rows, number, entry.rows, self.bitmaps)?;
             if !rows.place(field) {
                 return Err(Refusal::Twice { entry: number });
             }
@@ -412,21 +469,33 @@ impl<'a> Dictionary<'a> {
         }
         Ok(Placed { nulls, wanted })
     }
+}
 
-    /// The rows of an entry, or the container that is broken in its bitmap.
-    fn entry_rows(&self, entry: &Entry) -> Result<EntryRows<'a>, Broken> {
-        let Ok(offset) = usize::try_from(entry.offset) else {
-            return Ok(EntryRows::One((-1 - entry.offset) as u32));
-        };
-        let bytes = self.bitmaps.get(offset..).ok_or(Broken::IN_FRONT)?;
-        let bitmap = if entry.length == OPEN_LENGTH {
-            Bitmap::parse(bytes)?
-        } else {
-            let length = usize::try_from(entry.length).map_err(|_| Broken::IN_FRONT)?;
-            Bitmap::parse_whole(bytes.get(..length).ok_or(Broken::IN_FRONT)?)?
-        };
-        Ok(EntryRows::Many(bitmap))
+/// The rows of entry number `number`, all of which must be below `end`.
+// Always inlined, as are those below with more than one caller: as calls of their own they make Audit of many values a third slower.
+#[inline(always)]
+fn rows_below(end: u64, number: u64, at: RowsAt, bitmaps: &[u8]) -> Result<EntryRows<'_>, Refusal> {
+    let rows = entry_rows(at, bitmaps).map_err(|broken| bitmap_refusal(number, broken))?;
+    if rows.last().is_some_and(|last| u64::from(last) >= end) {
+        return Err(Refusal::Range { entry: number });
     }
+    Ok(rows)
+}
+
+/// The rows of an entry, or the container that is broken in its bitmap.
+#[inline(always)]
+fn entry_rows(at: RowsAt, bitmaps: &[u8]) -> Result<EntryRows<'_>, Broken> {
+    let Ok(offset) = usize::try_from(at.offset) else {
+        return Ok(EntryRows::One((-1 - at.offset) as u32));
+    };
+    let bytes = bitmaps.get(offset..).ok_or(Broken::IN_FRONT)?;
+    let bitmap = if at.length == OPEN_LENGTH {
+        Bitmap::parse(bytes)?
+    } else {
+        let length = usize::try_from(at.length).map_err(|_| Broken::IN_FRONT)?;
+        Bitmap::parse_whole(bytes.get(..length).ok_or(Broken::IN_FRONT)?)?
+    };
+    Ok(EntryRows::Many(bitmap))
 }
 
 /// What is known once every row has its place.
@@ -491,19 +560,37 @@ fn read_entries_v1<'a>(input: &mut Input<'a>, ty: u32, width: Width, values: usi
         if !seen.insert(value) {
             return Err(Refusal::Dict);
         }
-        entries.push(Entry { value: Some(value), offset: input.i32()?, length: OPEN_LENGTH });
+        entries.push(Entry { value: Some(value), rows: RowsAt { offset: input.i32()?, length: OPEN_LENGTH } });
     }
     Ok(entries)
 }
 
-fn read_entries_v2<'a>(input: &mut Input<'a>, ty: u32, width: Width, values: usize) -> Result<Vec<Entry<'a>>, Refusal> {
+/// The version of the bodies that have a directory of blocks.
+const VERSION_2: u8 = 2;
+
+fn demand_version_2(body: &[u8]) -> Result<(), Refusal> {
+    match body.first() {
+        None => Err(Refusal::Short),
+        Some(&VERSION_2) => Ok(()),
+        Some(_) => Err(Refusal::Version),
+    }
+}
+
+fn read_block_number(input: &mut Input, values: usize) -> Result<usize, Refusal> {
     let blocks = input.count_up_to(MAX_BLOCKS)?;
     if (blocks == 0) != (values == 0) {
         return Err(Refusal::Dict);
     }
+    Ok(blocks)
+}
+
+type DirectoryAndEntries<'a> = (Vec<First<'a>>, Vec<Entry<'a>>);
+
+fn read_entries_v2<'a>(input: &mut Input<'a>, ty: u32, width: Width, values: usize) -> Result<DirectoryAndEntries<'a>, Refusal> {
+    let blocks = read_block_number(input, values)?;
     let mut directory = Vec::with_capacity(blocks);
     for _ in 0..blocks {
-        directory.push((input.value(ty, width)?, input.i32()?));
+        directory.push(First { at: input.at, value: input.value(ty, width)?, offset: input.i32()? });
     }
     let bitmaps_offset = input.i32()?;
 
@@ -512,8 +599,8 @@ fn read_entries_v2<'a>(input: &mut Input<'a>, ty: u32, width: Width, values: usi
     let mut total = 0;
     let mut previous: Option<&[u8]> = None;
     let mut entries = Vec::with_capacity(values);
-    for (first, offset) in directory {
-        if !is_here(offset, input) {
+    for first in &directory {
+        if !is_here(first.offset, input) {
             return Err(Refusal::Dict);
         }
         let count = input.count()?;
@@ -523,20 +610,20 @@ fn read_entries_v2<'a>(input: &mut Input<'a>, ty: u32, width: Width, values: usi
         total += count;
         for i in 0..count {
             let value = input.value(ty, width)?;
-            if i == 0 && value != first {
+            if i == 0 && value != first.value {
                 return Err(Refusal::Dict);
             }
             if previous.is_some_and(|previous| types::compare(ty, previous, value) != Ordering::Less) {
                 return Err(Refusal::Dict);
             }
             previous = Some(value);
-            entries.push(Entry { value: Some(value), offset: input.i32()?, length: input.i32()? });
+            entries.push(Entry { value: Some(value), rows: RowsAt { offset: input.i32()?, length: input.i32()? } });
         }
     }
     if !is_here(bitmaps_offset, input) || total != values {
         return Err(Refusal::Dict);
     }
-    Ok(entries)
+    Ok((directory, entries))
 }
 
 // Read deletions
@@ -650,6 +737,7 @@ impl<'a> Input<'a> {
         &self.bytes[self.at..]
     }
 
+    #[inline(always)]
     fn take(&mut self, count: usize) -> Result<&'a [u8], Refusal> {
         let taken = self.rest().get(..count).ok_or(Refusal::Short)?;
         self.at += count;
@@ -682,6 +770,7 @@ impl<'a> Input<'a> {
     }
 
     /// A number that may neither pass its limit nor be negative.
+    #[inline(always)]
     fn count_up_to(&mut self, limit: i32) -> Result<usize, Refusal> {
         let number = self.i32()?;
         if number > limit {
@@ -697,6 +786,7 @@ impl<'a> Input<'a> {
     }
 
     /// A value in stored form. A string is handed back without its length.
+    #[inline(always)]
     fn value(&mut self, ty: u32, width: Width) -> Result<&'a [u8], Refusal> {
         match width {
             Width::Counted => {

@@ -253,6 +253,28 @@ impl Layout {
         self.blocks = vec![entries];
         self
     }
+
+    /// The same in blocks as long as fit into that many bytes, the entry number included (version 2). A block of one entry may take more.
+    pub fn with_blocks_within(mut self, bytes: usize, groups: &Groups) -> Layout {
+        const ENTRY_NUMBER: usize = 4;
+        const OFFSET_AND_LENGTH: usize = 8;
+        self.blocks.clear();
+        let mut taken = 0;
+        for (value, _) in &groups.values {
+            let entry = types::literals(groups.ty, &[value]).len() + OFFSET_AND_LENGTH;
+            match self.blocks.last_mut() {
+                Some(entries) if taken + entry <= bytes => {
+                    *entries += 1;
+                    taken += entry;
+                }
+                _ => {
+                    self.blocks.push(1);
+                    taken = ENTRY_NUMBER + entry;
+                }
+            }
+        }
+        self
+    }
 }
 
 /// How the rows of one entry are stored.

@@ -1,12 +1,12 @@
 //! The files that document 01 writes out, and what document 02 says of them.
 
-use reference::reader::{ask, ask_file, audit, locate, read_deletions, subtract, subtract_record, NO_FAULT};
+use reference::reader::{ask, ask_file, audit, locate, look_up, open, read_deletions, subtract, subtract_record, NO_FAULT};
 use reference::record::Record;
 use reference::scan::{scan, scan_without};
 use reference::types::*;
 use reference::writer::{
-    bitmap, body_of, deletion_file, index_file, index_file_traced, BitmapForm, Column, ContainerForm, Content, FileLayout, Index,
-    IndexedColumn, Layout,
+    bitmap, body, body_of, deletion_file, index_file, index_file_traced, BitmapForm, Column, ContainerForm, Content, FileLayout,
+    Index, IndexedColumn, Layout,
 };
 
 fn hex(text: &str) -> Vec<u8> {
@@ -521,4 +521,101 @@ fn faults_of_two_containers() {
     let file = deletion_file(&[hex(sound)]);
     assert_eq!(read_deletions(&file, 0, 65_543, &mut [0; 8_193]), (0, 2, NO_FAULT));
     assert_eq!(read_deletions(&file, 0, 65_542, &mut [0; 8_193]), (7, 0, NO_FAULT));
+}
+
+/// Where the two entries of the small body's directory start: behind 18 bytes and the block number, and a value and an offset later.
+const TABLE: [u32; 2] = [22, 27];
+
+#[test]
+fn small_body_is_opened() {
+    let (body, mut field, mut table) = (hex(VERSION_2), [0xA5; 2], [99; 3]);
+    assert_eq!(open(&body, TINYINT, &mut field, &mut table), (0, 3, 2, NO_FAULT));
+    assert_eq!((field, table), ([0, 0xA5], [TABLE[0], TABLE[1], 99]));
+    // Too short a table, and too short a field.
+    let (mut field, mut table) = ([0xA5], [99; 2]);
+    assert_eq!(open(&body, TINYINT, &mut field, &mut table[..1]), (10, 0, 0, NO_FAULT));
+    assert_eq!(open(&body, TINYINT, &mut [], &mut table), (10, 0, 0, NO_FAULT));
+    assert_eq!(open(&hex(VERSION_1), TINYINT, &mut field, &mut table), (3, 0, 0, NO_FAULT));
+    assert_eq!(open(&[], TINYINT, &mut field, &mut table), (1, 0, 0, NO_FAULT));
+    assert_eq!(open(&[], STRING + 1, &mut field, &mut table), (11, 0, 0, NO_FAULT));
+    assert_eq!((field, table), ([0xA5], [99; 2]));
+    // 9 at row 0, where 7 is: the second value is refused once there was room.
+    let mut twice = body;
+    let offset = twice.len() - 5;
+    twice[offset] = 0xFF;
+    assert_eq!(open(&twice, TINYINT, &mut field, &mut table), (8, 0, 0, [2, 0, 0]));
+    assert_eq!((field, table), ([0], [99; 2]));
+}
+
+/// The directory has 7 and 9, each the only value of its block. The second is compared first.
+#[test]
+fn values_of_the_small_body_are_looked_up() {
+    for (literal, matched, rows, compared) in
+        [(6, 0, 0, 2), (7, 1, 0b001, 3), (8, 0, 0, 3), (9, 1, 0b010, 2), (10, 0, 0, 2), (0xFF, 0, 0, 2)]
+    {
+        for edition in EDITIONS {
+            let mut field = [0xA5; 2];
+            let found = look_up(&hex(VERSION_2), TINYINT, edition, &[literal], &TABLE, &mut field);
+            assert_eq!(found, (0, asked(3, 1, matched), compared, NO_FAULT), "{literal}");
+            assert_eq!(field, [rows, 0xA5], "{literal}");
+        }
+    }
+}
+
+/// What the lookup doesn't read may be wrong; what it reads is refused where it stands, the entry being that within its block.
+#[test]
+fn small_body_is_looked_up_without_an_audit() {
+    let body = hex(VERSION_2);
+    let looked_up = |body: &[u8], literals: &[u8], table: &[u32]| {
+        let mut field = [0xA5; 2];
+        let (answer, record, compared, fault) = look_up(body, TINYINT, FIRST_EDITION, literals, table, &mut field);
+        if answer != 0 {
+            assert_eq!((record, compared), (Record::NONE, 0));
+        }
+        (answer, field[0], fault)
+    };
+    let with = |at: usize, bytes: &[u8]| {
+        let mut body = body.clone();
+        body[at..at + bytes.len()].copy_from_slice(bytes);
+        body
+    };
+    let untouched = |answer: u8| (answer, 0xA5, NO_FAULT);
+    assert_eq!(looked_up(&body, &[7, 9], &TABLE), untouched(11));
+    assert_eq!(looked_up(&body, &[], &TABLE), untouched(11));
+    assert_eq!(looked_up(&hex(VERSION_1), &[7], &TABLE), untouched(3));
+    assert_eq!(looked_up(&body, &[7], &TABLE[..1]), untouched(10));
+    // The last entry is read first, and one behind the body is SHORT.
+    assert_eq!(looked_up(&body, &[7], &[22, 58]), untouched(1));
+    assert_eq!(looked_up(&body, &[7], &[22, u32::MAX]), untouched(1));
+    // The body offset, 26, is at most what stands behind it.
+    assert_eq!(looked_up(&with(35, &[27]), &[7], &TABLE), untouched(5));
+    assert_eq!(looked_up(&with(32, &[0xFF]), &[7], &TABLE), untouched(5));
+    // The entry number of the first block, which 9 isn't looked for in.
+    assert_eq!(looked_up(&with(36, &[0x80]), &[7], &TABLE), untouched(5));
+    assert_eq!(looked_up(&with(39, &[0]), &[7], &TABLE), untouched(5));
+    assert_eq!(looked_up(&with(39, &[0]), &[9], &TABLE), (0, 0b010, NO_FAULT));
+    // Row 3 of three, of null and of the second block's only entry.
+    assert_eq!(looked_up(&with(13, &[0xFC]), &[8], &TABLE), (7, 0, [0, 0, 0]));
+    assert_eq!(looked_up(&with(57, &[0xFC]), &[9], &TABLE), (7, 0, [1, 0, 0]));
+    assert_eq!(looked_up(&with(57, &[0xFC]), &[7], &TABLE), (0, 0b001, NO_FAULT));
+    // A bitmap where the body has no bytes.
+    assert_eq!(looked_up(&with(54, &[0, 0, 0, 0]), &[9], &TABLE), (6, 0, [1, 0, 0]));
+    // Row 2, which null has too, is no fault here.
+    assert_eq!(looked_up(&with(57, &[0xFD]), &[9], &TABLE), (0, 0b100, NO_FAULT));
+}
+
+/// An entry of TINYINT takes 9 bytes, and the entry number 4.
+#[test]
+fn blocks_are_cut_by_bytes() {
+    let groups = Column::new(TINYINT, (1..=5).map(|value| Some(vec![value])).collect()).groups();
+    for (bytes, blocks) in [(0, 5), (13, 5), (21, 5), (22, 3), (30, 3), (31, 2), (40, 2), (48, 2), (49, 1), (1_000, 1)] {
+        let layout = Layout::version(2).with_blocks_within(bytes, &groups);
+        let (mut field, mut table) = ([0], [0; 5]);
+        let found = open(&body(&groups, &layout), TINYINT, &mut field, &mut table);
+        assert_eq!(found, (0, 5, blocks, NO_FAULT), "{bytes} bytes");
+    }
+    // Strings of 2, 8 and 1 bytes: entries of 14, 20 and 13.
+    let groups = Column::strings(&[Some("aa"), Some("bbbbbbbb"), Some("c")]).groups();
+    let blocks = |bytes| Layout::version(2).with_blocks_within(bytes, &groups).blocks;
+    assert_eq!([17, 36, 37, 38, 50, 51].map(blocks), [vec![1, 1, 1], vec![1, 1, 1], vec![1, 2], vec![2, 1], vec![2, 1], vec![3]]);
 }

@@ -4,6 +4,7 @@ use reference::reader::ACCEPTED;
 use reference::record::Record;
 use reference::types;
 
+use super::lookups::{LookUpKinds, LookedUp, Stands, Unopened};
 use super::names::{NameKinds, Named};
 use super::{ASK_FILE, LOCATE};
 use crate::support::CALLS;
@@ -109,6 +110,7 @@ pub struct Kinds {
     of_ask: [u64; OF_ASK.len()],
     /// Answers of a column with null rows, by edition and question.
     with_nulls: [u64; QUESTIONS],
+    of_look_up: LookUpKinds,
     of_subtract: [u64; OF_SUBTRACT.len()],
 }
 
@@ -118,6 +120,7 @@ impl Kinds {
             of_names: Default::default(),
             of_ask: [0; OF_ASK.len()],
             with_nulls: [0; QUESTIONS],
+            of_look_up: LookUpKinds::new(),
             of_subtract: [0; OF_SUBTRACT.len()],
         }
     }
@@ -135,6 +138,20 @@ impl Kinds {
         }
     }
 
+    pub fn add_looked_up(&mut self, looked_up: &LookedUp) {
+        self.of_look_up.add(looked_up);
+    }
+
+    /// A literal looked up in an opened body of that type.
+    pub fn add_literal(&mut self, ty: u32, stands: Stands) {
+        self.of_look_up.add_literal(ty, stands);
+    }
+
+    /// What a lookup answered where the open didn't accept what it was given.
+    pub fn add_unopened(&mut self, unopened: Unopened, answer: u8) {
+        self.of_look_up.add_unopened(unopened, answer);
+    }
+
     pub fn add_subtracted(&mut self, subtracted: &Subtracted) {
         add(&mut self.of_subtract, OF_SUBTRACT.map(|(_, is)| is(subtracted)));
     }
@@ -150,6 +167,7 @@ impl Kinds {
             let (question, edition) = (i / types::EDITIONS.len(), types::EDITIONS[i % types::EDITIONS.len()]);
             all.push((format!("Ask: null rows, question {question} in edition {edition}"), count));
         }
+        all.extend(self.of_look_up.all().into_iter().map(|(kind, count)| (format!("Look up: {kind}"), count)));
         all.extend(
             OF_SUBTRACT.iter().zip(self.of_subtract).map(|((name, _), count)| (format!("Subtract record: {name}"), count)),
         );

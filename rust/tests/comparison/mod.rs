@@ -5,9 +5,11 @@
 #![allow(dead_code)]
 
 pub mod kinds;
+pub mod lookups;
 pub mod names;
 
 use kinds::{Kinds, Subtracted};
+use lookups::LookedUp;
 use names::Named;
 use poddurance::raw;
 use reference::reader::{self, Fault, ACCEPTED};
@@ -19,15 +21,28 @@ pub const LOCATE: usize = 0;
 pub const AUDIT: usize = 1;
 pub const ASK: usize = 2;
 pub const ASK_FILE: usize = 3;
-pub const READ_DELETIONS: usize = 4;
-pub const SUBTRACT: usize = 5;
-pub const SUBTRACT_RECORD: usize = 6;
+pub const OPEN: usize = 4;
+pub const LOOK_UP: usize = 5;
+pub const READ_DELETIONS: usize = 6;
+pub const SUBTRACT: usize = 7;
+pub const SUBTRACT_RECORD: usize = 8;
 
 /// What both say of a call: answer, count, the field as they leave it, and where a refusal's cause is.
 pub type Found = (u8, u64, Vec<u8>, Fault);
 
 /// What both say of a question: the same with a record for the count.
 pub type Answered = (u8, Record, Vec<u8>, Fault);
+
+/// What both say of an open: answer, row count, number of blocks, where a refusal's cause is, and field and table as they leave them.
+#[derive(Clone, Debug, PartialEq, Eq)]
+pub struct Opened {
+    pub answer: u8,
+    pub rows: u64,
+    pub blocks: u64,
+    pub fault: Fault,
+    pub field: Vec<u8>,
+    pub table: Vec<u32>,
+}
 
 /// The library's answer, its fault in the reference reader's form: entry, container, row.
 pub fn said((answer, count, fault): (u8, u64, raw::Fault)) -> (u8, u64, Fault) {
@@ -45,6 +60,21 @@ pub fn record_of(raw::Record { rows, nulls, deleted, matched }: raw::Record) -> 
 
 pub fn raw_record(Record { rows, nulls, deleted, matched }: Record) -> raw::Record {
     raw::Record { rows, nulls, deleted, matched }
+}
+
+/// The library's answer to an open, its fault in the reference reader's form.
+pub fn opened((answer, rows, blocks, fault): (u8, u64, u64, raw::Fault)) -> (u8, u64, u64, Fault) {
+    (answer, rows, blocks, [fault.entry, fault.container, fault.row])
+}
+
+/// The library's answer to a lookup, record and fault in the reference reader's form.
+pub fn looked_up((answer, record, compared, fault): (u8, raw::Record, u64, raw::Fault)) -> (u8, Record, u64, Fault) {
+    (answer, record_of(record), compared, [fault.entry, fault.container, fault.row])
+}
+
+/// The bytes of words, as a failure shows them: big-endian.
+fn bytes_of(words: &[u32]) -> Vec<u8> {
+    words.iter().flat_map(|word| word.to_be_bytes()).collect()
 }
 
 /// Makes each call of both, compares, and counts the answers.
@@ -191,6 +221,71 @@ impl Comparison {
             self.kinds.add_asked(&kinds::Asked { edition, question, record: found.1 });
         }
         (found.0, found.1, expected_field, found.2)
+    }
+
+    pub fn open(&mut self, body: &[u8], ty: u32, field: &[u8], table: &[u32]) -> Opened {
+        let (mut expected_field, mut expected_table) = (field.to_vec(), table.to_vec());
+        let expected = reader::open(body, ty, &mut expected_field, &mut expected_table);
+        let (lent_body, lent_field) = (self.first.lend(body), self.second.lend(field));
+        let lent_table = self.third.lend_words(table);
+        let found = opened(raw::open(lent_body, ty, lent_field, lent_table));
+        let same = found == expected && lent_field == expected_field && lent_table == expected_table && lent_body == body;
+        if !same {
+            let (found_field, found_table) = (lent_field.to_vec(), bytes_of(lent_table));
+            let inputs = [
+                ("body", body),
+                ("field before", field),
+                ("field after, library", &found_field),
+                ("field after, reference reader", &expected_field),
+                ("table before", &bytes_of(table)),
+                ("table after, library", &found_table),
+                ("table after, reference reader", &bytes_of(&expected_table)),
+            ];
+            self.fail("Open", &inputs, &format!("type {ty}: library {found:?}, reference reader {expected:?}"));
+        }
+        let (answer, rows, blocks, fault) = found;
+        self.tally.add(OPEN, answer);
+        Opened { answer, rows, blocks, fault, field: expected_field, table: expected_table }
+    }
+
+    /// Answer, record, field and fault, and how many values were compared. What is promised of any body and table is held against the
+    /// library's answer by itself too.
+    pub fn look_up(
+        &mut self,
+        body: &[u8],
+        ty: u32,
+        edition: u32,
+        literals: &[u8],
+        table: &[u32],
+        field: &[u8],
+    ) -> (Answered, u64) {
+        let mut expected_field = field.to_vec();
+        let expected = reader::look_up(body, ty, edition, literals, table, &mut expected_field);
+        let (lent_body, lent_literals, lent_field) = (self.first.lend(body), self.second.lend(literals), self.third.lend(field));
+        let lent_table = self.fourth.lend_words(table);
+        let found = looked_up(raw::look_up(lent_body, ty, edition, lent_literals, lent_table, lent_field));
+        let kept = lent_body == body && lent_literals == literals && lent_table == table;
+        let after = lent_field.to_vec();
+        let (answer, record, compared, fault) = found;
+        let looked_up = LookedUp { body, ty, table, before: field, after: &after, answer, record, compared, fault };
+        let broken = looked_up.broken_promise();
+        if !(found == expected && after == expected_field && kept && broken.is_none()) {
+            let inputs = [
+                ("body", body),
+                ("literals", literals),
+                ("table", &bytes_of(table)),
+                ("field before", field),
+                ("field after, library", &after),
+                ("field after, reference reader", &expected_field),
+            ];
+            let asked = format!("type {ty}, edition {edition}");
+            let broken = broken.map(|promise| format!("; {promise}")).unwrap_or_default();
+            let answers = format!("{asked}: library {found:?}, reference reader {expected:?}{broken}");
+            self.fail("Look up", &inputs, &answers);
+        }
+        self.tally.add(LOOK_UP, answer);
+        self.kinds.add_looked_up(&looked_up);
+        ((answer, record, expected_field, fault), compared)
     }
 
     pub fn read_deletions(&mut self, file: &[u8], bin: u64, rows: u64, field: &[u8]) -> Found {

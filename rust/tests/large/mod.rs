@@ -74,7 +74,7 @@ pub fn several_containers(both: &mut Comparison, random: &mut Random) {
 }
 
 /// The same bytes with the fields of bitmaps alone, so that damage leaves the dictionary as it is.
-fn of_bitmaps(traced: &Traced) -> Traced {
+pub fn of_bitmaps(traced: &Traced) -> Traced {
     let within = [
         "cookie",
         "run flags",

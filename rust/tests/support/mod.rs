@@ -50,6 +50,14 @@ impl Mapping {
         Mapping { start, usable }
     }
 
+    /// This one if it has as many usable bytes, else another in its place.
+    fn at_least(&mut self, length: usize) -> &mut Mapping {
+        if self.usable < length {
+            *self = Mapping::new(length);
+        }
+        self
+    }
+
     /// The last `length` usable bytes, which end at a guard, or the first, which begin at one.
     fn part(&mut self, length: usize, at_end: bool) -> &mut [u8] {
         assert!(length <= self.usable);
@@ -76,15 +84,18 @@ pub struct Lender {
 enum Memory {
     /// Next to a guard, at the end and at the beginning in turn; the side is that of the buffer lent last.
     Guarded { mapping: Mapping, at_end: bool },
-    /// In a heap block of exactly the length, for valgrind.
-    Heap { block: Box<[u8]> },
+    /// In a heap block of exactly the length, for valgrind; words in one of their own, which is aligned for them.
+    Heap { block: Box<[u8]>, words: Box<[u32]> },
 }
+
+/// The bytes of a word of a table.
+const WORD: usize = size_of::<u32>();
 
 impl Lender {
     /// Guarded unless the environment variable PODDURANCE_HEAP is set.
     pub fn new() -> Lender {
         if std::env::var_os("PODDURANCE_HEAP").is_some() {
-            Lender { memory: Memory::Heap { block: Box::default() } }
+            Lender { memory: Memory::Heap { block: Box::default(), words: Box::default() } }
         } else {
             Lender::guarded()
         }
@@ -105,16 +116,39 @@ impl Lender {
     /// A buffer of that length with whatever is there. A new one is 0 and, guarded, takes no memory until it is written.
     pub fn lend_anything(&mut self, length: usize) -> &mut [u8] {
         match &mut self.memory {
-            Memory::Heap { block } => {
+            Memory::Heap { block, .. } => {
                 *block = vec![0; length].into_boxed_slice();
                 block
             }
             Memory::Guarded { mapping, at_end } => {
-                if mapping.usable < length {
-                    *mapping = Mapping::new(length);
-                }
                 *at_end = !*at_end;
-                mapping.part(length, *at_end)
+                mapping.at_least(length).part(length, *at_end)
+            }
+        }
+    }
+
+    /// A table with these words.
+    pub fn lend_words(&mut self, words: &[u32]) -> &mut [u32] {
+        let table = self.lend_any_words(words.len());
+        table.copy_from_slice(words);
+        table
+    }
+
+    /// As [`Lender::lend_anything`], a table of that many words.
+    pub fn lend_any_words(&mut self, number: usize) -> &mut [u32] {
+        match &mut self.memory {
+            Memory::Heap { words, .. } => {
+                *words = vec![0; number].into_boxed_slice();
+                words
+            }
+            Memory::Guarded { mapping, at_end } => {
+                *at_end = !*at_end;
+                let length = WORD * number;
+                // SAFETY: each four bytes are a word, whatever they hold.
+                let (before, words, behind) = unsafe { mapping.at_least(length).part(length, *at_end).align_to_mut() };
+                // Guards begin and end at multiples of a word's size.
+                assert!(before.is_empty() && behind.is_empty(), "a table isn't aligned");
+                words
             }
         }
     }
@@ -128,7 +162,8 @@ impl Lender {
 }
 
 /// The names of the calls, in the order of the table.
-pub const CALLS: [&str; 7] = ["Locate", "Audit", "Ask", "Ask file", "Read deletions", "Subtract", "Subtract record"];
+pub const CALLS: [&str; 9] =
+    ["Locate", "Audit", "Ask", "Ask file", "Open", "Look up", "Read deletions", "Subtract", "Subtract record"];
 
 /// The names of the answers by their number.
 pub const ANSWERS: [&str; 15] = [

@@ -12,6 +12,9 @@ use crate::literal::{self, Form, Literal};
 /// The kind of index that is read, and the one that is looked for where none is named.
 pub const BITMAP: &str = "bitmap";
 
+/// The commands, in the order of the help.
+const COMMANDS: [&str; 7] = ["columns", "locate", "audit", "ask", "open", "lookup", "deletions"];
+
 /// What is to be done, and how it is to be said.
 #[derive(Debug, PartialEq, Eq)]
 pub struct Job {
@@ -30,6 +33,8 @@ pub enum Command {
     Locate { bytes: IndexBytes, column: String, kind: String },
     Audit { index: IndexOf },
     Ask { index: IndexOf, edition: Edition, question: Question, literals: Vec<Literal>, deletions: Option<Deletions> },
+    Open { index: IndexOf },
+    LookUp { index: IndexOf, edition: Edition, literals: Vec<Word>, deletions: Option<Deletions> },
     Deletions { deletions: Deletions, rows: u64 },
 }
 
@@ -42,8 +47,8 @@ impl Command {
             Command::Help | Command::Version => 0,
             Command::Columns { file } => is_input(file),
             Command::Locate { bytes, .. } => of_index(bytes),
-            Command::Audit { index } => of_index(&index.bytes),
-            Command::Ask { index, deletions, .. } => {
+            Command::Audit { index } | Command::Open { index } => of_index(&index.bytes),
+            Command::Ask { index, deletions, .. } | Command::LookUp { index, deletions, .. } => {
                 of_index(&index.bytes) + deletions.as_ref().map_or(0, |deletions| is_input(&deletions.file))
             }
             Command::Deletions { deletions, .. } => is_input(&deletions.file),
@@ -86,6 +91,13 @@ pub struct IndexOf {
     pub data_rows: Option<u64>,
 }
 
+/// A literal to look up, and the word by which the user knows it.
+#[derive(Debug, PartialEq, Eq)]
+pub struct Word {
+    pub text: String,
+    pub literal: Literal,
+}
+
 /// A bin of a deletion file.
 #[derive(Debug, PartialEq, Eq)]
 pub struct Deletions {
@@ -109,7 +121,7 @@ pub fn parse(words: impl IntoIterator<Item = OsString>) -> Result<Job, String> {
 }
 
 fn command(mut places: Places, options: Options) -> Result<Command, String> {
-    let name = places.next("a command: columns, locate, audit, ask or deletions")?;
+    let name = places.next(&format!("a command: {}", in_words(&COMMANDS, "or")))?;
     let name = name.to_string_lossy().into_owned();
     options.fit(&name)?;
     let Options { edition, millis, micros, stored, embedded, deletions, bin, row_count, .. } = options;
@@ -131,16 +143,20 @@ fn command(mut places: Places, options: Options) -> Result<Command, String> {
             let form = form(index.ty, millis, micros, stored)?;
             let mut literals = Vec::new();
             while !places.is_empty() {
-                literals.push(literal::parse(&places.text("LITERAL")?, index.ty, form)?);
+                literals.push(places.literal(index.ty, form)?.literal);
             }
-            let deletions = match (deletions, bin) {
-                (None, None) => None,
-                (Some(file), Some(bin)) => Some(Deletions { file: file.into(), bin: number(&bin, "--bin")? }),
-                // A bin is of one data file, and the wrong one would take away the wrong rows, so none is assumed.
-                (Some(_), None) => return Err("--deletions needs --bin N, the number of the data file's bin".to_string()),
-                (None, Some(_)) => return Err("--bin goes with --deletions FILE".to_string()),
-            };
-            Command::Ask { index, edition, question, literals, deletions }
+            Command::Ask { index, edition, question, literals, deletions: deletions_of(deletions, bin)? }
+        }
+        "open" => Command::Open { index: places.index(embedded, data_rows)? },
+        "lookup" => {
+            let index = places.index(embedded, data_rows)?;
+            let edition = edition_of(Question::Equal, edition)?;
+            let form = form(index.ty, millis, micros, stored)?;
+            let mut literals = vec![places.literal(index.ty, form)?];
+            while !places.is_empty() {
+                literals.push(places.literal(index.ty, form)?);
+            }
+            Command::LookUp { index, edition, literals, deletions: deletions_of(deletions, bin)? }
         }
         "deletions" => {
             let file = places.source()?;
@@ -149,10 +165,21 @@ fn command(mut places: Places, options: Options) -> Result<Command, String> {
             Command::Deletions { deletions: Deletions { file, bin }, rows }
         }
         "help" => return Ok(Command::Help),
-        other => return Err(format!("{other:?} is no command: columns, locate, audit, ask and deletions are")),
+        other => return Err(format!("{other:?} is no command: {} are", in_words(&COMMANDS, "and"))),
     };
     places.end()?;
     Ok(command)
+}
+
+/// The bin whose rows are taken away, if there is one.
+fn deletions_of(file: Option<OsString>, bin: Option<OsString>) -> Result<Option<Deletions>, String> {
+    match (file, bin) {
+        (None, None) => Ok(None),
+        (Some(file), Some(bin)) => Ok(Some(Deletions { file: file.into(), bin: number(&bin, "--bin")? })),
+        // A bin is of one data file, and the wrong one would take away the wrong rows, so none is assumed.
+        (Some(_), None) => Err("--deletions needs --bin N, the number of the data file's bin".to_string()),
+        (None, Some(_)) => Err("--bin goes with --deletions FILE".to_string()),
+    }
 }
 
 /// The edition by which a question is asked.
@@ -209,21 +236,20 @@ struct Options {
 impl Options {
     /// Whether each option that is given goes with the command; an unknown command is complained of elsewhere.
     fn fit(&self, command: &str) -> Result<(), String> {
-        let ask: &[&str] = &["ask"];
+        let questions: &[&str] = &["ask", "lookup"];
         for (given, option, commands) in [
-            (self.rows, "--rows", &["ask", "deletions"][..]),
-            (self.embedded.is_some(), "--embedded", &["locate", "audit", "ask"]),
-            (self.row_count.is_some(), "--row-count", &["audit", "ask"]),
-            (self.edition.is_some(), "--edition", ask),
-            (self.millis, "--millis", ask),
-            (self.micros, "--micros", ask),
-            (self.stored, "--stored", ask),
-            (self.deletions.is_some(), "--deletions", ask),
-            (self.bin.is_some(), "--bin", ask),
+            (self.rows, "--rows", &["ask", "lookup", "deletions"][..]),
+            (self.embedded.is_some(), "--embedded", &["locate", "audit", "ask", "open", "lookup"]),
+            (self.row_count.is_some(), "--row-count", &["audit", "ask", "open", "lookup"]),
+            (self.edition.is_some(), "--edition", questions),
+            (self.millis, "--millis", questions),
+            (self.micros, "--micros", questions),
+            (self.stored, "--stored", questions),
+            (self.deletions.is_some(), "--deletions", questions),
+            (self.bin.is_some(), "--bin", questions),
         ] {
-            let known = ["columns", "locate", "audit", "ask", "deletions"].contains(&command);
-            if given && known && !commands.contains(&command) {
-                return Err(format!("{option} goes with {} alone", in_words(commands)));
+            if given && COMMANDS.contains(&command) && !commands.contains(&command) {
+                return Err(format!("{option} goes with {} alone", in_words(commands, "and")));
             }
         }
         Ok(())
@@ -231,9 +257,9 @@ impl Options {
 }
 
 /// As `locate, audit and ask`.
-fn in_words(names: &[&str]) -> String {
+fn in_words(names: &[&str], before_last: &str) -> String {
     match names {
-        [names @ .., last] if !names.is_empty() => format!("{} and {last}", names.join(", ")),
+        [names @ .., last] if !names.is_empty() => format!("{} {before_last} {last}", names.join(", ")),
         _ => names.concat(),
     }
 }
@@ -331,6 +357,12 @@ impl Places {
         self.next(what)?.into_string().map_err(|word| format!("{what} {word:?} is not UTF-8"))
     }
 
+    fn literal(&mut self, ty: Type, form: Form) -> Result<Word, String> {
+        let text = self.text("LITERAL")?;
+        let literal = literal::parse(&text, ty, form)?;
+        Ok(Word { text, literal })
+    }
+
     fn source(&mut self) -> Result<Source, String> {
         Ok(self.next("FILE")?.into())
     }
@@ -412,6 +444,9 @@ mod tests {
         let deletions = Deletions { file: file("f"), bin: 2 };
         assert_eq!(command(&["deletions", "f", "2", "60"]), Command::Deletions { deletions, rows: 60 });
         assert_eq!(command(&["ask", "f", "s", "TINYINT", "IN"]), ask(vec![], None));
+        assert_eq!(command(&["open", "f", "s", "int"]), Command::Open { index: index(Type::Int, None) });
+        let of_24 = Command::Open { index: index(Type::Int, Some(24)) };
+        assert_eq!(command(&["open", "f", "s", "int", "--row-count=24"]), of_24);
         for line in [
             &["--help"][..],
             &["-h"],
@@ -458,6 +493,36 @@ mod tests {
         assert_eq!(parse(line), Err("--edition \"\u{FFFD}\" is none of 1, 2".to_string()));
     }
 
+    /// Each literal is kept as it was written, beside what it stands for.
+    #[test]
+    fn literals_to_look_up() {
+        let word = |text: &str, literal| Word { text: text.to_string(), literal };
+        let look_up = |ty, edition, literals, deletions| Command::LookUp { index: index(ty, None), edition, literals, deletions };
+        let three = || vec![word("-3", Literal::Number(-3)), word("+7", Literal::Number(7)), word("7", Literal::Number(7))];
+        assert_eq!(
+            command(&["lookup", "f", "s", "TINYINT", "-3", "+7", "7"]),
+            look_up(Type::TinyInt, Edition::Second, three(), None)
+        );
+        for edition in Edition::ALL {
+            let number = edition.to_string();
+            let line = ["lookup", "f", "s", "TINYINT", "-3", "--edition", &number, "+7", "7", "--deletions", "d", "--bin=3"];
+            let deletions = Some(Deletions { file: file("d"), bin: 3 });
+            assert_eq!(command(&line), look_up(Type::TinyInt, edition, three(), deletions));
+        }
+        // A word that names a question is a literal here.
+        let strings = ["equal", "", "--rows"].map(|text| word(text, Literal::Text(text.to_string())));
+        let line = ["lookup", "f", "s", "string", "equal", "", "--", "--rows"];
+        assert_eq!(command(&line), look_up(Type::String, Edition::Second, strings.into(), None));
+        for (form, number) in [("--millis", 1_000), ("--micros", 1_000_000)] {
+            let second = vec![word("1970-01-01T00:00:01", Literal::Number(number))];
+            let line = ["lookup", "f", "s", "timestamp", "1970-01-01T00:00:01", form];
+            assert_eq!(command(&line), look_up(Type::Timestamp, Edition::Second, second, None));
+        }
+        let day = vec![word("19723", Literal::Number(19_723))];
+        let line = ["lookup", "f", "s", "date", "19723", "--stored"];
+        assert_eq!(command(&line), look_up(Type::Date, Edition::Second, day, None));
+    }
+
     #[test]
     fn negative_literals_are_no_options() {
         let literals = vec![Literal::Number(-3), Literal::Number(7)];
@@ -496,6 +561,10 @@ mod tests {
         assert_eq!(command(&["audit", "f", "s", "int", "--embedded", "e"]), Command::Audit { index });
         let Command::Ask { index, .. } = command(&["ask", "f", "s", "int", "in", "--embedded", "e"]) else { panic!() };
         assert_eq!(index.bytes, with(file("e")));
+        let Command::Open { index } = command(&["open", "f", "s", "int", "--embedded", "e"]) else { panic!() };
+        assert_eq!(index.bytes, with(file("e")));
+        let Command::LookUp { index, .. } = command(&["lookup", "f", "s", "int", "7", "--embedded", "e"]) else { panic!() };
+        assert_eq!(index.bytes, with(file("e")));
     }
 
     #[test]
@@ -509,6 +578,8 @@ mod tests {
             &["audit", "-", "s", "int", "--embedded", "-"],
             &["ask", "-", "s", "int", "in", "--deletions", "-", "--bin", "0"],
             &["ask", "f", "s", "int", "in", "--deletions", "-", "--bin", "0", "--embedded=-"],
+            &["open", "-", "s", "int", "--embedded", "-"],
+            &["lookup", "-", "s", "int", "7", "--deletions", "-", "--bin", "0"],
         ] {
             assert_eq!(read(line), Err("standard input can be read once, and - is there twice".to_string()), "{line:?}");
         }
@@ -539,40 +610,67 @@ mod tests {
     #[test]
     fn wrong_usage() {
         for (line, message) in [
-            (&[][..], "a command: columns, locate, audit, ask or deletions is missing"),
-            (&["find"], "\"find\" is no command: columns, locate, audit, ask and deletions are"),
-            (&["find", "--bin", "0"], "\"find\" is no command: columns, locate, audit, ask and deletions are"),
+            (&[][..], "a command: columns, locate, audit, ask, open, lookup or deletions is missing"),
+            (&["find"], "\"find\" is no command: columns, locate, audit, ask, open, lookup and deletions are"),
+            (&["find", "--bin", "0"], "\"find\" is no command: columns, locate, audit, ask, open, lookup and deletions are"),
             (&["columns"], "FILE is missing"),
             (&["columns", "f", "s"], "\"s\" is one word too many"),
-            (&["columns", "f", "--rows"], "--rows goes with ask and deletions alone"),
-            (&["columns", "f", "--embedded", "e"], "--embedded goes with locate, audit and ask alone"),
-            (&["deletions", "f", "0", "6", "--embedded", "e"], "--embedded goes with locate, audit and ask alone"),
+            (&["columns", "f", "--rows"], "--rows goes with ask, lookup and deletions alone"),
+            (&["columns", "f", "--embedded", "e"], "--embedded goes with locate, audit, ask, open and lookup alone"),
+            (&["deletions", "f", "0", "6", "--embedded", "e"], "--embedded goes with locate, audit, ask, open and lookup alone"),
             (&["locate", "f", "s", "--embedded"], "--embedded needs FILE"),
             (&["locate"], "FILE is missing"),
             (&["locate", "f"], "COLUMN is missing"),
             (&["locate", "f", "s", "k", "x"], "\"x\" is one word too many"),
-            (&["locate", "f", "s", "--rows"], "--rows goes with ask and deletions alone"),
+            (&["locate", "f", "s", "--rows"], "--rows goes with ask, lookup and deletions alone"),
             (&["audit", "f", "s"], "TYPE is missing"),
             (&["audit", "f", "s", "int", "x"], "\"x\" is one word too many"),
-            (&["audit", "f", "s", "int", "--rows"], "--rows goes with ask and deletions alone"),
-            (&["audit", "f", "s", "int", "--micros"], "--micros goes with ask alone"),
-            (&["audit", "f", "s", "int", "--stored"], "--stored goes with ask alone"),
-            (&["columns", "f", "--edition", "1"], "--edition goes with ask alone"),
-            (&["locate", "f", "s", "--edition", "1"], "--edition goes with ask alone"),
-            (&["audit", "f", "s", "int", "--edition", "2"], "--edition goes with ask alone"),
-            (&["deletions", "f", "0", "6", "--edition", "3"], "--edition goes with ask alone"),
+            (&["audit", "f", "s", "int", "--rows"], "--rows goes with ask, lookup and deletions alone"),
+            (&["audit", "f", "s", "int", "--micros"], "--micros goes with ask and lookup alone"),
+            (&["audit", "f", "s", "int", "--stored"], "--stored goes with ask and lookup alone"),
+            (&["columns", "f", "--edition", "1"], "--edition goes with ask and lookup alone"),
+            (&["locate", "f", "s", "--edition", "1"], "--edition goes with ask and lookup alone"),
+            (&["audit", "f", "s", "int", "--edition", "2"], "--edition goes with ask and lookup alone"),
+            (&["deletions", "f", "0", "6", "--edition", "3"], "--edition goes with ask and lookup alone"),
             (&["audit", "f", "s", "int", "--row-count"], "--row-count needs ROWS"),
             (
                 &["audit", "f", "s", "int", "--row-count", "x"],
                 "--row-count \"x\" is no whole number from 0 to 18446744073709551615",
             ),
-            (&["locate", "f", "s", "--row-count", "6"], "--row-count goes with audit and ask alone"),
-            (&["deletions", "f", "0", "6", "--row-count", "6"], "--row-count goes with audit and ask alone"),
+            (&["locate", "f", "s", "--row-count", "6"], "--row-count goes with audit, ask, open and lookup alone"),
+            (&["deletions", "f", "0", "6", "--row-count", "6"], "--row-count goes with audit, ask, open and lookup alone"),
             (
                 &["audit", "f", "s", "int", "--of", "6"],
                 "\"--of\" is no option; a literal that begins with -- goes behind the word --",
             ),
             (&["audit", "--help=1"], "--help takes no value"),
+            (&["open", "f", "s"], "TYPE is missing"),
+            (&["open", "f", "s", "int", "7"], "\"7\" is one word too many"),
+            (&["open", "f", "s", "int", "--rows"], "--rows goes with ask, lookup and deletions alone"),
+            (&["open", "f", "s", "int", "--edition", "2"], "--edition goes with ask and lookup alone"),
+            (&["open", "f", "s", "int", "--deletions", "d"], "--deletions goes with ask and lookup alone"),
+            (&["open", "f", "s", "date", "--stored"], "--stored goes with ask and lookup alone"),
+            (&["lookup", "f", "s"], "TYPE is missing"),
+            (&["lookup", "f", "s", "int"], "LITERAL is missing"),
+            (&["lookup", "f", "s", "int", "--rows"], "LITERAL is missing"),
+            (
+                &["lookup", "f", "s", "int", "7", "equal"],
+                "\"equal\" is no INT: it takes whole numbers from -2147483648 to 2147483647",
+            ),
+            (&["lookup", "f", "s", "int", "7", "--edition", "3"], "--edition \"3\" is none of 1, 2"),
+            (
+                &["lookup", "f", "s", "int", "7", "--deletions", "d"],
+                "--deletions needs --bin N, the number of the data file's bin",
+            ),
+            (&["lookup", "f", "s", "int", "7", "--bin", "0"], "--bin goes with --deletions FILE"),
+            (
+                &["lookup", "f", "s", "int", "7", "--stored"],
+                "--stored goes with DATE, TIME and the TIMESTAMP types, not with INT",
+            ),
+            (
+                &["ask", "f", "s", "int", "equal", "7", "--no-audit"],
+                "\"--no-audit\" is no option; a literal that begins with -- goes behind the word --",
+            ),
             (&["ask", "f", "s", "int"], "QUESTION is missing"),
             (&["ask", "f", "s", "int", "equal", "x"], "\"x\" is no INT: it takes whole numbers from -2147483648 to 2147483647"),
             (&["ask", "f", "s", "int", "equal", "7", "--micros"], "--micros goes with the TIMESTAMP types, not with INT"),
@@ -592,7 +690,7 @@ mod tests {
             (&["deletions", "f", "-1", "6"], "BIN \"-1\" is no whole number from 0 to 18446744073709551615"),
             (&["deletions", "f", "0", "+6"], "ROWS \"+6\" is no whole number from 0 to 18446744073709551615"),
             (&["deletions", "f", "0"], "ROWS is missing"),
-            (&["deletions", "f", "0", "6", "--bin", "1"], "--bin goes with ask alone"),
+            (&["deletions", "f", "0", "6", "--bin", "1"], "--bin goes with ask and lookup alone"),
         ] {
             assert_eq!(read(line), Err(message.to_string()), "{line:?}");
         }

@@ -17,12 +17,12 @@ use std::io::{self, BufWriter, Read, Write};
 use std::process::ExitCode;
 
 use poddurance::raw::{self, Fault};
-use poddurance::{ask, ask_file, audit, locate, read_deletions, subtract_record};
-use poddurance::{Edition, Error, Literals, Question, Record, Refusal, RowField, LIMIT};
+use poddurance::{ask, ask_file, audit, locate, open, read_deletions, subtract_record};
+use poddurance::{Deleted, Edition, Error, Literals, LookedUp, OpenedBody, Question, Record, Refusal, RowField, LIMIT};
 
-use args::{Command, Deletions, IndexBytes, IndexOf, Job, Source, BITMAP};
+use args::{Command, Deletions, IndexBytes, IndexOf, Job, Source, Word, BITMAP};
 use literal::Literal;
-use output::{Outcome, Part};
+use output::{Lookup, Outcome, Part};
 
 /// Wrong usage, a file that can't be read, or an answer that can't be written.
 const FAILED: u8 = 2;
@@ -50,7 +50,7 @@ fn run(job: Job) -> Result<u8, String> {
         Command::Help => out.write_all(include_bytes!("help.txt")).map(|()| 0),
         Command::Version => writeln!(out, "poddurance {}", env!("CARGO_PKG_VERSION")).map(|()| 0),
         command => {
-            let outcome = carry_out(command)?;
+            let outcome = carry_out(command, job.rows)?;
             let said = if job.json { outcome.write_json(job.rows, &mut out) } else { outcome.write_text(job.rows, &mut out) };
             said.map(|()| outcome.exit_status())
         }
@@ -59,7 +59,8 @@ fn run(job: Job) -> Result<u8, String> {
     written.and_then(|status| out.flush().map(|()| status)).map_err(|error| format!("can't write the answer: {error}"))
 }
 
-fn carry_out(command: Command) -> Result<Outcome, String> {
+/// `list` says whether the rows will be listed.
+fn carry_out(command: Command, list: bool) -> Result<Outcome, String> {
     Ok(match command {
         Command::Help | Command::Version => unreachable!("these have been answered"),
         Command::Columns { file } => listed(&read(&file)?),
@@ -67,10 +68,19 @@ fn carry_out(command: Command) -> Result<Outcome, String> {
         Command::Audit { index } => audited(&Buffers::read(&index.bytes)?, &index),
         Command::Ask { index, edition, question, literals, deletions } => {
             match (asked(&Buffers::read(&index.bytes)?, &index, edition, question, &literals), deletions) {
-                (Outcome::Answered { record, field, .. }, Some(deletions)) => without(field, record, &deletions)?,
+                (Outcome::Answered { record, field, .. }, Some(deletions)) => left(field, record, &Bin::read(&deletions)?),
                 (outcome, _) => outcome,
             }
         }
+        Command::Open { index } => opened(&Buffers::read(&index.bytes)?, &index),
+        Command::LookUp { index, edition, literals, deletions } => match open_index(&Buffers::read(&index.bytes)?, &index) {
+            Ok((opened, field)) => {
+                let bin = deletions.as_ref().map(Bin::read).transpose()?;
+                let looked_up = looked_up(&opened, field, edition, &literals, bin.as_ref(), list);
+                looked_up.map_or_else(|outcome| outcome, |lookups| Outcome::LookedUp { lookups })
+            }
+            Err(outcome) => outcome,
+        },
         Command::Deletions { deletions, rows } => {
             let bytes = read(&deletions.file)?;
             let deleted = match RowField::for_rows(rows) {
@@ -140,12 +150,20 @@ fn not_located(refusal: Refusal, column: &str) -> Outcome {
     Outcome::Refused { refusal, part }
 }
 
+/// The body of the bitmap index on the column, or the outcome where there is none.
+fn body_of<'a>(buffers: &'a Buffers, index: &IndexOf) -> Result<&'a [u8], Outcome> {
+    match buffers.locate(&index.column) {
+        Ok(Some(body)) => Ok(body),
+        Ok(None) => Err(absent(index)),
+        Err(refusal) => Err(not_located(refusal, &index.column)),
+    }
+}
+
 /// Whether the bitmap index on the column gives each row one place.
 fn audited(buffers: &Buffers, index: &IndexOf) -> Outcome {
-    let body = match buffers.locate(&index.column) {
-        Ok(Some(body)) => body,
-        Ok(None) => return absent(index),
-        Err(refusal) => return not_located(refusal, &index.column),
+    let body = match body_of(buffers, index) {
+        Ok(body) => body,
+        Err(outcome) => return outcome,
     };
     match audit(body, index.ty, RowField::for_body(body)) {
         Ok(audited) => differing(audited.rows(), index.data_rows).unwrap_or(Outcome::Accepted { rows: audited.rows() }),
@@ -185,6 +203,57 @@ fn of_literals(refusal: Refusal, edition: Edition, question: Question, literals:
     refusal != Refusal::Short && empty == Err(Error::Refused(refusal))
 }
 
+/// The bitmap index on the column, opened, with a field for its rows; or the outcome where it can't be.
+fn open_index<'a>(buffers: &'a Buffers, index: &IndexOf) -> Result<(OpenedBody<'a>, RowField), Outcome> {
+    let body = body_of(buffers, index)?;
+    let (opened, field) = open(body, index.ty, RowField::for_body(body))
+        .map_err(|error| Outcome::Refused { refusal: refusal_of(error), part: Part::IndexToOpen })?;
+    match differing(opened.rows(), index.data_rows) {
+        Some(outcome) => Err(outcome),
+        None => Ok((opened, field)),
+    }
+}
+
+/// What opening the bitmap index on the column comes to.
+fn opened(buffers: &Buffers, index: &IndexOf) -> Outcome {
+    match open_index(buffers, index) {
+        Ok((opened, _)) => {
+            Outcome::Opened { rows: opened.rows(), blocks: opened.blocks(), table_bytes: size_of_val(opened.table()) }
+        }
+        Err(outcome) => outcome,
+    }
+}
+
+/// Each literal looked up in the opened index. Either all of them are answered or none is: a line printed before a refusal could pass for the
+/// whole.
+fn looked_up(
+    opened: &OpenedBody,
+    mut field: RowField,
+    edition: Edition,
+    literals: &[Word],
+    bin: Option<&Bin>,
+    list: bool,
+) -> Result<Vec<Lookup>, Outcome> {
+    // The index was accepted, and so a refusal is of the literal or of the deletions.
+    let of_literal = |error| Outcome::Refused { refusal: refusal_of(error), part: Part::Literals };
+    let deleted = bin.map(|bin| bin.rows(opened.rows())).transpose().map_err(beside_index)?;
+    let mut lookups = Vec::new();
+    for Word { text, literal } in literals {
+        let literal = Literals::of(opened.ty(), [literal]).map_err(|refusal| of_literal(refusal.into()))?;
+        let LookedUp { answer, compared } = opened.look_up(edition, &literal, field).map_err(of_literal)?;
+        let (mut rows, mut record) = answer.into_parts();
+        let mut removed = None;
+        if let Some(deleted) = &deleted {
+            let subtracted = subtract_record(&mut rows, deleted.field(), record).map_err(beside_index)?;
+            (record, removed) = (subtracted.record, Some(subtracted.removed));
+        }
+        // Only rows that will be listed are kept: the field goes on to the next literal.
+        lookups.push(Lookup { literal: text.clone(), record, removed, compared, rows: list.then(|| rows.clone()) });
+        field = rows;
+    }
+    Ok(lookups)
+}
+
 fn absent(index: &IndexOf) -> Outcome {
     Outcome::Absent { column: index.column.clone(), kind: BITMAP.to_string() }
 }
@@ -196,22 +265,40 @@ fn differing(index_rows: u64, data_rows: Option<u64>) -> Option<Outcome> {
     Some(Outcome::RowsDiffer { index_rows, data_rows })
 }
 
-/// The rows that are left when those of the bin are taken away. The deletion file is read where nothing is left to take away too:
-/// a refused one is never an answer.
-fn without(mut field: RowField, record: Record, deletions: &Deletions) -> Result<Outcome, String> {
-    let bytes = read(&deletions.file)?;
-    let subtracted = RowField::for_rows(record.rows())
-        .and_then(|room| read_deletions(&bytes, deletions.bin, room))
-        .map_err(Error::from)
-        .and_then(|deleted| subtract_record(&mut field, deleted.field(), record));
-    Ok(match subtracted {
+/// A deletion file beside an index, and which of its bins is the data file's.
+struct Bin {
+    file: Vec<u8>,
+    number: u64,
+}
+
+impl Bin {
+    fn read(deletions: &Deletions) -> Result<Bin, String> {
+        Ok(Bin { file: read(&deletions.file)?, number: deletions.bin })
+    }
+
+    /// The rows that it lists of a data file with so many. It is read where no row is chosen too: a refused one is never an answer.
+    fn rows(&self, rows: u64) -> Result<Deleted, Error> {
+        Ok(read_deletions(&self.file, self.number, RowField::for_rows(rows)?)?)
+    }
+}
+
+/// The rows that are left of an answer when those of the bin are taken away.
+fn left(mut field: RowField, record: Record, bin: &Bin) -> Outcome {
+    match bin.rows(record.rows()).and_then(|deleted| subtract_record(&mut field, deleted.field(), record)) {
         Ok(subtracted) => Outcome::Answered { record: subtracted.record, removed: Some(subtracted.removed), field },
-        Err(error) => Outcome::Refused { refusal: refusal_of(error), part: Part::DeletionsBesideIndex },
-    })
+        Err(error) => beside_index(error),
+    }
+}
+
+/// The deletions are refused, and the index was accepted.
+fn beside_index(error: Error) -> Outcome {
+    Outcome::Refused { refusal: refusal_of(error), part: Part::DeletionsBesideIndex }
 }
 
 fn refusal_of(error: Error) -> Refusal {
-    error.refusal().unwrap_or_else(|| unreachable!("each field was made for the row count it is used with: {error}"))
+    error.refusal().unwrap_or_else(|| {
+        unreachable!("each field is for the row count, and each literal of the type, it is used with: {error}")
+    })
 }
 
 fn refusal_from(answer: u8, fault: Fault) -> Refusal {

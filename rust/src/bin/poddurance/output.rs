@@ -25,12 +25,29 @@ pub enum Outcome {
     /// Ask answered, and Subtract removed so many rows if there was a deletion file. Without one the record's deleted rows are 0 and say
     /// nothing of the data file's.
     Answered { record: Record, removed: Option<u64>, field: RowField },
+    /// Open accepted: how many rows and blocks, and the bytes of the table that it filled.
+    Opened { rows: u64, blocks: u64, table_bytes: usize },
+    /// Every literal was looked up in an index that was opened once.
+    LookedUp { lookups: Vec<Lookup> },
     /// The deletions were read: how many rows, of how many.
     Deleted { count: u64, rows: u64, field: RowField },
     /// The library refused something.
     Refused { refusal: Refusal, part: Part },
     /// The index is accepted, but it is not of the data file's row count.
     RowsDiffer { index_rows: u64, data_rows: u64 },
+}
+
+/// What one literal of a lookup was answered. Record and removed rows are as in an answer to a question.
+#[derive(Debug)]
+pub struct Lookup {
+    /// As the user wrote it.
+    pub literal: String,
+    pub record: Record,
+    pub removed: Option<u64>,
+    /// How many values it was compared with.
+    pub compared: u64,
+    /// Where they are to be listed.
+    pub rows: Option<RowField>,
 }
 
 /// What a refusal is about.
@@ -43,19 +60,25 @@ pub enum Part {
     /// The literals, whatever the file has.
     Literals,
     Index,
+    /// The index that was to be opened. VERSION is then of its body, since its head was read before.
+    IndexToOpen,
     Deletions,
     /// The deletion file beside an index that was accepted; the line says so, since the user named two files.
     DeletionsBesideIndex,
 }
 
 impl Part {
-    /// What a refusal says of it: the library's words, but for LITERAL, which has several causes, the one that it was.
+    /// What a refusal says of it: the library's words, but for LITERAL and VERSION, which have several causes, the one that it was.
     fn meaning(self, refusal: Refusal) -> &'static str {
         match self {
             Part::Column => "the column's name takes more than 65535 bytes in modified UTF-8",
             Part::Kind => "the kind's name takes more than 65535 bytes in modified UTF-8",
             Part::Literals if refusal == Refusal::Literal => "literals don't fit question and type",
-            Part::Literals | Part::Index | Part::Deletions | Part::DeletionsBesideIndex => refusal.meaning(),
+            // A person who has version 1 is told what reads it.
+            Part::IndexToOpen if refusal == Refusal::Version => {
+                "only an index of version 2 can be opened; ask takes version 1 too"
+            }
+            Part::Literals | Part::Index | Part::IndexToOpen | Part::Deletions | Part::DeletionsBesideIndex => refusal.meaning(),
         }
     }
 }
@@ -63,15 +86,18 @@ impl Part {
 impl Outcome {
     pub fn exit_status(&self) -> u8 {
         match self {
-            Outcome::Listed { .. } | Outcome::Found { .. } | Outcome::Accepted { .. } | Outcome::Deleted { .. } => 0,
+            Outcome::Listed { .. } | Outcome::Found { .. } | Outcome::Accepted { .. } => 0,
+            Outcome::Opened { .. } | Outcome::Deleted { .. } => 0,
             Outcome::Answered { record, .. } => u8::from(record.is_skip()),
+            // The data file needn't be read where no literal has a row in it.
+            Outcome::LookedUp { lookups } => u8::from(lookups.iter().all(|lookup| lookup.record.is_skip())),
             Outcome::Refused { .. } | Outcome::RowsDiffer { .. } | Outcome::NotListed { .. } => 3,
             // Not that of skip: with skip no row is to be read, and without an index all are.
             Outcome::Absent { .. } => 4,
         }
     }
 
-    /// One line, and with `list` a second one that lists the rows; of `columns` a line for each index.
+    /// One line, and with `list` a second one that lists the rows; of `columns` a line for each index, of `lookup` one or two for each literal.
     pub fn write_text(&self, list: bool, out: &mut impl Write) -> io::Result<()> {
         match self {
             Outcome::Listed { columns } => list_columns(columns, out),
@@ -83,33 +109,39 @@ impl Outcome {
             Outcome::Absent { column, kind } => {
                 writeln!(out, "absent: no {} index on column {column:?}", kind.escape_debug())
             }
-            Outcome::Accepted { rows } => writeln!(out, "accepted: {}, each in exactly one place", counted_rows(*rows)),
+            Outcome::Accepted { rows } => writeln!(out, "accepted: {}, each in exactly one place", counted(*rows, "row")),
             Outcome::Answered { record, removed, field } => {
-                let deleted = match removed {
-                    Some(_) => format!("{} deleted", with_commas(record.deleted())),
-                    None => "deletions not applied".to_string(),
-                };
-                writeln!(out, "{}: {record} ({deleted}, {} null)", answer(record), with_commas(record.nulls()))?;
+                writeln!(out, "{}: {}", answer(record), claim(record, *removed))?;
                 list_rows(field, list, out)
+            }
+            Outcome::Opened { rows, blocks, table_bytes } => {
+                let (rows, blocks) = (counted(*rows, "row"), counted(*blocks, "block"));
+                writeln!(out, "opened: {rows}, each in exactly one place; {blocks}, table of {table_bytes} bytes")
+            }
+            Outcome::LookedUp { lookups } => {
+                for Lookup { literal, record, removed, compared, rows } in lookups {
+                    let (claim, values) = (claim(record, *removed), counted(*compared, "value"));
+                    writeln!(out, "{} {literal:?}: {claim}, compared with {values}", answer(record))?;
+                    if let Some(rows) = rows {
+                        list_rows(rows, list, out)?;
+                    }
+                }
+                Ok(())
             }
             Outcome::Deleted { count, rows, field } => {
-                writeln!(out, "deleted: {} of {}", with_commas(*count), counted_rows(*rows))?;
+                writeln!(out, "deleted: {} of {}", with_commas(*count), counted(*rows, "row"))?;
                 list_rows(field, list, out)
             }
-            Outcome::Refused { refusal, part: part @ (Part::Column | Part::Kind | Part::Literals) } => {
-                writeln!(out, "refused: {} ({}), {}", refusal.name(), refusal.number(), part.meaning(*refusal))
-            }
-            Outcome::Refused { refusal, part: Part::Index } => writeln!(out, "refused: {refusal}"),
             Outcome::Refused { refusal, part } => {
-                write!(out, "refused: {}", refusal.title())?;
+                write!(out, "refused: {} ({}), {}", refusal.name(), refusal.number(), part.meaning(*refusal))?;
                 if *part == Part::DeletionsBesideIndex {
                     write!(out, ", in the deletion file")?;
                 }
+                let in_bin = matches!(part, Part::Deletions | Part::DeletionsBesideIndex);
                 // A bin has no entries, and the 0 in their place would be taken for null's.
-                match refusal.container() {
-                    Some(container) => writeln!(out, ": container {container}"),
-                    None => writeln!(out),
-                }
+                let carried = refusal.carried().filter(|(name, _)| !in_bin || *name != "entry");
+                let carried: Vec<String> = carried.map(|(name, number)| format!("{name} {number}")).collect();
+                writeln!(out, "{}{}", if carried.is_empty() { "" } else { ": " }, carried.join(", "))
             }
             Outcome::RowsDiffer { index_rows, data_rows } => {
                 writeln!(out, "refused: {}", difference(*index_rows, *data_rows, with_commas))
@@ -132,14 +164,25 @@ impl Outcome {
             }
             Outcome::Accepted { rows } => write!(out, r#"{{"answer":"accepted","rows":{rows}"#)?,
             Outcome::Answered { record, removed, field } => {
-                let (answer, rows, nulls, matched) = (answer(record), record.rows(), record.nulls(), record.matched());
-                let (deleted, removed) = match removed {
-                    Some(removed) => (record.deleted().to_string(), removed.to_string()),
-                    None => ("null".to_string(), "null".to_string()),
-                };
-                write!(out, r#"{{"answer":"{answer}","rows":{rows},"nulls":{nulls},"deleted":{deleted}"#)?;
-                write!(out, r#","matched":{matched},"removed":{removed}"#)?;
+                write!(out, "{{{}", json_answer(record, *removed))?;
                 json_rows(field, list, out)?;
+            }
+            Outcome::Opened { rows, blocks, table_bytes } => {
+                write!(out, r#"{{"answer":"opened","rows":{rows},"blocks":{blocks},"table_bytes":{table_bytes}"#)?;
+            }
+            Outcome::LookedUp { lookups } => {
+                write!(out, r#"{{"answer":"looked-up","lookups":["#)?;
+                let mut between = "";
+                for Lookup { literal, record, removed, compared, rows } in lookups {
+                    let (literal, answer) = (quoted(literal), json_answer(record, *removed));
+                    write!(out, r#"{between}{{"literal":{literal},{answer},"compared":{compared}"#)?;
+                    if let Some(rows) = rows {
+                        json_rows(rows, list, out)?;
+                    }
+                    write!(out, "}}")?;
+                    between = ",";
+                }
+                write!(out, "]")?;
             }
             Outcome::Deleted { count, rows, field } => {
                 write!(out, r#"{{"answer":"deleted","count":{count},"rows":{rows}"#)?;
@@ -148,7 +191,7 @@ impl Outcome {
             Outcome::Refused { refusal, part } => {
                 let file = match part {
                     Part::Column | Part::Kind | Part::Literals => "null",
-                    Part::Index => r#""index""#,
+                    Part::Index | Part::IndexToOpen => r#""index""#,
                     Part::Deletions | Part::DeletionsBesideIndex => r#""deletions""#,
                 };
                 let (name, number, meaning) = (refusal.name(), refusal.number(), quoted(part.meaning(*refusal)));
@@ -174,15 +217,34 @@ fn answer(record: &Record) -> &'static str {
     }
 }
 
+/// What a graph may claim of an answer. Without deletions it doesn't say how many rows are deleted.
+fn claim(record: &Record, removed: Option<u64>) -> String {
+    let deleted = match removed {
+        Some(_) => format!("{} deleted", with_commas(record.deleted())),
+        None => "deletions not applied".to_string(),
+    };
+    format!("{record} ({deleted}, {} null)", with_commas(record.nulls()))
+}
+
+/// The same, as the keys of an object.
+fn json_answer(record: &Record, removed: Option<u64>) -> String {
+    let (answer, rows, nulls, matched) = (answer(record), record.rows(), record.nulls(), record.matched());
+    let (deleted, removed) = match removed {
+        Some(removed) => (record.deleted().to_string(), removed.to_string()),
+        None => ("null".to_string(), "null".to_string()),
+    };
+    format!(r#""answer":"{answer}","rows":{rows},"nulls":{nulls},"deleted":{deleted},"matched":{matched},"removed":{removed}"#)
+}
+
 /// A person reads the numbers with commas, and a program without.
 fn difference(index_rows: u64, data_rows: u64, written: fn(u64) -> String) -> String {
     let (index, data) = (written(index_rows), written(data_rows));
     format!("the index is of {index} {}, the data file has {data}", plural(index_rows, "row"))
 }
 
-/// How many rows, with commas as in a record's sentence.
-fn counted_rows(rows: u64) -> String {
-    format!("{} {}", with_commas(rows), plural(rows, "row"))
+/// How many of a thing, with commas as in a record's sentence.
+fn counted(number: u64, thing: &str) -> String {
+    format!("{} {}", with_commas(number), plural(number, thing))
 }
 
 /// The word, with an s where there isn't one alone.
@@ -345,7 +407,7 @@ mod tests {
     use std::collections::BTreeSet;
 
     use crate::columns::Index;
-    use poddurance::{ask, subtract_record, Edition, Literals, Question, Type};
+    use poddurance::{ask, open, subtract_record, Edition, Literals, Question, Type};
 
     fn text(outcome: &Outcome, rows: bool) -> String {
         let mut out = Vec::new();
@@ -432,6 +494,106 @@ mod tests {
         let not_applied = answered(&[1], None);
         assert_eq!(text(&not_applied, false), "keep: drawn from 1 of 6 rows (deletions not applied, 1 null)\n");
         assert!(json(&not_applied, false).contains(r#","deleted":null,"matched":1,"removed":null}"#));
+    }
+
+    /// An index opened and looked up in.
+    fn looked_up(values: &[i8], deleted: Option<RowField>, list: bool) -> Outcome {
+        // Version 2, one block: 0 to 4 in the rows of that number, and null in row 5.
+        let mut body = vec![2, 0, 0, 0, 6, 0, 0, 0, 5, 1, 255, 255, 255, 250, 255, 255, 255, 255, 0, 0, 0, 1];
+        body.extend([0, 0, 0, 0, 0, 0, 0, 0, 49, 0, 0, 0, 5]);
+        body.extend((0..5).flat_map(|row| [row, 255, 255, 255, 255 - row, 255, 255, 255, 255]));
+        let (opened, mut field) = open(&body, Type::TinyInt, RowField::for_rows(6).unwrap()).unwrap();
+        let mut lookups = Vec::new();
+        for value in values {
+            let literal = Literals::of(Type::TinyInt, [value]).unwrap();
+            let found = opened.look_up(Edition::Second, &literal, field).unwrap();
+            let (mut rows, mut record) = found.answer.into_parts();
+            let mut removed = None;
+            if let Some(deleted) = &deleted {
+                let subtracted = subtract_record(&mut rows, deleted, record).unwrap();
+                (record, removed) = (subtracted.record, Some(subtracted.removed));
+            }
+            let listed = list.then(|| rows.clone());
+            lookups.push(Lookup { literal: value.to_string(), record, removed, compared: found.compared, rows: listed });
+            field = rows;
+        }
+        Outcome::LookedUp { lookups }
+    }
+
+    /// A literal is compared with the first value of the one block, and with the values of the block up to its own.
+    #[test]
+    fn lookups() {
+        let both = looked_up(&[3, 5], None, false);
+        assert_eq!(both.exit_status(), 0);
+        assert_eq!(
+            text(&both, false),
+            "keep \"3\": drawn from 1 of 6 rows (deletions not applied, 1 null), compared with 5 values\n\
+             skip \"5\": drawn from 0 of 6 rows (deletions not applied, 1 null), compared with 6 values\n"
+        );
+        assert_eq!(
+            json(&both, false),
+            "{\"answer\":\"looked-up\",\"lookups\":[\
+             {\"literal\":\"3\",\"answer\":\"keep\",\"rows\":6,\"nulls\":1,\"deleted\":null,\"matched\":1,\"removed\":null,\"compared\":5},\
+             {\"literal\":\"5\",\"answer\":\"skip\",\"rows\":6,\"nulls\":1,\"deleted\":null,\"matched\":0,\"removed\":null,\"compared\":6}]}\n"
+        );
+        // With the rows 0, 2 and 5 deleted, which leave none of the value 0.
+        let deleted = looked_up(&[0, 1], Some(three()), true);
+        assert_eq!(deleted.exit_status(), 0);
+        assert_eq!(
+            text(&deleted, true),
+            "skip \"0\": drawn from 0 of 6 rows (3 deleted, 1 null), compared with 2 values\nrows: none\n\
+             keep \"1\": drawn from 1 of 6 rows (3 deleted, 1 null), compared with 3 values\nrows: 1\n"
+        );
+        assert_eq!(
+            json(&deleted, true),
+            "{\"answer\":\"looked-up\",\"lookups\":[\
+             {\"literal\":\"0\",\"answer\":\"skip\",\"rows\":6,\"nulls\":1,\"deleted\":3,\"matched\":0,\"removed\":1,\"compared\":2,\
+             \"ranges\":[]},\
+             {\"literal\":\"1\",\"answer\":\"keep\",\"rows\":6,\"nulls\":1,\"deleted\":3,\"matched\":1,\"removed\":0,\"compared\":3,\
+             \"ranges\":[[1,1]]}]}\n"
+        );
+        // The data file is skipped where it would be for each literal. One before the block's first value is compared with that alone.
+        let none = looked_up(&[-1, 5], None, false);
+        assert_eq!(none.exit_status(), 1);
+        assert!(text(&none, false).starts_with("skip \"-1\": ") && text(&none, false).contains(", compared with 1 value\n"));
+        assert_eq!(looked_up(&[0], Some(three()), false).exit_status(), 1);
+    }
+
+    /// What the user wrote can't move the cursor either.
+    #[test]
+    fn literals_are_shown_with_escapes() {
+        let Outcome::LookedUp { mut lookups } = looked_up(&[0], None, false) else { panic!() };
+        lookups[0].literal = "a \"b\" \x1B[A".to_string();
+        let outcome = Outcome::LookedUp { lookups };
+        assert!(text(&outcome, false).starts_with(r#"keep "a \"b\" \u{1b}[A": "#));
+        assert!(json(&outcome, false).contains(r#""literal":"a \"b\" \u001b[A","#));
+    }
+
+    #[test]
+    fn opening() {
+        let opened = Outcome::Opened { rows: 86_400, blocks: 1_000, table_bytes: 4_000 };
+        assert_eq!(opened.exit_status(), 0);
+        assert_eq!(text(&opened, false), "opened: 86,400 rows, each in exactly one place; 1,000 blocks, table of 4000 bytes\n");
+        assert_eq!(json(&opened, false), "{\"answer\":\"opened\",\"rows\":86400,\"blocks\":1000,\"table_bytes\":4000}\n");
+        let one = Outcome::Opened { rows: 1, blocks: 1, table_bytes: 4 };
+        assert_eq!(text(&one, false), "opened: 1 row, each in exactly one place; 1 block, table of 4 bytes\n");
+
+        // VERSION says what can be opened; all else is as of other indexes.
+        let refused = |refusal| Outcome::Refused { refusal, part: Part::IndexToOpen };
+        let version = refused(Refusal::Version);
+        let meaning = "only an index of version 2 can be opened; ask takes version 1 too";
+        assert_eq!((text(&version, false), version.exit_status()), (format!("refused: VERSION (3), {meaning}\n"), 3));
+        assert_eq!(
+            json(&version, false),
+            format!(
+                "{{\"answer\":\"refused\",\"file\":\"index\",\"name\":\"VERSION\",\"number\":3,\"meaning\":\"{meaning}\"}}\n"
+            )
+        );
+        for refusal in Refusal::ALL.into_iter().filter(|refusal| *refusal != Refusal::Version) {
+            let index = Outcome::Refused { refusal, part: Part::Index };
+            assert_eq!(text(&refused(refusal), false), text(&index, false));
+            assert_eq!(json(&refused(refusal), false), json(&index, false));
+        }
     }
 
     #[test]
@@ -742,6 +904,9 @@ mod tests {
             answered(&[0], None),
             answered(&[0], Some(three())),
             answered(&[], None),
+            Outcome::Opened { rows: 3, blocks: 2, table_bytes: 8 },
+            looked_up(&[1], None, false),
+            looked_up(&[1], Some(three()), false),
             Outcome::Listed { columns: vec![Column { name: b"s".to_vec(), indexes: vec![] }] },
             Outcome::NotListed { reason: "no".to_string() },
             Outcome::Deleted { count: 3, rows: 6, field: three() },

@@ -1,0 +1,19 @@
+-- The proofs of the claims and the laws that they cite, then the laws that the proofs of the functions cite.
+pub mod BlockParts
+pub mod TableStarts
+pub mod HalvingLaid
+pub mod BlockLaid
+pub mod SoughtLaid
+pub mod RowsPlaced
+pub mod OpenedAnswers
+pub mod HalvingSteps
+pub mod BlockEntries
+pub mod SoughtParts
+pub mod EarlyRefusals
+pub mod FoundRows
+pub mod Theorems
+pub mod ListingSteps
+pub mod HalveLoop
+pub mod SearchLoop
+pub mod AnswerSteps
+pub mod SeekSteps
