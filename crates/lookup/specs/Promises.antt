@@ -19,7 +19,7 @@ use Rattle.bitmap_index.specs.declared.Answered.{Answered}
 use Rattle.bitmap_index.specs.declared.Answered.the-variants.{Skip, Keep}
 use Rattle.bitmap_index.specs.declared.Placing.{Placing}
 use Rattle.bitmap_index.specs.declared.Placing.the-variants.{Placed}
-use Rattle.bitmap_index.specs.Reading.{firstNumber, placeEntries, answeredBy, askOut, askNumbers, askFault}
+use Rattle.bitmap_index.specs.Reading.{firstNumber, answeredBy, askOut, askNumbers, askFault}
 use Rattle.bitmap_index.specs.Promises.{Places, placeIn}
 use Rattle.opening.specs.declared.Fields.{Fields}
 use Rattle.opening.specs.Promises.{frontOf}

@@ -9,7 +9,8 @@ pub const LIMIT: u64 = 2_147_483_647;
 // What is said of a fault where a refusal carries nothing, and of an accepted answer.
 pub const NO_FAULT: [u64; 3] = [0, 0, 0];
 
-// An entry is numbered in stored order: 0 is null's, the values' are from 1 on; a deletion bin's is 0. A container is numbered from 0 in its bitmap.
+// An entry is numbered in stored order: 0 is null's, the values' are from 1 on, through all blocks, of a lookup within its block; a deletion bin's is 0. A
+// container is numbered from 0 in its bitmap.
 pub enum Refusal {
     Short,
     Magic,
