@@ -83,7 +83,7 @@ pub fn mark(field: &mut [u8], row: Row) -> bool
 }
 
 // Sets the rows that the bits of one byte stand for, and answers whether one of them was set already.
-fn mark_byte(field: &mut [u8], at: Position, bits: u8) -> bool
+pub fn mark_byte(field: &mut [u8], at: Position, bits: u8) -> bool
     requires { ⌜ at .0 < length (now field) ⌝ }
     ensures { λ r. ⌜ MarkedInTurn (now (field .entry)) (now (field .exit)) (byteRows bits (at .0 * 8) 8) r ⌝ }
 {
