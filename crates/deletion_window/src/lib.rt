@@ -13,11 +13,11 @@ ghost use Rattle.deletion_window.specs.Layout.{indexEnd, indexRows, rows
 ghost use Rattle.deletion_window.specs.Reading.{rows32, rows64, kindOf, rowsOf, rowsIn, markedIn};
 ghost use Rattle.deletion_window.specs.Reading as reading;
 ghost use Rattle.deletion_window.specs.Promises.{FindsBitmap, MarksEach, IsClear, WindowPromise};
+use deletion_file::BIN_ENTRY;
 use deletion_file::Deletions;
+use deletion_file::NUMBER_SIZE;
 use deletion_file::Place;
 use deletion_file::Prepared;
-use deletion_file::BIN_ENTRY;
-use deletion_file::NUMBER_SIZE;
 use numbers::Position;
 use refusal::Refusal;
 use roaring::Extent;
