@@ -33,7 +33,7 @@ all-rows a (suc c) k =
     let h : (2 ^ suc c - 1) / 2 ≡ 2 ^ c - 1 = omega arith in
     rw (suc-add c k, byteRows-odd (2 ^ suc c - 1) a (c + k) o, h, all-rows (a + 1) c k)
 
-later-rows : (y a l k : ℕ) → byteRows (y * 2 ^ l) a (l + k) ≡ byteRows y (a + l) k
+pub later-rows : (y a l k : ℕ) → byteRows (y * 2 ^ l) a (l + k) ≡ byteRows y (a + l) k
 later-rows y a zero k = rw (zero-add, add-zero, mul-one)
 later-rows y a (suc l) k =
     let e : a + 1 + l ≡ a + suc l = omega arith in
