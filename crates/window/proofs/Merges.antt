@@ -1,0 +1,64 @@
+-- What merging bits marks: within a byte, and in a part that is lent.
+use Prim.Native.Nat.{ℕ, zero, suc, _+_, _-_, _*_, _/_, _%_, _^_, _<_, _≤_, min}
+use mathlib.Core.Path.{_≡_, refl, sym, ap, _∙_}
+use mathlib.Core.Bool.{Bool, false}
+use mathlib.Core.List.{List, _∷_}
+use native.Mathlib.Nat.{add-zero}
+use native.Mathlib.Decide.{decLe}
+use native.Mathlib.Omega.{arith}
+use lib.ListN.{length, take, drop, length-take, length-drop}
+use borrow.Rule.Slice.PartMut.{midOf, putMid}
+use Rattle.numbers.specs.Meaning.{Bytes}
+use Rattle.row_field.specs.Meaning.{bit, above, Rising, rowsFrom, rowsOf}
+use Rattle.row_field.specs.Promises.{byteRows, MarkedRows, MarkedInTurn}
+use Rattle.row_field.proofs.RowLists.{rising-below, above-rising, rowsOf-rising}
+use Rattle.row_field.proofs.Marks.{Past, anySeen-rising, part-marked, part-set}
+use Rattle.row_field.proofs.Loops.{in-turn, marks-first, marks-past}
+use Rattle.window.specs.Promises.{eightFrom, moved}
+use Rattle.window.proofs.Moved.{moved-rising, moved-past, moved-part, moved-above}
+use Rattle.window.proofs.ByteShifts.{within-byte}
+
+-- ---- within a byte
+
+module _ (f g : List ℕ) (at v c s : ℕ) where
+  pub within-past : length f ≤ at → MarkedInTurn f f (moved g v (at * 8 + s) c) false
+  within-past h = marks-past (marks-first (moved g v (at * 8 + s) c) f) (moved-past f g v (at * 8 + s) c (omega arith))
+
+  pub within-marked : Bytes g → s + c ≤ 8 → {eight low : ℕ} {f′ : List ℕ} {was : Bool} → eight ≡ eightFrom g v → low ≡ eight % 2 ^ c
+      → MarkedInTurn f f′ (byteRows (low * 2 ^ s % 256) (at * 8) 8) was → MarkedInTurn f f′ (moved g v (at * 8 + s) c) was
+  within-marked b h e l m = rw (← within-byte g b v (at * 8) c s h, ← e, ← l) m
+
+-- ---- in n bytes, each from two: nothing is left that the part has
+
+shifted-left : (f g : List ℕ) (n s i : ℕ) → min (length f) n ≤ i → Dec (length f ≤ i) → Past f (moved g (i * 8 + s) (i * 8) ((n - i) * 8))
+unfolding moved
+shifted-left f g n s i h (yes l) = moved-past f g (i * 8 + s) (i * 8) ((n - i) * 8) (omega arith)
+shifted-left f g n s i h (no l) =
+    let e : (n - i) * 8 ≡ 0 = omega arith in
+    rw e tt
+
+pub shifted-done : (f g : List ℕ) (n s i : ℕ) → min (length f) n ≤ i → Past f (moved g (i * 8 + s) (i * 8) ((n - i) * 8))
+shifted-done f g n s i h = shifted-left f g n s i h (decLe (length f) i)
+
+-- ---- in k bytes from byte a on, which are lent as far as they go
+
+module _ (f : List ℕ) (a k from to : ℕ) (p : from ≡ min a (length f)) (q : to ≡ min (a + k) (length f)) where
+  pub lent-marked : (vs : List ℕ) → Rising 0 (k * 8) vs → {part : List ℕ} {was : Bool} → MarkedInTurn (midOf from (to - from) f) part vs was
+      → MarkedInTurn f (putMid from (to - from) f part) (above (a * 8) vs) was
+  lent-marked vs s m =
+      let b = rising-below 0 (k * 8) vs s in
+      record {
+        seen = m .seen ∙ anySeen-rising (midOf from (to - from) f) 0 (k * 8) vs s ∙ sym (part-set f vs a k from to b p q)
+            ∙ sym (anySeen-rising f (a * 8 + 0) (a * 8 + k * 8) (above (a * 8) vs) (above-rising (a * 8) 0 (k * 8) vs s));
+        marked = rw (m .marked) (sym (part-marked f vs a k from to b p q));
+      }
+
+  -- bits of a part of a field
+  module _ (g : List ℕ) (v : ℕ) {part : List ℕ} {was : Bool} where
+    pub bits-marked : (n : ℕ) → v % 8 + k * 8 ≤ n * 8 → MarkedInTurn (midOf from (to - from) f) part (moved (take n (drop (v / 8) g)) (v % 8) 0 (k * 8)) was
+        → MarkedInTurn f (putMid from (to - from) f part) (moved g v (a * 8) (k * 8)) was
+    bits-marked n h m =
+        let vs = moved (take n (drop (v / 8) g)) (v % 8) 0 (k * 8) in
+        let e : v / 8 * 8 + v % 8 ≡ v = omega arith in
+        rw (moved-above (take n (drop (v / 8) g)) (a * 8) (v % 8) 0 (k * 8), add-zero, moved-part g (v / 8) n (v % 8) (a * 8) (k * 8) h, e)
+        at (lent-marked vs (moved-rising (take n (drop (v / 8) g)) (v % 8) 0 (k * 8) 0 (k * 8) (omega arith) (omega arith)) m)
