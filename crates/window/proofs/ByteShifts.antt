@@ -61,14 +61,14 @@ module _ (g : List ℕ) (bytes : Bytes g) (i s : ℕ) (h : s < 8) where
 -- ---- the rows of its bits
 
 -- where the digits of x are the bits of g from v on
-rows-moved : (x : ℕ) (g : List ℕ) (v to k : ℕ) → ((j : ℕ) → j < k → eqb (digit x j) 1 ≡ bit g (v + j)) → byteRows x to k ≡ moved g v to k
+digits-moved : (x : ℕ) (g : List ℕ) (v to k : ℕ) → ((j : ℕ) → j < k → eqb (digit x j) 1 ≡ bit g (v + j)) → byteRows x to k ≡ moved g v to k
 unfolding byteRows moved
-rows-moved x g v to zero e = refl
-rows-moved x g v to (suc k) e =
+digits-moved x g v to zero e = refl
+digits-moved x g v to (suc k) e =
     let q : x / 1 ≡ x = omega arith in
     let first : eqb (x % 2) 1 ≡ bit g v = rw (add-zero v, q) at (e 0 (omega arith)) in
     let next : (j : ℕ) → v + suc j ≡ v + 1 + j = λ j. omega arith in
-    rw (first, rows-moved (x / 2) g (v + 1) (to + 1) k (λ j h. rw (← digit-suc x j, ← next j) (e (suc j) (omega arith))))
+    rw (first, digits-moved (x / 2) g (v + 1) (to + 1) k (λ j h. rw (← digit-suc x j, ← next j) (e (suc j) (omega arith))))
 
 -- of bits that stand in one byte: the lowest c of eight, shifted up by s
 pub within-byte : (g : List ℕ) → Bytes g → (v a c s : ℕ) → s + c ≤ 8 → byteRows (eightFrom g v % 2 ^ c * 2 ^ s % 256) a 8 ≡ moved g v (a + s) c
@@ -83,7 +83,7 @@ within-byte g bytes v a c s h =
     rw (shl-exact c s 8 small (omega arith))
     (ap (byteRows (x % 2 ^ c * 2 ^ s) a) n ∙ later-rows (x % 2 ^ c) a s (8 - s)
     ∙ ap (byteRows (x % 2 ^ c) (a + s)) m ∙ few-rows (x % 2 ^ c) (a + s) c (8 - s - c) small
-    ∙ rows-moved (x % 2 ^ c) g v (a + s) c bits)
+    ∙ digits-moved (x % 2 ^ c) g v (a + s) c bits)
 
 -- ---- whole bytes, one after the other
 
@@ -98,5 +98,5 @@ bytes-next g bytes n s i h l =
       moved-append g (i * 8 + s) (i * 8) 8 ((n - (i + 1)) * 8),
       a,
       b,
-      rows-moved (shifted (getD g i 0) (getD g (i + 1) 0) s) g (i * 8 + s) (i * 8) 8 (digits-of-two g bytes i s h),
+      digits-moved (shifted (getD g i 0) (getD g (i + 1) 0) s) g (i * 8 + s) (i * 8) 8 (digits-of-two g bytes i s h),
     )

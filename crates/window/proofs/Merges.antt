@@ -1,8 +1,8 @@
 -- What merging bits marks: within a byte, and in a part that is lent.
 use Prim.Native.Nat.{ℕ, zero, suc, _+_, _-_, _*_, _/_, _%_, _^_, _<_, _≤_, min}
 use mathlib.Core.Path.{_≡_, refl, sym, ap, _∙_}
-use mathlib.Core.Bool.{Bool, false}
-use mathlib.Core.List.{List, _∷_}
+use mathlib.Core.Bool.{Bool, false, _||_}
+use mathlib.Core.List.{List, _++_, append-nil}
 use native.Mathlib.Nat.{add-zero}
 use native.Mathlib.Decide.{decLe}
 use native.Mathlib.Omega.{arith}
@@ -13,9 +13,9 @@ use Rattle.row_field.specs.Meaning.{bit, above, Rising, rowsFrom, rowsOf}
 use Rattle.row_field.specs.Promises.{byteRows, MarkedRows, MarkedInTurn}
 use Rattle.row_field.proofs.RowLists.{rising-below, above-rising, rowsOf-rising}
 use Rattle.row_field.proofs.Marks.{Past, anySeen-rising, part-marked, part-set}
-use Rattle.row_field.proofs.Loops.{in-turn, marks-first, marks-past}
+use Rattle.row_field.proofs.Loops.{in-turn, marks-first, marks-part, marks-past, marks-done}
 use Rattle.window.specs.Promises.{eightFrom, moved}
-use Rattle.window.proofs.Moved.{moved-rising, moved-past, moved-part, moved-above}
+use Rattle.window.proofs.Moved.{moved-rising, moved-past, moved-part, moved-above, rows-moved}
 use Rattle.window.proofs.ByteShifts.{within-byte}
 
 -- ---- within a byte
@@ -40,6 +40,13 @@ shifted-left f g n s i h (no l) =
 pub shifted-done : (f g : List ℕ) (n s i : ℕ) → min (length f) n ≤ i → Past f (moved g (i * 8 + s) (i * 8) ((n - i) * 8))
 shifted-done f g n s i h = shifted-left f g n s i h (decLe (length f) i)
 
+-- n bytes, from the one on that bit v is in
+abbrev bytes : List ℕ → ℕ → ℕ → List ℕ
+bytes g v n = take n (drop (v / 8) g)
+
+bytes-long : (g : List ℕ) (v n : ℕ) → v / 8 + n ≤ length g → length (bytes g v n) ≡ n
+bytes-long g v n h = simp (length-take, length-drop) (omega arith)
+
 -- ---- in k bytes from byte a on, which are lent as far as they go
 
 module _ (f : List ℕ) (a k from to : ℕ) (p : from ≡ min a (length f)) (q : to ≡ min (a + k) (length f)) where
@@ -55,10 +62,32 @@ module _ (f : List ℕ) (a k from to : ℕ) (p : from ≡ min a (length f)) (q :
 
   -- bits of a part of a field
   module _ (g : List ℕ) (v : ℕ) {part : List ℕ} {was : Bool} where
-    pub bits-marked : (n : ℕ) → v % 8 + k * 8 ≤ n * 8 → MarkedInTurn (midOf from (to - from) f) part (moved (take n (drop (v / 8) g)) (v % 8) 0 (k * 8)) was
+    pub bits-marked : (n : ℕ) → v % 8 + k * 8 ≤ n * 8 → MarkedInTurn (midOf from (to - from) f) part (moved (bytes g v n) (v % 8) 0 (k * 8)) was
         → MarkedInTurn f (putMid from (to - from) f part) (moved g v (a * 8) (k * 8)) was
     bits-marked n h m =
-        let vs = moved (take n (drop (v / 8) g)) (v % 8) 0 (k * 8) in
+        let vs = moved (bytes g v n) (v % 8) 0 (k * 8) in
         let e : v / 8 * 8 + v % 8 ≡ v = omega arith in
-        rw (moved-above (take n (drop (v / 8) g)) (a * 8) (v % 8) 0 (k * 8), add-zero, moved-part g (v / 8) n (v % 8) (a * 8) (k * 8) h, e)
-        at (lent-marked vs (moved-rising (take n (drop (v / 8) g)) (v % 8) 0 (k * 8) 0 (k * 8) (omega arith) (omega arith)) m)
+        rw (moved-above (bytes g v n) (a * 8) (v % 8) 0 (k * 8), add-zero, moved-part g (v / 8) n (v % 8) (a * 8) (k * 8) h, e)
+        at (lent-marked vs (moved-rising (bytes g v n) (v % 8) 0 (k * 8) 0 (k * 8) (omega arith) (omega arith)) m)
+
+    -- none is shifted
+    pub aligned-marked : (n : ℕ) → n ≡ k → v / 8 + n ≤ length g → v % 8 ≡ 0 → MarkedRows (midOf from (to - from) f) part (rowsOf (bytes g v n)) was
+        → MarkedInTurn f (putMid from (to - from) f part) (moved g v (a * 8) (k * 8)) was
+    aligned-marked n e h z m =
+        let long : length (bytes g v n) ≡ k = bytes-long g v n h ∙ e in
+        let t = in-turn 0 (length (bytes g v n) * 8) (rowsOf-rising (bytes g v n)) m in
+        bits-marked n (omega arith) (rw z (rw (rows-moved (bytes g v n) 0 (length (bytes g v n) * 8), long) at t))
+
+    -- each byte is of two, so there is one more
+    pub shifted-marked : (n : ℕ) → n ≡ k + 1 → v / 8 + n ≤ length g
+        → MarkedInTurn (midOf from (to - from) f) part (moved (bytes g v n) (v % 8) 0 ((length (bytes g v n) - 1) * 8)) was
+        → MarkedInTurn f (putMid from (to - from) f part) (moved g v (a * 8) (k * 8)) was
+    shifted-marked n e h m =
+        let long : length (bytes g v n) - 1 ≡ k = omega (arith, bytes-long g v n h) in
+        bits-marked n (omega arith) (rw long at m)
+
+-- ---- in three parts, one after the other
+
+pub three-marked : {whole xs ys zs f f₁ f₂ f₃ : List ℕ} {was₁ was₂ was₃ : Bool} → whole ≡ xs ++ (ys ++ zs)
+    → MarkedInTurn f f₁ xs was₁ → MarkedInTurn f₁ f₂ ys was₂ → MarkedInTurn f₂ f₃ zs was₃ → MarkedInTurn f f₃ whole ((was₁ || was₂) || was₃)
+three-marked {whole} {zs = zs} {f = f} e x y z = marks-done (marks-part (marks-part (marks-part (marks-first whole f) e x) refl y) (sym (append-nil zs)) z) refl

@@ -3,7 +3,7 @@ use Prim.Native.Nat.{ℕ, zero, suc, _+_, _-_, _*_, _/_, _%_, _<_, _≤_, min}
 use mathlib.Core.Path.{_≡_, refl, sym, ap, _∙_}
 use mathlib.Core.Bool.{Bool, true, false, cond}
 use mathlib.Core.List.{List, [], _∷_, _++_, append-nil}
-use native.Mathlib.Nat.{zero-add, add-zero, suc-add}
+use native.Mathlib.Nat.{zero-add, add-zero, suc-add, sub-self, min-eq-left}
 use native.Mathlib.Decide.{decLe}
 use native.Mathlib.Omega.{arith}
 use lib.ListN.{length, getD, take, drop}
@@ -68,6 +68,48 @@ moved-above f d from to zero = refl
 moved-above f d from to (suc k) =
     let e : d + (to + 1) ≡ d + to + 1 = omega arith in
     above-cond (bit f from) d to (moved f (from + 1) (to + 1) k) ∙ rw (moved-above f d (from + 1) (to + 1) k, e)
+
+-- the rows of a field are its bits where they stand
+pub rows-moved : (f : List ℕ) (a k : ℕ) → rowsFrom f a k ≡ moved f a a k
+unfolding rowsFrom moved
+rows-moved f a zero = refl
+rows-moved f a (suc k) = rw (rows-moved f (a + 1) k)
+
+-- ---- in three parts: those that stand in the first byte behind others, whole bytes, and what is left
+
+filled-up : (shift head at : ℕ) → shift < 8 → head ≡ (8 - shift) % 8 → at ≡ (shift + 8 - 1) / 8 → shift + head ≡ at * 8
+filled-up shift head at s h a = omega arith
+
+ends-inside : (low end head free : ℕ) → low ≤ end → head ≡ min free (end - low) → (free ≤ end - low → ⊥) → low + head ≡ end
+ends-inside low end head free o h l = omega arith
+
+module _ (g : List ℕ) (low shift end head at count : ℕ) (o : low ≤ end) (s : shift < 8)
+    (h : head ≡ min ((8 - shift) % 8) (end - low)) (a : at ≡ (shift + 8 - 1) / 8) (c : count ≡ (end - (low + head)) / 8) where
+  abbrev rest : ℕ
+  rest = low + head + 8 * count
+
+  -- the first byte is filled up; or the window ends inside it, and nothing is left
+  parts-go : Dec ((8 - shift) % 8 ≤ end - low)
+      → moved g (low + head) (shift + head) (count * 8 + (end - rest)) ≡ moved g (low + head) (at * 8) (count * 8) ++ moved g rest ((at + count) * 8 + 0) (end - rest)
+  unfolding moved
+  parts-go (yes l) =
+      let f : head ≡ (8 - shift) % 8 = h ∙ min-eq-left l in
+      let e : shift + head ≡ at * 8 = filled-up shift head at s f a in
+      let x : low + head + count * 8 ≡ rest = omega arith in
+      let y : at * 8 + count * 8 ≡ (at + count) * 8 + 0 = omega arith in
+      rw e (moved-append g (low + head) (at * 8) (count * 8) (end - rest) ∙ rw (x, y))
+  parts-go (no l) =
+      let e : low + head ≡ end = ends-inside low end head ((8 - shift) % 8) o h l in
+      let x : count ≡ 0 = c ∙ rw (e, sub-self) in
+      let y : end - rest ≡ 0 = omega arith in
+      rw (y, x)
+
+  pub moved-parts : moved g low shift (end - low)
+      ≡ moved g low (0 * 8 + shift) head ++ (moved g (low + head) (at * 8) (count * 8) ++ moved g rest ((at + count) * 8 + 0) (end - rest))
+  moved-parts =
+      let n : end - low ≡ head + (count * 8 + (end - rest)) = omega arith in
+      let z : 0 * 8 + shift ≡ shift = omega arith in
+      rw (n, z, moved-append g low shift head (count * 8 + (end - rest)), parts-go (decLe ((8 - shift) % 8) (end - low)))
 
 -- ---- through a window
 
