@@ -1,0 +1,3 @@
+-- Laws of marking through a window, and of the call's stages.
+pub mod Steps
+pub mod Marking
