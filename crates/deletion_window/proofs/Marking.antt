@@ -106,7 +106,7 @@ pub record Each (first n : ℕ) (bytes f₀ f : List ℕ) (left at least : ℕ) 
 module _ (first n : ℕ) (bytes : List ℕ) where
   pub no-count : (f : List ℕ) → length bytes < 8 → MarksEach first n bytes f f false
   unfolding rows64 markAll
-  no-count f h = (number-short little 8 (refuse wrong) bytes 0 _ (omega arith), [], tt, refl)
+  no-count f h = (number-short little 8 (refuse wrong) bytes 0 _ (omega arith), ([], tt, refl))
 
   pub each-first : (f : List ℕ) {left : ℕ} → 8 ≤ length bytes → left ≡ leAt 8 bytes 0 → Each first n bytes f f left 8 0
   unfolding rows64 windowed markAll
@@ -121,7 +121,7 @@ module _ (first n : ℕ) (bytes : List ℕ) where
     some-marked : rows64 bytes ≡ refuse wrong → MarksEach first n bytes f₀ f false
     some-marked e =
         let z : 0 + (first + n - first) ≡ n = omega arith in
-        (e, inWindow first n (st .so-far), rw z at (windowed-below (rowWindow first n) (st .so-far)), st .marked)
+        (e, (inWindow first n (st .so-far), rw z at (windowed-below (rowWindow first n) (st .so-far)), st .marked))
 
     module _ (l : 0 < left) where
       one-more : left ≡ suc (left - 1)
@@ -183,7 +183,7 @@ unfolding markAll mark
 cleared-marked n f [] b = refl
 cleared-marked n f (r ∷ rows) b = cleared-marked n (mark f r) rows (b .1) ∙ zeroed-set (size n) f (r / 8) _ (omega arith)
 
-module _ (first n : ℕ) (bytes : List ℕ) {before after : List ℕ} {all : Bool} (w : MarksEach first n bytes before after all) where
+module _ (first n : ℕ) (bytes before after : List ℕ) (all : Bool) (w : MarksEach first n bytes before after all) where
   pub taken-back : all ≡ false → IsClear n before → {field : List ℕ} → field ≡ cleared n after
       → MarksRows n (markedIn first n (rows64 bytes)) before field (Deletions.Refused wrong)
   unfolding markedIn andThen deletionsBy leftBy

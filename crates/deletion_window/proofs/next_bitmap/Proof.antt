@@ -1,87 +1,54 @@
+-- `next_bitmap` meets its contract: the reading's tests of one bitmap, in their order.
 use borrow.Author.Needs.{needs}
+use native.Mathlib.Omega.{arith}
+use Prim.Native.Nat.{_+_}
+use Rattle.deletion_window.specs.Promises.{FoundBitmap}
+use Rattle.deletion_window.proofs.Steps.{next-cut, next-low, next-high, next-unsound, next-found}
 use Rattle.deletion_window.proofs.next_bitmap.Statement.{statement}
 use Rattle.deletion_window.proofs.next_bitmap.Tie as tie
-use Rattle.deletion_window.proofs.next_bitmap.Reads as reads
-use Rattle.deletion_window.proofs.next_bitmap.Lts as lts
-use Rattle.numbers.proofs.le32.Reads as le32-reads
-use Rattle.roaring.proofs.measure.Reads as measure-reads
 
--- src/lib.rt:89:8
-sub-if1 : tie.Need-sub-if1
-sub-if1 c = search needs
-
--- src/lib.rt:90:9
 returns : tie.Need-returns
-returns c = ?
+returns c =
+    let a = c .before .before .args in
+    next-cut (a .least) (a .bytes .now) (a .at .0) (c .if1 .taken)
 
--- src/lib.rt:92:9
-le32-requires : tie.Need-le32-requires
-le32-requires c κs = search needs
-
--- src/lib.rt:94:9
 returns-2 : tie.Need-returns-2
-returns-2 c = ?
+returns-2 c =
+    let a = c .before .before .before .before .args in
+    next-low (a .least) (a .bytes .now) (a .at .0) (omega arith) (c .before .le32 .ensures .0) (c .if2 .taken)
 
--- src/lib.rt:97:9
 returns-3 : tie.Need-returns-3
-returns-3 c = ?
+returns-3 c =
+    let a = c .before .before .before .before .before .args in
+    next-high (a .least) (a .bytes .now) (a .at .0) (omega arith) (c .before .before .le32 .ensures .0) (c .before .if2 .left) (c .if3 .taken)
 
--- src/lib.rt:99:17
-add-start : tie.Need-add-start
-add-start c = search needs
+-- the bitmap that was measured
+found : (c : tie.After-known-told)
+    → let a = c .before .before .before .before .before .before .before .before .before .before .args in
+    FoundBitmap (a .least) (a .at .0) (a .bytes .now) (c .before .before .before .before .before .before .before .le32 .result) (a .at .0 + 4)
+    (a .at .0 + 4 + c .before .measured .given .0 .0)
+found c =
+    let index = c .before .before .before .before .before .before .before in
+    let a = index .before .before .before .args in
+    next-found (a .least) (a .bytes .now) (a .at .0) (omega arith) (index .le32 .ensures .0) (c .before .before .before .before .before .before .if2 .left)
+    (c .before .before .before .before .before .if3 .left) (c .before .before .before .measure .ensures) (c .before .measured .given .1) (λ i. index .before .before .shared-slice-known .given i .fits)
 
--- src/lib.rt:100:37
-sub-measure : tie.Need-sub-measure
-sub-measure c = search needs
-
--- src/lib.rt:100:37
-part-measure-start : tie.Need-part-measure-start
-part-measure-start c = search needs
-
--- src/lib.rt:100:37
-part-measure-end : tie.Need-part-measure-end
-part-measure-end c = search needs
-
--- src/lib.rt:100:9
-measure-requires : tie.Need-measure-requires
-measure-requires c κs = search needs
-
--- src/lib.rt:102:33
-enum-told : tie.Need-enum-told
-enum-told c = search needs
-
--- src/lib.rt:104:13
-enum-known-measured : tie.Need-enum-known-measured
-enum-known-measured c = search needs
-
--- src/lib.rt:110:27
 add-t19 : tie.Need-add-t19
-add-t19 c = ?
+add-t19 c = let w = found c in record { fits = omega arith }
 
--- src/lib.rt:84:1
 returns-4 : tie.Need-returns-4
-returns-4 c = ?
+returns-4 c =
+    let index = c .before .before .before .before .before .before in
+    let a = index .before .before .before .args in
+    next-unsound (a .least) (a .bytes .now) (a .at .0) (omega arith) (index .le32 .ensures .0) (c .before .before .before .before .before .if2 .left)
+    (c .before .before .before .before .if3 .left) (c .before .before .measure .ensures) (c .enum-told .given .1)
 
--- src/lib.rt:84:1
 returns-5 : tie.Need-returns-5
-returns-5 c = ?
+returns-5 c = found c
 
 pub next-bitmap-spec : {M : Type 1} → statement M
 next-bitmap-spec =
     tie.close
     (tie.spec
-    sub-if1
-    returns
-    le32-requires
-    returns-2
-    returns-3
-    add-start
-    sub-measure
-    part-measure-start
-    part-measure-end
-    measure-requires
-    enum-told
-    enum-known-measured
-    add-t19
-    returns-4
-    returns-5)
+    (λ c. search needs) returns (λ c κs. search needs) returns-2 returns-3 (λ c. search needs) (λ c. search needs) (λ c. search needs) (λ c. search needs)
+    (λ c κs. search needs) (λ c. search needs) (λ c. search needs) add-t19 returns-4 returns-5)
