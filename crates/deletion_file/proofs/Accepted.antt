@@ -23,7 +23,7 @@ use Rattle.roaring.proofs.RowsRising.{bitmap-rising}
 use Rattle.deletion_file.specs.declared.Deletions.the-variants.{Deleted}
 use Rattle.deletion_file.specs.Layout.{Bin, binBytes, binOf, frames, Framed, HoldsBytes, holds-bytes}
 use Rattle.refusal.specs.Reading.{Out, refuse, ok, andThen, refusedAs}
-use Rattle.deletion_file.specs.Reading.{bins, binNumbered, binIn, afterMagic, bitmapIn, binEntry, markBitmap, deletionsReady, deletionsBy}
+use Rattle.deletion_file.specs.Reading.{bins, binNumbered, binIn, askedBin, afterMagic, bitmapIn, binEntry, markBitmap, deletionsReady, deletionsBy}
 use Rattle.refusal.proofs.Laws.{not-ok, ok-same, check-ok, then-ok, refused-as-ok}
 use Rattle.deletion_file.proofs.BinSteps.{magic-back}
 use Rattle.deletion_file.proofs.Frames.{Between, between-first, between-next, nothing, walk-passed}
@@ -70,6 +70,37 @@ bin-back x bitmap b h e =
 
 -- ---- the file
 
+pub record BinCut (file : List ℕ) (b : ℕ) (x : Bin) : Type 0 where
+  pub cut-bins : List Bin
+  pub between : Between cut-bins b x
+  pub framed : All Framed cut-bins
+  pub cut : file ≡ 1 ∷ frames cut-bins
+  pub are-bytes : Bytes (x .bytes)
+  pub magic-fits : 4 ≤ length (x .bytes)
+
+first-byte : (file : List ℕ) → 1 ≤ length file → getD file 0 0 ≡ 1 → file ≡ 1 ∷ drop 1 file
+first-byte [] h e = absurd (omega arith)
+first-byte (v ∷ s) h e = rw e
+
+-- the file of a bin that was found
+pub bin-cut : (file : List ℕ) (b : ℕ) (x : Bin) → Bytes file → askedBin b file ≡ ok x → BinCut file b x
+unfolding askedBin binIn
+bin-cut file b x t e =
+    let c = check-ok (leb 1 (length file)) Short _ _ e in
+    let d = check-ok (eqb (getD file 0 0) 1) Version _ _ (c .1) in
+    let v = then-ok (bins (length file) (drop 1 file)) (binNumbered b) _ (d .1) in
+    let w = walk-passed (length file) (drop 1 file) (v .0) (bytes-drop 1 file t) (v .1) in
+    let p = bin-between b (v .0) (v .2) in
+    record {
+      cut-bins = v .0;
+      between = p;
+      framed = w .0;
+      cut = first-byte file (leb-true _ _ (c .0)) (eqb-true _ _ (d .0)) ∙ ap (λ (r : List ℕ). 1 ∷ r) (w .1);
+      are-bytes = bytes-at (p .earlier) x (p .later) (rw (w .1, p .cut) at (bytes-drop 1 file t));
+      magic-fits = framed-at (p .earlier) x (p .later) (rw (p .cut) at (w .0));
+    }
+
+-- the file of a bin whose magic and checksum are right
 pub record FileCut (file : List ℕ) (b : ℕ) (bitmap : List ℕ) : Type 0 where
   pub cut-bins : List Bin
   pub between : Between cut-bins b (binOf bitmap)
@@ -77,32 +108,22 @@ pub record FileCut (file : List ℕ) (b : ℕ) (bitmap : List ℕ) : Type 0 wher
   pub cut : file ≡ 1 ∷ frames cut-bins
   pub are-bytes : Bytes bitmap
 
-first-byte : (file : List ℕ) → 1 ≤ length file → getD file 0 0 ≡ 1 → file ≡ 1 ∷ drop 1 file
-first-byte [] h e = absurd (omega arith)
-first-byte (v ∷ s) h e = rw e
-
-file-cut : (file : List ℕ) (b : ℕ) (bitmap : List ℕ) (xs : List Bin) (x : Bin) → Between xs b x → Bytes file → file ≡ 1 ∷ drop 1 file
-    → All Framed xs → drop 1 file ≡ frames xs → afterMagic x ≡ ok bitmap → FileCut file b bitmap
-file-cut file b bitmap xs x p t w f s e =
-    let y = bytes-at (p .earlier) x (p .later) (rw (s, p .cut) at (bytes-drop 1 file t)) in
-    let o = bin-back x bitmap y (framed-at (p .earlier) x (p .later) (rw (p .cut) at f)) e in
+file-cut : (file : List ℕ) (b : ℕ) (bitmap : List ℕ) (x : Bin) → BinCut file b x → afterMagic x ≡ ok bitmap → FileCut file b bitmap
+file-cut file b bitmap x c e =
+    let o = bin-back x bitmap (c .are-bytes) (c .magic-fits) e in
     record {
-      cut-bins = xs;
-      between = rw (o .0) at p;
-      framed = f;
-      cut = w ∙ ap (λ (r : List ℕ). 1 ∷ r) s;
-      are-bytes = rw (o .1) (bytes-drop 4 (x .bytes) y);
+      cut-bins = c .cut-bins;
+      between = rw (o .0) at (c .between);
+      framed = c .framed;
+      cut = c .cut;
+      are-bytes = rw (o .1) (bytes-drop 4 (x .bytes) (c .are-bytes));
     }
 
 pub bitmap-cut : (file : List ℕ) (b : ℕ) (bitmap : List ℕ) → Bytes file → bitmapIn b file ≡ ok bitmap → FileCut file b bitmap
-unfolding bitmapIn binIn
+unfolding bitmapIn
 bitmap-cut file b bitmap t e =
-    let c = check-ok (leb 1 (length file)) Short _ _ e in
-    let d = check-ok (eqb (getD file 0 0) 1) Version _ _ (c .1) in
-    let w = then-ok (andThen (bins (length file) (drop 1 file)) (binNumbered b)) afterMagic _ (d .1) in
-    let v = then-ok (bins (length file) (drop 1 file)) (binNumbered b) _ (w .1) in
-    let p = walk-passed (length file) (drop 1 file) (v .0) (bytes-drop 1 file t) (v .1) in
-    file-cut file b bitmap (v .0) (w .0) (bin-between b (v .0) (v .2)) t (first-byte file (leb-true _ _ (c .0)) (eqb-true _ _ (d .0))) (p .0) (p .1) (w .2)
+    let w = then-ok (askedBin b file) afterMagic _ e in
+    file-cut file b bitmap (w .0) (bin-cut file b (w .0) t (w .1)) (w .2)
 
 pub cut-held : {file : List ℕ} {b : ℕ} {bytes : List ℕ} → FileCut file b bytes → HoldsBytes b bytes file
 cut-held {bytes = bytes} c =

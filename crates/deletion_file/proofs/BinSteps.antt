@@ -15,7 +15,7 @@ use Rattle.refusal.specs.Reading.{refuse, ok, check, andThen}
 use Rattle.refusal.proofs.Laws.{ok-same, check-ok}
 use Rattle.crc32.specs.Meaning.{checksum}
 use Rattle.deletion_file.specs.Layout.{Bin, magic}
-use Rattle.deletion_file.specs.Reading.{binIn, hasMagic, checksumHolds, afterMagic, bitmapIn}
+use Rattle.deletion_file.specs.Reading.{binIn, askedBin, hasMagic, checksumHolds, afterMagic, bitmapIn}
 use Rattle.deletion_file.specs.Promises.{part, binFrom}
 
 drop-take : {A : Type 0} (m n : ℕ) (l : List A) → drop m (take n l) ≡ take (n - m) (drop m l)
@@ -51,19 +51,22 @@ magic-back x bitmap e =
 -- ---- the stages before the bin
 
 module _ (b : ℕ) (file : List ℕ) where
-  pub empty-file : length file ≡ 0 → bitmapIn b file ≡ refuse Short
-  unfolding bitmapIn check
+  pub empty-file : length file ≡ 0 → askedBin b file ≡ refuse Short
+  unfolding askedBin check
   empty-file h = rw (lt-leb 1 (length file) (omega arith))
 
-  pub wrong-version : {v : ℕ} → 1 ≤ length file → v ≡ getD file 0 0 → v ≢ 1 → bitmapIn b file ≡ refuse Version
-  unfolding bitmapIn check
+  pub wrong-version : {v : ℕ} → 1 ≤ length file → v ≡ getD file 0 0 → v ≢ 1 → askedBin b file ≡ refuse Version
+  unfolding askedBin check
   wrong-version h e n = rw (le-leb 1 (length file) h, ← e, ne-eqb _ _ n)
 
-  module _ {v : ℕ} (h : 1 ≤ length file) (e : v ≡ getD file 0 0) (one : v ≡ 1) where
-    pub no-bin : {r : Refusal} → binIn b file ≡ refuse r → bitmapIn b file ≡ refuse r
-    unfolding bitmapIn check andThen
-    no-bin w = rw (le-leb 1 (length file) h, ← e, eq-eqb _ _ one, w)
+  pub right-version : {v : ℕ} → 1 ≤ length file → v ≡ getD file 0 0 → v ≡ 1 → askedBin b file ≡ binIn b file
+  unfolding askedBin check
+  right-version h e one = rw (le-leb 1 (length file) h, ← e, eq-eqb _ _ one)
 
-    pub the-bin : {x : Bin} → binIn b file ≡ ok x → bitmapIn b file ≡ afterMagic x
-    unfolding bitmapIn check andThen
-    the-bin w = rw (le-leb 1 (length file) h, ← e, eq-eqb _ _ one, w)
+  pub no-bin : {r : Refusal} → askedBin b file ≡ refuse r → bitmapIn b file ≡ refuse r
+  unfolding bitmapIn andThen
+  no-bin w = rw w
+
+  pub the-bin : {x : Bin} → askedBin b file ≡ ok x → bitmapIn b file ≡ afterMagic x
+  unfolding bitmapIn andThen
+  the-bin w = rw w

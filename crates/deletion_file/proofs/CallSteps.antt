@@ -9,7 +9,7 @@ use borrow.Author.Tests.{le-leb, lt-leb}
 use Rattle.refusal.specs.Meaning.{limit}
 use Rattle.refusal.specs.declared.Refusal.{Refusal}
 use Rattle.refusal.specs.declared.Refusal.the-variants.{Bitmap, Range, Room, Limit}
-use Rattle.row_field.specs.Meaning.{count}
+use Rattle.row_field.specs.Meaning.{count, cleared}
 use Rattle.row_field.specs.Promises.{MarkedRows}
 use Rattle.roaring.specs.declared.Extent.the-variants.{Exactly}
 use Rattle.roaring.specs.declared.Measured.{Measured}
@@ -18,9 +18,10 @@ use Rattle.roaring.specs.Promises.{MeasurePromise, SoundBelow}
 use Rattle.roaring.proofs.Measuring.{not-sound, is-sound, rows-measured, measured-sound}
 use Rattle.deletion_file.specs.declared.Deletions.the-variants.{Deleted}
 use Rattle.deletion_file.specs.declared.Deletions.{Deletions}
+use Rattle.deletion_file.specs.declared.Prepared.{Prepared}
 use Rattle.refusal.specs.Reading.{Out, refuse, ok, check, andThen, refusedAs, numbersOf, faultIn}
 use Rattle.deletion_file.specs.Reading.{bitmapIn, binEntry, markBitmap, markBin, deletionsReady, deletions, leftBy, deletionsBuffer, deletionsBy, deletionsOut, deletionsFault, deletionsNumbers}
-use Rattle.deletion_file.specs.Promises.{MarksRows, ClearsIfRoom, DeletionsPromise}
+use Rattle.deletion_file.specs.Promises.{MarksRows, ClearsIfRoom, Prepares, DeletionsPromise}
 
 -- ---- measured, compared, marked
 
@@ -66,12 +67,12 @@ module _ (file : List ℕ) (b n : ℕ) (field : List ℕ) where
   unfolding markBin andThen
   bin-marked e m = record { answer = m .answer ∙ rw e; field = m .field ∙ rw e }
 
-  numbers-so : (o : Out Refusal (List ℕ)) → deletionsOut (deletionsBy n o) ≡ numbersOf 0 (deletionsNumbers n) o
+  pub numbers-so : (o : Out Refusal (List ℕ)) → deletionsOut (deletionsBy n o) ≡ numbersOf 0 (deletionsNumbers n) o
   unfolding deletionsBy deletionsOut deletionsNumbers numbersOf
   numbers-so (refuse r) = refl
   numbers-so (ok marked) = refl
 
-  fault-so : (o : Out Refusal (List ℕ)) → deletionsFault (deletionsBy n o) ≡ faultIn o
+  pub fault-so : (o : Out Refusal (List ℕ)) → deletionsFault (deletionsBy n o) ≡ faultIn o
   unfolding deletionsBy deletionsFault faultIn
   fault-so (refuse r) = refl
   fault-so (ok marked) = refl
@@ -92,24 +93,33 @@ module _ (file : List ℕ) (b n : ℕ) (field : List ℕ) where
   unfolding deletions andThen deletionsBy leftBy
   refused {r} i = said (refuse r) (refuse r) i (rw i) refl refl
 
-  pub long-file : limit < length file → DeletionsPromise file b n field field (Deletions.Refused Limit)
-  unfolding deletionsReady check
-  long-file h = refused (rw (lt-leb (length file) limit h))
+  pub not-prepared : {after : List ℕ} {r : Refusal} → Prepares file n field after (Prepared.Refused r) → DeletionsPromise file b n field after (Deletions.Refused r)
+  not-prepared p = rw (p .1) (refused (p .0))
 
-  pub many-rows : length file ≤ limit → limit < n → DeletionsPromise file b n field field (Deletions.Refused Limit)
+  pub when-prepared : {clear after : List ℕ} {answer : Deletions} → Prepares file n field clear Prepared.Cleared → MarksRows n (markBin file b n) clear after answer
+      → DeletionsPromise file b n field after answer
+  unfolding deletions andThen leftBy
+  when-prepared {clear} p m = said (markBin file b n clear) (ok clear) (p .0) (rw (p .0)) (m .answer) (m .field)
+
+-- ---- what comes before a byte is written
+
+module _ (file : List ℕ) (n : ℕ) (field : List ℕ) where
+  pub long-file : limit < length file → Prepares file n field field (Prepared.Refused Limit)
   unfolding deletionsReady check
-  many-rows h k = refused (rw (le-leb (length file) limit h, lt-leb n limit k))
+  long-file h = (rw (lt-leb (length file) limit h), refl)
+
+  pub many-rows : length file ≤ limit → limit < n → Prepares file n field field (Prepared.Refused Limit)
+  unfolding deletionsReady check
+  many-rows h k = (rw (le-leb (length file) limit h, lt-leb n limit k), refl)
 
   -- whether there was room, and what the field was then
   module _ (h : length file ≤ limit) (k : n ≤ limit) {room : Bool} {clear : List ℕ} (e : ClearsIfRoom n field clear room) where
-    pub no-room : room ≡ false → DeletionsPromise file b n field clear (Deletions.Refused Room)
+    pub no-room : room ≡ false → Prepares file n field clear (Prepared.Refused Room)
     unfolding deletionsReady check
-    no-room t =
-        let same : clear ≡ field = e .field ∙ rw t in
-        rw same (refused (rw (le-leb (length file) limit h, le-leb n limit k, ← e .room, t)))
+    no-room t = (rw (le-leb (length file) limit h, le-leb n limit k, ← e .room, t), e .field ∙ rw t)
 
-    pub with-room : room ≡ true → {answer : Deletions} {after : List ℕ} → MarksRows n (markBin file b n) clear after answer → DeletionsPromise file b n field after answer
-    unfolding deletionsReady deletions check andThen leftBy
-    with-room t m =
-        let i : deletionsReady file n field ≡ ok clear = rw (le-leb (length file) limit h, le-leb n limit k, ← e .room, t) (ap ok (sym (e .field ∙ rw t))) in
-        said (markBin file b n clear) (ok clear) i (rw i) (m .answer) (m .field)
+    pub with-room : room ≡ true → Prepares file n field clear Prepared.Cleared
+    unfolding deletionsReady check
+    with-room t =
+        let c : clear ≡ cleared n field = e .field ∙ rw t in
+        (rw (le-leb (length file) limit h, le-leb n limit k, ← e .room, t) (ap ok (sym c)), c)

@@ -6,7 +6,7 @@ use Rattle.refusal.specs.Reading.{Out}
 use Rattle.refusal.specs.Claims.{CarriesNothing}
 use Rattle.refusal.proofs.CarriesNothing.{bare}
 use Rattle.deletion_file.specs.Layout.{Bin}
-use Rattle.deletion_file.specs.Reading.{Next, over, bin, nextBin, binsBy, bins, binNumbered, binIn, afterMagic, bitmapIn, deletionsReady}
+use Rattle.deletion_file.specs.Reading.{Next, over, bin, nextBin, binsBy, bins, binNumbered, binIn, askedBin, afterMagic, bitmapIn, deletionsReady}
 
 next-bare : (s : List ℕ) → CarriesNothing (nextBin s)
 unfolding nextBin
@@ -29,9 +29,13 @@ numbered-bare zero (x ∷ xs) = tt
 numbered-bare (suc b) [] = tt
 numbered-bare (suc b) (x ∷ xs) = numbered-bare b xs
 
+pub asked-bare : (b : ℕ) (file : List ℕ) → CarriesNothing (askedBin b file)
+unfolding askedBin binIn
+asked-bare b file = search (bare, bins-bare, numbered-bare) depth 6
+
 pub bitmap-bare : (b : ℕ) (file : List ℕ) → CarriesNothing (bitmapIn b file)
-unfolding bitmapIn binIn afterMagic
-bitmap-bare b file = search (bare, bins-bare, numbered-bare) depth 7
+unfolding bitmapIn afterMagic
+bitmap-bare b file = search (bare, asked-bare)
 
 pub ready-bare : (file : List ℕ) (n : ℕ) (buffer : List ℕ) → CarriesNothing (deletionsReady file n buffer)
 unfolding deletionsReady

@@ -17,7 +17,7 @@ use Rattle.roaring.proofs.Measuring.{measured-laid, below-end}
 use Rattle.roaring.proofs.BitmapBytes.{bytes-bitmap}
 use Rattle.deletion_file.specs.Layout.{Bin, magic, binBytes, binOf, frames, Bins, none, more, DeletionFile, version-1, Framed, HoldsBytes, holds-bytes, HasBin, has-bin}
 use Rattle.refusal.specs.Reading.{ok, check, andThen, refusedAs}
-use Rattle.deletion_file.specs.Reading.{binNumbered, binIn, hasMagic, checksumHolds, afterMagic, bitmapIn, markBitmap}
+use Rattle.deletion_file.specs.Reading.{binNumbered, binIn, askedBin, hasMagic, checksumHolds, afterMagic, bitmapIn, markBitmap}
 use Rattle.deletion_file.proofs.Frames.{Between, between-first, between-next, file-has-bin, walk-passes}
 
 bins-framed : {sets : List (List ℕ)} {xs : List Bin} → Bins sets xs → All Framed xs
@@ -59,13 +59,19 @@ pub record LaidBitmap (b : ℕ) (rows file : List ℕ) : Type 0 where
   pub is-bitmap : Bitmap rows bitmap
   pub is-read : bitmapIn b file ≡ ok bitmap
 
--- bytes behind a magic are found, whatever they are
-pub bytes-laid : {b : ℕ} {bytes file : List ℕ} → HoldsBytes b bytes file → bitmapIn b file ≡ ok bytes
-unfolding bitmapIn binIn check andThen
-bytes-laid (holds-bytes earlier later bytes f) =
-    let xs : List Bin = earlier ++ (binOf bytes ∷ later) in
+-- a bin is found, whatever it holds
+pub asked-laid : (earlier : List Bin) (x : Bin) (later : List Bin) → All Framed (earlier ++ (x ∷ later))
+    → askedBin (length earlier) (1 ∷ frames (earlier ++ (x ∷ later))) ≡ ok x
+unfolding askedBin binIn check andThen
+asked-laid earlier x later f =
+    let xs : List Bin = earlier ++ (x ∷ later) in
     let w = walk-passes xs (length (1 ∷ frames xs)) f (omega arith) in
-    rw (le-leb 1 (length (1 ∷ frames xs)) (omega arith), w, bin-there earlier (binOf bytes) later) (magic-laid bytes)
+    rw (le-leb 1 (length (1 ∷ frames xs)) (omega arith), w) (bin-there earlier x later)
+
+-- and so are bytes behind a magic
+pub bytes-laid : {b : ℕ} {bytes file : List ℕ} → HoldsBytes b bytes file → bitmapIn b file ≡ ok bytes
+unfolding bitmapIn andThen
+bytes-laid (holds-bytes earlier later bytes f) = rw (asked-laid earlier (binOf bytes) later f) (magic-laid bytes)
 
 pub bitmap-laid : {b : ℕ} {rows file : List ℕ} → HasBin b rows file → LaidBitmap b rows file
 bitmap-laid (has-bin earlier later {bitmap = bitmap} m f) =

@@ -18,7 +18,7 @@ use Rattle.roaring.specs.Layout.{Bitmap}
 use Rattle.roaring.proofs.RowsRising.{bitmap-rising}
 use Rattle.roaring.proofs.Theorems.{names-the-broken}
 use Rattle.deletion_file.specs.declared.Deletions.the-variants.{Deleted}
-use Rattle.deletion_file.specs.Reading.{bitmapIn, markBitmap, markBin, deletionsReady, deletions, leftBy, deletionsBuffer, deletionsBy}
+use Rattle.deletion_file.specs.Reading.{askedBin, afterMagic, bitmapIn, markBitmap, markBin, deletionsReady, deletions, leftBy, deletionsBuffer, deletionsBy}
 use Rattle.deletion_file.specs.Claims.{Allowed, AnswersRows, BinIsRead, LaidOutIsRead, AcceptedWasLaidOut, OtherVersion, RowsHaveVersion1, NamesTheFault, LooksAtHeldBytes, NothingBeforeBitmap}
 use Rattle.deletion_file.proofs.CarriesNothing.{ready-bare, bitmap-bare}
 use Rattle.deletion_file.proofs.Frames.{file-has-bin}
@@ -89,25 +89,31 @@ accepted-was-laid-out file b n buffer k t e =
 -- ---- 3
 
 -- no stage follows a refusal
-ends : {A B : Type 0} (t : Bool) (r q : Refusal) (k : A → Out Refusal B) → andThen (check t r (refuse q)) k ≡ check t r (refuse q)
+pub ends : {A B : Type 0} (t : Bool) (r q : Refusal) (k : A → Out Refusal B) → andThen (check t r (refuse q)) k ≡ check t r (refuse q)
 unfolding check andThen
 ends true r q k = refl
 ends false r q k = refl
 
+pub asked-no-version : (file : List ℕ) (b : ℕ) → (getD file 0 0 ≡ 1 → ⊥) → askedBin b file ≡ check (leb 1 (length file)) Short (refuse Version)
+unfolding askedBin check
+asked-no-version file b h = rw (ne-eqb (getD file 0 0) 1 h)
+
 no-version : (file : List ℕ) (b n : ℕ) (clear : List ℕ) → (getD file 0 0 ≡ 1 → ⊥) → markBin file b n clear ≡ check (leb 1 (length file)) Short (refuse Version)
-unfolding markBin bitmapIn check
-no-version file b n clear h = rw (ne-eqb (getD file 0 0) 1 h) (ends (leb 1 (length file)) Short Version (λ bytes. markBitmap bytes n clear))
+unfolding markBin bitmapIn
+no-version file b n clear h =
+    rw (asked-no-version file b h, ends (leb 1 (length file)) Short Version afterMagic) (ends (leb 1 (length file)) Short Version (λ bytes. markBitmap bytes n clear))
 
 pub other-version : OtherVersion
 unfolding deletions
 other-version file b n buffer h = then-same (deletionsReady file n buffer) _ _ (λ clear. no-version file b n clear h)
 
 pub rows-have-version-1 : RowsHaveVersion1
-unfolding bitmapIn
+unfolding bitmapIn askedBin
 rows-have-version-1 file b n buffer k e =
     let a = deleted-back n (deletions file b n buffer) e in
     let s = stages file b n buffer (a .0) (a .1) in
-    let c = check-ok (leb 1 (length file)) Short _ _ (s .is-bitmap) in
+    let w = then-ok (askedBin b file) afterMagic _ (s .is-bitmap) in
+    let c = check-ok (leb 1 (length file)) Short _ _ (w .1) in
     let d = check-ok (eqb (getD file 0 0) 1) Version _ _ (c .1) in
     eqb-true (getD file 0 0) 1 (d .0)
 

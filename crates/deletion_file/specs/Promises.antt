@@ -13,9 +13,10 @@ use Rattle.row_field.specs.Meaning.{size, cleared}
 use Rattle.deletion_file.specs.declared.NextBin.{NextBin}
 use Rattle.deletion_file.specs.declared.Place.{Place}
 use Rattle.deletion_file.specs.declared.Place.the-variants.{Refused, At}
+use Rattle.deletion_file.specs.declared.Prepared.{Prepared}
 use Rattle.deletion_file.specs.declared.Deletions.{Deletions}
 use Rattle.deletion_file.specs.Layout.{Bin, numberSize}
-use Rattle.deletion_file.specs.Reading.{over, bin, nextBin, binIn, afterMagic, bitmapIn, deletions, leftBy, deletionsBuffer, deletionsBy, deletionsOut, deletionsFault, deletionsNumbers}
+use Rattle.deletion_file.specs.Reading.{over, bin, nextBin, binIn, askedBin, afterMagic, bitmapIn, deletionsReady, deletions, leftBy, deletionsBuffer, deletionsBy, deletionsOut, deletionsFault, deletionsNumbers}
 
 -- ---- a part of the file
 
@@ -44,10 +45,18 @@ FindsNext at s (NextBin.Bin start end) =
     (nextBin (drop at s) ≡ ok (bin (binFrom (start .0) (end .0) s) (drop (end .0 + numberSize) s)))
     × (start .0 ≡ at + numberSize) × BinFits (start .0) (end .0) (length s)
 
--- `find_bin`: the refusal, or where the bin stands
+-- the refusal of a reading, or where the bin stands that it reads
+abbrev pub BinAt : Out Refusal Bin → List ℕ → Place → Type 0
+BinAt o s (Refused r) = o ≡ refuse r
+BinAt o s (At start end) = (o ≡ ok (binFrom (start .0) (end .0) s)) × BinFits (start .0) (end .0) (length s)
+
+-- `find_bin`
 abbrev pub FindsBin : ℕ → List ℕ → Place → Type 0
-FindsBin b s (Refused r) = binIn b s ≡ refuse r
-FindsBin b s (At start end) = (binIn b s ≡ ok (binFrom (start .0) (end .0) s)) × BinFits (start .0) (end .0) (length s)
+FindsBin b s r = BinAt (binIn b s) s r
+
+-- `asked_bin`
+abbrev pub AsksBin : ℕ → List ℕ → Place → Type 0
+AsksBin b s r = BinAt (askedBin b s) s r
 
 -- the refusal of a reading, or where the bytes stand that it reads
 abbrev pub FindsPart : Out Refusal (List ℕ) → List ℕ → Place → Type 0
@@ -73,6 +82,11 @@ pub record MarksRows (n : ℕ) (reading : List ℕ → Out Refusal (List ℕ)) (
 pub record ClearsIfRoom (n : ℕ) (before after : List ℕ) (r : Bool) : Type 0 where
   pub room : r ≡ leb (size n) (length before)
   pub field : after ≡ cond r (cleared n before) before
+
+-- `prepare`: the refusal of what comes before a byte is written, which leaves the buffer as it was; or the field is cleared
+abbrev pub Prepares : List ℕ → ℕ → List ℕ → List ℕ → Prepared → Type 0
+Prepares file n before after (Prepared.Refused r) = (deletionsReady file n before ≡ refuse r) × (after ≡ before)
+Prepares file n before after Prepared.Cleared = (deletionsReady file n before ≡ ok after) × (after ≡ cleared n before)
 
 -- `read_deletions`: the answer, its numbers, where its fault is and what the buffer holds then
 pub record DeletionsPromise (file : List ℕ) (b n : ℕ) (before after : List ℕ) (r : Deletions) : Type 0 where

@@ -72,12 +72,16 @@ afterMagic x =
     (check (checksumHolds (x .bytes) (x .sum)) Checksum
     (ok (drop numberSize (x .bytes))))
 
--- the bytes that are to be the bitmap of bin b
-unfoldable pub bitmapIn : ℕ → List ℕ → Out Refusal (List ℕ)
-bitmapIn b file =
+-- bin b of a file: SHORT for an empty one, VERSION, the walk, NOBIN
+unfoldable pub askedBin : ℕ → List ℕ → Out Refusal Bin
+askedBin b file =
     check (leb 1 (length file)) Short
     (check (eqb (getD file 0 0) 1) Version
-    (andThen (binIn b file) afterMagic))
+    (binIn b file))
+
+-- the bytes that are to be the bitmap of bin b
+unfoldable pub bitmapIn : ℕ → List ℕ → Out Refusal (List ℕ)
+bitmapIn b file = andThen (askedBin b file) afterMagic
 
 -- ---- the rows
 

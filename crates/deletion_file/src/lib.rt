@@ -4,7 +4,7 @@ ghost use mathlib.Core.Path.{_≡_};
 ghost use lib.ListN.{length};
 ghost use Rattle.deletion_file.specs.Layout.{numberSize};
 ghost use Rattle.deletion_file.specs.Reading.{hasMagic, checksumHolds, markBitmap, markBin};
-ghost use Rattle.deletion_file.specs.Promises.{BinFits, FindsNext, FindsBin, OpensBin, FindsBitmap, MarksRows, ClearsIfRoom, DeletionsPromise};
+ghost use Rattle.deletion_file.specs.Promises.{BinFits, FindsNext, FindsBin, AsksBin, OpensBin, FindsBitmap, MarksRows, ClearsIfRoom, Prepares, DeletionsPromise};
 use numbers::Position;
 use refusal::LIMIT;
 use refusal::Refusal;
@@ -18,13 +18,13 @@ const VERSION_SIZE: usize = 1;
 const MAGIC: u64 = 1_581_511_376;
 
 // The bytes of each of the file's numbers: a size, a magic, a checksum.
-const NUMBER_SIZE: usize = 4;
+pub const NUMBER_SIZE: usize = 4;
 
 // What a bin takes besides its own bytes: its size in front and its checksum behind.
 const FRAME_SIZE: usize = 2 * NUMBER_SIZE;
 
 // The entry's number in a bin's refusals (document 02, Ticket 2).
-const BIN_ENTRY: u64 = 0;
+pub const BIN_ENTRY: u64 = 0;
 
 // What Read deletions answers: a refusal, or how many rows are deleted.
 pub enum Deletions {
@@ -41,9 +41,15 @@ enum NextBin {
 }
 
 // A part of the file: from `start` to `end`.
-enum Place {
+pub enum Place {
     Refused(Refusal),
     At { start: Position, end: Position },
+}
+
+// What comes before a byte of the field is written: a refusal, or the field is cleared.
+pub enum Prepared {
+    Refused(Refusal),
+    Cleared,
 }
 
 // One step of the walk over the bins.
@@ -97,7 +103,7 @@ fn find_bin(file: &[u8], bin: u64) -> Place
 }
 
 // Whether a bin begins with the magic.
-fn has_magic(bin: &[u8]) -> bool
+pub fn has_magic(bin: &[u8]) -> bool
     requires { ⌜ numberSize ≤ length (now bin) ⌝ }
     ensures { λ r. ⌜ r ≡ hasMagic (now (bin .entry)) ⌝ }
 {
@@ -105,7 +111,7 @@ fn has_magic(bin: &[u8]) -> bool
 }
 
 // Whether the stored checksum is that of the whole bin.
-fn checksum_holds(bin: &[u8], stored: u64) -> bool
+pub fn checksum_holds(bin: &[u8], stored: u64) -> bool
     ensures { λ r. ⌜ r ≡ checksumHolds (now (bin .entry)) stored ⌝ }
 {
     crc32::checksum(bin) as u64 == stored
@@ -131,9 +137,9 @@ fn open_bin(file: &[u8], start: Position, end: Position) -> Place
     }
 }
 
-// Where the bytes stand that are to be the bitmap of the asked bin.
-fn find_bitmap(file: &[u8], bin: u64) -> Place
-    ensures { λ r. ⌜ FindsBitmap bin (now (file .entry)) r ⌝ }
+// Where the asked bin stands, if the file isn't empty and has version 1.
+pub fn asked_bin(file: &[u8], bin: u64) -> Place
+    ensures { λ r. ⌜ AsksBin bin (now (file .entry)) r ⌝ }
 {
     if file.len() == 0 {
         return Place::Refused(Refusal::Short);
@@ -141,7 +147,14 @@ fn find_bitmap(file: &[u8], bin: u64) -> Place
     if numbers::byte(file, Position(0)) != 1 {
         return Place::Refused(Refusal::Version);
     }
-    let place = find_bin(file, bin);
+    find_bin(file, bin)
+}
+
+// Where the bytes stand that are to be the bitmap of the asked bin.
+fn find_bitmap(file: &[u8], bin: u64) -> Place
+    ensures { λ r. ⌜ FindsBitmap bin (now (file .entry)) r ⌝ }
+{
+    let place = asked_bin(file, bin);
     match place {
         Place::Refused(r) => Place::Refused(r),
         Place::At { start, end } => open_bin(file, start, end),
@@ -200,18 +213,29 @@ fn clear_if_room(field: &mut [u8], rows: u64) -> bool
     false
 }
 
+// LIMIT of the file's length and of the row count, and ROOM; then the field is cleared.
+pub fn prepare(file: &[u8], rows: u64, field: &mut [u8]) -> Prepared
+    ensures { λ r. ⌜ Prepares (now (file .entry)) rows (now (field .entry)) (now (field .exit)) r ⌝ }
+{
+    if LIMIT < file.len() as u64 {
+        return Prepared::Refused(Refusal::Limit);
+    }
+    if LIMIT < rows {
+        return Prepared::Refused(Refusal::Limit);
+    }
+    if !clear_if_room(field, rows) {
+        return Prepared::Refused(Refusal::Room);
+    }
+    Prepared::Cleared
+}
+
 // Read deletions: the rows of bin number `bin` of a deletion file are set in the field for `rows` rows, and no others. Bytes behind the field stay.
 pub fn read_deletions(file: &[u8], bin: u64, rows: u64, field: &mut [u8]) -> Deletions
     ensures { λ r. ⌜ DeletionsPromise (now (file .entry)) bin rows (now (field .entry)) (now (field .exit)) r ⌝ }
 {
-    if LIMIT < file.len() as u64 {
-        return Deletions::Refused(Refusal::Limit);
+    let prepared = prepare(file, rows, field);
+    match prepared {
+        Prepared::Refused(r) => Deletions::Refused(r),
+        Prepared::Cleared => mark_bin(file, bin, rows, field),
     }
-    if LIMIT < rows {
-        return Deletions::Refused(Refusal::Limit);
-    }
-    if !clear_if_room(field, rows) {
-        return Deletions::Refused(Refusal::Room);
-    }
-    mark_bin(file, bin, rows, field)
 }

@@ -1,31 +1,21 @@
--- The reading's stages one by one: LIMIT and ROOM leave the field untouched, and what follows starts from the cleared field.
+-- What `prepare` and `mark_bin` ensure, one stage after the other: a refusal leaves the field untouched, and what follows starts from the cleared field.
 use borrow.Author.Needs.{needs}
-use borrow.Author.Tests.{not-true, not-false}
-use Rattle.deletion_file.proofs.CallSteps.{long-file, many-rows, no-room, with-room}
+use Rattle.deletion_file.proofs.CallSteps.{not-prepared, when-prepared}
 use Rattle.deletion_file.proofs.read_deletions.Statement.{statement}
 use Rattle.deletion_file.proofs.read_deletions.Tie as tie
 
 returns : tie.Need-returns
-returns c = long-file _ _ _ _ (c .if1 .taken)
+returns c = not-prepared _ _ _ _ (rw (c .before .prepared .given .1) at (c .before .before .before .before .before .prepare .ensures))
 
 returns-2 : tie.Need-returns-2
-returns-2 c = many-rows _ _ _ _ (c .before .if1 .left) (c .if2 .taken)
-
-returns-3 : tie.Need-returns-3
-returns-3 c =
-    let cleared = c .before .before .before in
-    let limits = cleared .before .before in
-    no-room _ _ _ _ (limits .before .if1 .left) (limits .if2 .left) (cleared .clear-if-room .ensures) (not-true _ (c .if3 .taken))
-
-returns-4 : tie.Need-returns-4
-returns-4 c =
-    let room = c .before .before .before .before in
-    let cleared = room .before .before .before in
-    let limits = cleared .before .before in
-    with-room _ _ _ _ (limits .before .if1 .left) (limits .if2 .left) (cleared .clear-if-room .ensures) (not-false _ (room .if3 .left)) (c .before .before .mark-bin .ensures)
+returns-2 c =
+    let marked = c .before .before in
+    let told = marked .before .before in
+    let p = rw (told .enum-told .given .1) at (told .before .before .before .before .prepare .ensures) in
+    when-prepared _ _ _ _ p (marked .mark-bin .ensures)
 
 pub read-deletions-spec : {M : Type 1} → statement M
 read-deletions-spec =
     tie.close
     (tie.spec
-    returns returns-2 (λ c κs. search needs) (λ c. search needs) returns-3 (λ c κs. search needs) (λ c. search needs) returns-4)
+    (λ c κs. search needs) (λ c. search needs) (λ c. search needs) (λ c κs. search needs) (λ c. search needs) returns (λ c. search needs) returns-2)
