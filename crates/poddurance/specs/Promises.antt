@@ -7,6 +7,7 @@ use Rattle.refusal.specs.Reading.{numbersOf, faultIn}
 use Rattle.subtract.specs.Meaning.{recordOf, noRecord}
 use Rattle.subtract.specs.Reading.{subtraction, subtractBuffer, subtractNumbers, recordSubtraction, recordSubtractNumbers}
 use Rattle.deletion_file.specs.Reading.{deletions, deletionsBuffer, deletionsNumbers}
+use Rattle.deletion_window.specs.Reading.{windowDeletions, windowBuffer}
 use Rattle.index_file.specs.Reading.{find, locateNumbers}
 use Rattle.bitmap_index.specs.declared.Question.{Question}
 use Rattle.bitmap_index.specs.Reading.{audit, auditBuffer, auditNumbers, ask, askBuffer, askNumbers}
@@ -18,6 +19,12 @@ pub record ReadDeletions (file : List ℕ) (bin rows : ℕ) (before after : List
   pub numbers : (number, deleted) ≡ numbersOf 0 (deletionsNumbers rows) (deletions file bin rows before)
   pub fault-is : fault ≡ faultIn (deletions file bin rows before)
   pub buffer : after ≡ deletionsBuffer file bin rows before
+
+-- the same through the window of so many rows from `first` on
+pub record ReadWindow (file : List ℕ) (bin first rows : ℕ) (before after : List ℕ) (number deleted : ℕ) (fault : List ℕ) : Type 0 where
+  pub numbers : (number, deleted) ≡ numbersOf 0 (deletionsNumbers rows) (windowDeletions file bin first rows before)
+  pub fault-is : fault ≡ faultIn (windowDeletions file bin first rows before)
+  pub buffer : after ≡ windowBuffer file bin first rows before
 
 -- `before` and `after` are the first buffer's
 pub record Subtract (second : List ℕ) (rows : ℕ) (before after : List ℕ) (number left removed : ℕ) : Type 0 where

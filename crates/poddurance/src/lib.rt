@@ -9,13 +9,14 @@ ghost use Rattle.bitmap_index.specs.Meaning.{question};
 ghost use Rattle.bitmap_index.specs.Reading.{askOut, askFault};
 ghost use Rattle.file_to_answers.specs.Reading.{lookedAt};
 ghost use Rattle.file_to_answers.specs.Promises.{FileAsScan};
-ghost use Rattle.poddurance.specs.Promises.{ReadDeletions, Subtract, SubtractRecord, Locate, Audit, Ask, Open, LookUp, AskFile};
+ghost use Rattle.poddurance.specs.Promises.{ReadDeletions, ReadWindow, Subtract, SubtractRecord, Locate, Audit, Ask, Open, LookUp, AskFile};
 use bitmap_index::Answered;
 use bitmap_index::Audited;
 use bitmap_index::Question;
 use deletion_file::Deletions;
 use file_to_answers::FileAnswer;
 use index_file::Located;
+use numbers::Row;
 use opening::Opened;
 use subtract::RecordSubtracted;
 use subtract::Subtracted;
@@ -38,6 +39,33 @@ pub extern "C" fn poddurance_read_deletions(
         Deletions::Refused(r) => {
             *deleted = 0;
             *fault = refusal::fault(r); // of a bin the container
+            refusal::number(r)
+        }
+        Deletions::Deleted(n) => {
+            *deleted = n;
+            *fault = refusal::NO_FAULT;
+            ACCEPTED
+        }
+    }
+}
+
+#[no_mangle]
+pub extern "C" fn poddurance_read_window(
+    file: &[u8],
+    bin: u64,
+    first: u64,
+    rows: u64,
+    field: &mut [u8],
+    deleted: &mut u64,
+    fault: &mut [u64; 3],
+) -> u8
+    ensures { λ r. ⌜ ReadWindow (now (file .entry)) bin first rows (now (field .entry)) (now (field .exit)) r (now (deleted .exit)) (now (fault .exit)) ⌝ }
+{
+    let answer = deletion_window::read_window(file, bin, Row(first), rows, field);
+    match answer {
+        Deletions::Refused(r) => {
+            *deleted = 0;
+            *fault = refusal::fault(r);
             refusal::number(r)
         }
         Deletions::Deleted(n) => {
