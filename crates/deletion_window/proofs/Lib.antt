@@ -1,0 +1,6 @@
+-- Laws.
+pub mod Bitmaps64
+pub mod InWindows
+pub mod Bins
+pub mod Calls
+pub mod Theorems
