@@ -1,27 +1,28 @@
 -- What is claimed of bins of either kind, read through a window (02, Ticket 8). proofs/Theorems proves each.
 use Prim.Native.Nat.{ℕ, _+_, _<_, _≤_}
 use mathlib.Core.Path.{_≡_}
-use mathlib.Core.Logic.{_↔_}
+use mathlib.Core.Logic.{_↔_, _⊎_}
 use mathlib.Core.Bool.{true}
 use mathlib.Core.List.{List, [], _∷_, _++_}
 use lib.Dec.{leb}
 use lib.ListN.{length, drop, getD}
-use Rattle.numbers.specs.Meaning.{Bytes}
+use Rattle.numbers.specs.Meaning.{le, Bytes}
 use Rattle.refusal.specs.Meaning.{limit}
-use Rattle.refusal.specs.Reading.{Out, refuse, ok, check, andThen}
-use Rattle.refusal.specs.Claims.{CarriesNothing, Bare}
+use Rattle.refusal.specs.Reading.{refuse, ok, check, andThen}
+use Rattle.refusal.specs.Claims.{Bare}
 use Rattle.refusal.specs.declared.Refusal.{Refusal}
-use Rattle.refusal.specs.declared.Refusal.the-variants.{Short, Magic, Version, Bitmap, Range}
+use Rattle.refusal.specs.declared.Refusal.the-variants.{Short, Magic, Version, Bitmap, Range, Checksum}
 use Rattle.row_field.specs.Meaning.{size, bit, fieldOf, Rising}
 use Rattle.window.specs.Meaning.{inWindow}
 use Rattle.roaring.specs.declared.Extent.the-variants.{Exactly}
 use Rattle.roaring.specs.Layout as roaring
 use Rattle.roaring.specs.Faults.{Broken}
 use Rattle.deletion_file.specs.declared.Deletions.the-variants.{Deleted}
-use Rattle.deletion_file.specs.Layout.{DeletionFile, HasBin, binBytes}
-use Rattle.deletion_file.specs.Reading.{askedBin, deletionsReady, deletions, deletionsBy, leftBy}
-use Rattle.deletion_window.specs.Layout.{rowsEnd, Bitmaps, binBytes64, EitherFile, HasBytes, HasRows}
-use Rattle.deletion_window.specs.Reading.{wrong, windowReady, windowDeletions, windowBuffer}
+use Rattle.crc32.specs.Meaning.{checksum}
+use Rattle.deletion_file.specs.Layout.{numberSize, Bin, DeletionFile, HasBin, binBytes}
+use Rattle.deletion_file.specs.Reading.{deletions, deletionsBuffer, deletionsBy}
+use Rattle.deletion_window.specs.Layout.{magic64, rowsEnd, Bitmaps, binBytes64, EitherFile, HasFrame, HasBytes, HasRows}
+use Rattle.deletion_window.specs.Reading.{windowReady, windowDeletions, windowBuffer}
 
 -- ---- rows
 
@@ -33,9 +34,18 @@ pub data Among (r : ℕ) : List ℕ → Type 0 where
 abbrev pub RowsRise : Type 0
 RowsRise = (rows bytes : List ℕ) → Bitmaps rows bytes → Rising 0 rowsEnd rows
 
--- "marks r exactly if row first + r is listed": what a window's field has
+-- "marks r exactly if row first + r is listed": what a window's field has. Its spare bits are 0
 abbrev pub WindowMeans : Type 0
-WindowMeans = (first n r : ℕ) (rows : List ℕ) → r < n → (bit (fieldOf n (inWindow first n rows)) r ≡ true) ↔ Among (first + r) rows
+WindowMeans = (first n r : ℕ) (rows : List ℕ) → (bit (fieldOf n (inWindow first n rows)) r ≡ true) ↔ ((r < n) × Among (first + r) rows)
+
+-- the magic's bytes, and a bin that has row 4294967301, of index 1, in an array
+abbrev pub MagicBytes : Type 0
+MagicBytes = le numberSize magic64 ≡ 209 ∷ 211 ∷ 57 ∷ 100 ∷ []
+
+abbrev pub OneRowBin : Type 0
+OneRowBin =
+    Bitmaps (4294967301 ∷ [])
+    (1 ∷ 0 ∷ 0 ∷ 0 ∷ 0 ∷ 0 ∷ 0 ∷ 0 ∷ 1 ∷ 0 ∷ 0 ∷ 0 ∷ 58 ∷ 48 ∷ 0 ∷ 0 ∷ 1 ∷ 0 ∷ 0 ∷ 0 ∷ 0 ∷ 0 ∷ 0 ∷ 0 ∷ 16 ∷ 0 ∷ 0 ∷ 0 ∷ 5 ∷ 0 ∷ [])
 
 -- ---- 1. laid out, so read
 
@@ -86,9 +96,25 @@ OtherVersion =
     (file : List ℕ) (b first n : ℕ) (buffer : List ℕ) → (getD file 0 0 ≡ 1 → ⊥)
     → windowDeletions file b first n buffer ≡ andThen (windowReady file first n buffer) (λ _. check (leb 1 (length file)) Short (refuse Version))
 
--- ---- 3. where a bin is broken: within the limits, with room, and with a true checksum
+-- ---- 3. what is refused, within the limits and with room
 
--- "any fault behind the magic is BITMAP, container 0": a 64-bit bin is refused exactly if what lies behind its magic is laid out for no rows
+-- the bytes begin with one of the two magics
+abbrev pub WithMagic : List ℕ → Type 0
+WithMagic bytes = (rest : List ℕ) × ((bytes ≡ binBytes rest) ⊎ (bytes ≡ binBytes64 rest))
+
+-- a bin that begins with neither is MAGIC, whatever its checksum
+abbrev pub OtherMagic : Type 0
+OtherMagic =
+    (file : List ℕ) (b first n : ℕ) (buffer : List ℕ) (x : Bin) → Bytes file → HasFrame b x file → Allowed file first n buffer → (WithMagic (x .bytes) → ⊥)
+    → windowDeletions file b first n buffer ≡ refuse Magic
+
+-- one that begins with either and whose checksum is not true is CHECKSUM
+abbrev pub FalseChecksum : Type 0
+FalseChecksum =
+    (file : List ℕ) (b first n : ℕ) (buffer : List ℕ) (x : Bin) → HasFrame b x file → Allowed file first n buffer → WithMagic (x .bytes)
+    → (checksum (x .bytes) ≡ x .sum → ⊥) → windowDeletions file b first n buffer ≡ refuse Checksum
+
+-- "any fault behind the magic is BITMAP, container 0": a 64-bit bin with a true checksum is refused exactly if what lies behind its magic is no layout of any rows
 abbrev pub Faulty64 : Type 0
 Faulty64 =
     (file : List ℕ) (b first n : ℕ) (buffer bytes : List ℕ) (r : Refusal) → Bytes file → HasBytes b (binBytes64 bytes) file → Allowed file first n buffer
@@ -100,29 +126,36 @@ Faulty32 =
     (file : List ℕ) (b first n : ℕ) (buffer bytes : List ℕ) (r : Refusal) → Bytes file → HasBytes b (binBytes bytes) file → Allowed file first n buffer
     → (windowDeletions file b first n buffer ≡ refuse r) ↔ ((i : ℕ) × (r ≡ Bitmap 0 i) × Broken (Exactly (length bytes)) bytes i)
 
--- refusals that come before carry nothing
-abbrev pub NothingBeforeBitmap : Type 0
-NothingBeforeBitmap = (file : List ℕ) (b first n : ℕ) (buffer : List ℕ) → CarriesNothing (windowReady file first n buffer) × CarriesNothing (askedBin b file)
+-- for any bytes: a refusal carries nothing, or it is BITMAP of entry 0. So none is RANGE: "rows outside the window are no fault"
+abbrev pub BitmapOrBare : Refusal → Type 0
+BitmapOrBare r = Bare r ⊎ ((container : ℕ) × (r ≡ Bitmap 0 container))
+
+abbrev pub OnlyBitmapCarries : Type 0
+OnlyBitmapCarries =
+    (file : List ℕ) (b first n : ℕ) (buffer : List ℕ) (r : Refusal) → windowDeletions file b first n buffer ≡ refuse r → BitmapOrBare r
 
 -- ---- 4. beside the call without a window, which reads from row 0 on
 
 pub record AsWithoutWindow (file : List ℕ) (b n : ℕ) (buffer : List ℕ) : Type 0 where
-  -- where that accepts, the answer and the buffer are the same
+  -- where that accepts, the answer is the same
   pub accepted : (marked : List ℕ) → deletions file b n buffer ≡ ok marked → windowDeletions file b 0 n buffer ≡ ok marked
   -- where that says RANGE, the bin is a bitmap of rows, and the answer is those below n
   pub outside : (entry : ℕ) → deletions file b n buffer ≡ refuse (Range entry) → (rows : List ℕ) × HasBin b rows file × AnswersRows file b 0 n buffer rows
   -- any other refusal but MAGIC is the same
   pub refused : (r : Refusal) → deletions file b n buffer ≡ refuse r → (r ≡ Magic → ⊥) → ((entry : ℕ) → r ≡ Range entry → ⊥)
       → windowDeletions file b 0 n buffer ≡ refuse r
+  -- and so is the buffer, but with MAGIC and RANGE
+  pub buffers : (deletions file b n buffer ≡ refuse Magic → ⊥) → ((entry : ℕ) → deletions file b n buffer ≡ refuse (Range entry) → ⊥)
+      → windowBuffer file b 0 n buffer ≡ deletionsBuffer file b n buffer
 
 abbrev pub FromRowZero : Type 0
-FromRowZero = (file : List ℕ) (b n : ℕ) (buffer : List ℕ) → Bytes file → n ≤ limit → AsWithoutWindow file b n buffer
+FromRowZero = (file : List ℕ) (b n : ℕ) (buffer : List ℕ) → Bytes file → AsWithoutWindow file b n buffer
 
--- "01's call without a window still refuses a 64-bit bin as MAGIC", also where what lies behind the magic is wrong
+-- "01's call without a window still refuses a 64-bit bin as MAGIC", also where its checksum or what lies behind the magic is wrong
 abbrev pub WithoutWindowIsMagic : Type 0
 WithoutWindowIsMagic =
-    (file : List ℕ) (b n : ℕ) (buffer bytes : List ℕ) → HasBytes b (binBytes64 bytes) file → length file ≤ limit → n ≤ limit → size n ≤ length buffer
-    → deletions file b n buffer ≡ refuse Magic
+    (file : List ℕ) (b n : ℕ) (buffer bytes : List ℕ) (sum : ℕ) → HasFrame b (record { bytes = binBytes64 bytes; sum = sum }) file → length file ≤ limit → n ≤ limit
+    → size n ≤ length buffer → deletions file b n buffer ≡ refuse Magic
 
 -- ---- 5. two windows side by side give what one over both gives, so a data file can be read in parts
 

@@ -55,7 +55,8 @@ abbrev pub IndexesRise : ℕ → List Indexed → Type 0
 IndexesRise lo [] = Unit {0}
 IndexesRise lo (x ∷ xs) = (lo ≤ x .index) × (x .index < indexEnd) × Bitmap (x .low) (x .bitmap) × IndexesRise (x .index + 1) xs
 
--- the bytes behind the magic: "an 8-byte number of bitmaps", then these, and "the bin ends with the last bitmap"
+-- the bytes behind the magic: "an 8-byte number of bitmaps", then these, and "the bin ends with the last bitmap". Eight bytes hold the number, since indexes rise
+-- below 2 ^ 31
 pub data Bitmaps : List ℕ → List ℕ → Type 0 where
   bitmaps : (xs : List Indexed) → IndexesRise 0 xs → Bitmaps (listed xs) (le countSize (length xs) ++ indexedBytes xs)
 
@@ -85,10 +86,13 @@ pub data EitherFile : List (List ℕ) → List ℕ → Type 0 where
 
 -- ---- a file of which one bin alone is read; what the other bins hold is left open
 
+-- bin b is x, whatever bytes and checksum it has
+pub data HasFrame : ℕ → Bin → List ℕ → Type 0 where
+  has-frame : (earlier later : List Bin) (x : Bin) → All Framed (earlier ++ (x ∷ later)) → HasFrame (length earlier) x (1 ∷ frames (earlier ++ (x ∷ later)))
+
 -- bin b has these bytes, whatever they are, and a true checksum
-pub data HasBytes : ℕ → List ℕ → List ℕ → Type 0 where
-  has-bytes : (earlier later : List Bin) (bytes : List ℕ) → All Framed (earlier ++ (summed bytes ∷ later))
-      → HasBytes (length earlier) bytes (1 ∷ frames (earlier ++ (summed bytes ∷ later)))
+abbrev pub HasBytes : ℕ → List ℕ → List ℕ → Type 0
+HasBytes b bytes file = HasFrame b (summed bytes) file
 
 -- bin b holds the rows, in either kind
 pub record HasRows (b : ℕ) (rows file : List ℕ) : Type 0 where

@@ -11,7 +11,7 @@ use Rattle.roaring.specs.Reading.{Parsed, read}
 use Rattle.deletion_file.specs.declared.Deletions.{Deletions}
 use Rattle.deletion_file.specs.Reading.{deletionsBy, deletionsOut, deletionsFault, deletionsNumbers}
 use Rattle.deletion_window.specs.declared.NextBitmap.{NextBitmap}
-use Rattle.deletion_window.specs.Layout.{indexSize, indexEnd, indexRows, rowsEnd}
+use Rattle.deletion_window.specs.Layout.{indexSize, indexEnd, indexRows}
 use Rattle.deletion_window.specs.Reading.{wrong, nextBitmap, rows64, windowDeletions, windowBuffer}
 
 -- ---- a bitmap of a 64-bit bin
@@ -22,13 +22,14 @@ pub record FoundBitmap (lo at : ℕ) (s : List ℕ) (index start end : ℕ) : Ty
   pub is-read : read (drop start s) ≡ ok bitmap
   pub so : nextBitmap lo (drop at s) ≡ ok (record { index = index; rows = above (index * indexRows) (bitmap .rows); behind = drop end s })
   pub below : index < indexEnd
-  pub behind : start ≡ at + indexSize
+  pub starts : start ≡ at + indexSize
+  pub forward : start ≤ end
   pub inside : end ≤ length s
 
 -- `next_bitmap`: the refusal, or where the bitmap stands
-abbrev pub FindsBitmap : ℕ → ℕ → List ℕ → NextBitmap → Type 0
-FindsBitmap lo at s NextBitmap.Unsound = nextBitmap lo (drop at s) ≡ refuse wrong
-FindsBitmap lo at s (NextBitmap.At index start end) = FoundBitmap lo at s index (start .0) (end .0)
+abbrev pub FindsIndexed : ℕ → ℕ → List ℕ → NextBitmap → Type 0
+FindsIndexed lo at s NextBitmap.Unsound = nextBitmap lo (drop at s) ≡ refuse wrong
+FindsIndexed lo at s (NextBitmap.At index start end) = FoundBitmap lo at s index (start .0) (end .0)
 
 -- `mark_each`: all rows of the window are marked; or, where the bin is refused, some rows below n, which are the program's choice
 abbrev pub MarksEach : ℕ → ℕ → List ℕ → List ℕ → List ℕ → Bool → Type 0

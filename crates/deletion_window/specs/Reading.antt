@@ -26,13 +26,13 @@ abbrev pub wrong : Refusal
 wrong = Bitmap binEntry 0
 
 -- what is read of one index: it, its rows, and what lies behind its bitmap
-pub record Next : Type 0 where
+pub record IndexedRows : Type 0 where
   pub index : ℕ
   pub rows : List ℕ
   pub behind : List ℕ
 
 -- "a 4-byte index .. and a 32-bit bitmap, as long as it is": the index is at least lo and "below 2147483648". "A row is index times 4294967296 plus the low part"
-unfoldable pub nextBitmap : ℕ → List ℕ → Out Refusal Next
+unfoldable pub nextBitmap : ℕ → List ℕ → Out Refusal IndexedRows
 nextBitmap lo s =
     number little indexSize (refuse wrong) s (λ index s. check (leb lo index) wrong (check (ltb index indexEnd) wrong
     (andThen (refusedAs (λ why. wrong) (read s)) (λ p. ok (record { index = index; rows = above (index * indexRows) (p .rows); behind = p .behind })))))
@@ -74,15 +74,15 @@ rowsBehind Bits32 bytes = rows32 bytes
 rowsBehind Bits64 bytes = rows64 bytes
 
 -- the rows of a bin: MAGIC, where it is neither; CHECKSUM; BITMAP
-unfoldable pub rowsOf : Bin → Out Refusal (List ℕ)
-rowsOf x =
+unfoldable pub rowsOfBin : Bin → Out Refusal (List ℕ)
+rowsOfBin x =
     check (known (kindOf (x .bytes))) Magic
     (check (checksumHolds (x .bytes) (x .sum)) Checksum
     (rowsBehind (kindOf (x .bytes)) (drop numberSize (x .bytes))))
 
 -- the rows of bin b of a file: SHORT, VERSION, the walk, NOBIN come first
 unfoldable pub rowsIn : ℕ → List ℕ → Out Refusal (List ℕ)
-rowsIn b file = andThen (askedBin b file) rowsOf
+rowsIn b file = andThen (askedBin b file) rowsOfBin
 
 -- ---- the call: bin b of a file, through the window of n rows from `first` on, into a buffer
 

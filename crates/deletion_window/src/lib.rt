@@ -10,15 +10,16 @@ ghost use Rattle.roaring_mark.specs.Promises.{Accepts};
 ghost use Rattle.deletion_file.specs.Layout.{numberSize};
 ghost use Rattle.deletion_file.specs.Promises.{BinFits, binFrom, MarksRows};
 ghost use Rattle.deletion_window.specs.Layout.{indexEnd, indexRows, rowsEnd};
-ghost use Rattle.deletion_window.specs.Reading.{rows32, rows64, kindOf, rowsOf, rowsIn, markedIn};
+ghost use Rattle.deletion_window.specs.Reading.{rows32, rows64, kindOf, rowsOfBin, rowsIn, markedIn};
 ghost use Rattle.deletion_window.specs.Reading as reading;
-ghost use Rattle.deletion_window.specs.Promises.{FindsBitmap, MarksEach, IsClear, WindowPromise};
+ghost use Rattle.deletion_window.specs.Promises.{FindsIndexed, MarksEach, IsClear, WindowPromise};
 use deletion_file::BIN_ENTRY;
 use deletion_file::Deletions;
 use deletion_file::NUMBER_SIZE;
 use deletion_file::Place;
 use deletion_file::Prepared;
 use numbers::Position;
+use numbers::Row;
 use refusal::Refusal;
 use roaring::Extent;
 use roaring::Measured;
@@ -63,13 +64,13 @@ enum NextBitmap {
 }
 
 // Marks those rows of the bitmap at the front of `bytes`, of this index, that the window has. One that is wholly outside is not looked at again.
-fn mark_indexed(field: &mut [u8], bytes: &[u8], index: u64, first: u64, rows: u64)
-    requires { ⌜ Accepts (read (now bytes)) × (index < indexEnd) × (first + rows ≤ rowsEnd) ⌝ }
-    ensures { λ _. ⌜ now (field .exit) ≡ markAll (now (field .entry)) (inWindow first rows (above (index * indexRows) (rowsRead (read (now (bytes .entry)))))) ⌝ }
+fn mark_indexed(field: &mut [u8], bytes: &[u8], index: u64, first: Row, rows: u64)
+    requires { ⌜ Accepts (read (now bytes)) × (index < indexEnd) × (first .0 + rows ≤ rowsEnd) ⌝ }
+    ensures { λ _. ⌜ now (field .exit) ≡ markAll (now (field .entry)) (inWindow (first .0) rows (above (index * indexRows) (rowsRead (read (now (bytes .entry)))))) ⌝ }
 {
     let whole = Window {
-        low: first,
-        end: first + rows,
+        low: first.0,
+        end: first.0 + rows,
         shift: 0,
     };
     let own = window::clip(whole, index * INDEX_ROWS, INDEX_ROWS);
@@ -82,7 +83,7 @@ fn mark_indexed(field: &mut [u8], bytes: &[u8], index: u64, first: u64, rows: u6
 // One bitmap behind its index, which is at least `least`.
 fn next_bitmap(bytes: &[u8], at: Position, least: u64) -> NextBitmap
     requires { ⌜ at .0 ≤ length (now bytes) ⌝ }
-    ensures { λ r. ⌜ FindsBitmap least (at .0) (now (bytes .entry)) r ⌝ }
+    ensures { λ r. ⌜ FindsIndexed least (at .0) (now (bytes .entry)) r ⌝ }
 {
     let p = at.0;
     if bytes.len() - p < INDEX_SIZE {
@@ -113,9 +114,9 @@ fn next_bitmap(bytes: &[u8], at: Position, least: u64) -> NextBitmap
 
 // Marks the bitmaps behind a 64-bit magic one by one, each once it is measured, and answers whether all are sound and nothing is left over. Where they are not,
 // the field has rows of those before, which the caller takes away.
-fn mark_each(bytes: &[u8], first: u64, rows: u64, field: &mut [u8]) -> bool
-    requires { ⌜ first + rows ≤ rowsEnd ⌝ }
-    ensures { λ r. ⌜ MarksEach first rows (now (bytes .entry)) (now (field .entry)) (now (field .exit)) r ⌝ }
+fn mark_each(bytes: &[u8], first: Row, rows: u64, field: &mut [u8]) -> bool
+    requires { ⌜ first .0 + rows ≤ rowsEnd ⌝ }
+    ensures { λ r. ⌜ MarksEach (first .0) rows (now (bytes .entry)) (now (field .entry)) (now (field .exit)) r ⌝ }
 {
     if bytes.len() < COUNT_SIZE {
         return false;
@@ -139,10 +140,10 @@ fn mark_each(bytes: &[u8], first: u64, rows: u64, field: &mut [u8]) -> bool
     at == bytes.len()
 }
 
-// Marks the rows behind a 64-bit magic in a field for `rows` rows that is clear, and counts them.
-fn mark_bitmaps(bytes: &[u8], first: u64, rows: u64, field: &mut [u8]) -> Deletions
-    requires { ⌜ (first + rows ≤ rowsEnd) × IsClear rows (now field) ⌝ }
-    ensures { λ r. ⌜ MarksRows rows (markedIn first rows (rows64 (now (bytes .entry)))) (now (field .entry)) (now (field .exit)) r ⌝ }
+// Marks the window's rows behind a 64-bit magic in a field for `rows` rows that is clear, and counts them.
+fn mark_bitmaps(bytes: &[u8], first: Row, rows: u64, field: &mut [u8]) -> Deletions
+    requires { ⌜ (first .0 + rows ≤ rowsEnd) × IsClear rows (now field) ⌝ }
+    ensures { λ r. ⌜ MarksRows rows (markedIn (first .0) rows (rows64 (now (bytes .entry)))) (now (field .entry)) (now (field .exit)) r ⌝ }
 {
     if !mark_each(bytes, first, rows, field) {
         row_field::clear(field, rows);
@@ -155,9 +156,9 @@ fn mark_bitmaps(bytes: &[u8], first: u64, rows: u64, field: &mut [u8]) -> Deleti
 }
 
 // The same for the one bitmap behind 01's magic, which fills the bytes. It has the rows of index 0.
-fn mark_bitmap(bytes: &[u8], first: u64, rows: u64, field: &mut [u8]) -> Deletions
-    requires { ⌜ first + rows ≤ rowsEnd ⌝ }
-    ensures { λ r. ⌜ MarksRows rows (markedIn first rows (rows32 (now (bytes .entry)))) (now (field .entry)) (now (field .exit)) r ⌝ }
+fn mark_bitmap(bytes: &[u8], first: Row, rows: u64, field: &mut [u8]) -> Deletions
+    requires { ⌜ first .0 + rows ≤ rowsEnd ⌝ }
+    ensures { λ r. ⌜ MarksRows rows (markedIn (first .0) rows (rows32 (now (bytes .entry)))) (now (field .entry)) (now (field .exit)) r ⌝ }
 {
     let measured = roaring::measure(bytes, Extent::Exactly(bytes.len()));
     match measured {
@@ -199,10 +200,10 @@ fn known(kind: Kind) -> bool
     }
 }
 
-fn mark_behind(kind: Kind, bytes: &[u8], first: u64, rows: u64, field: &mut [u8]) -> Deletions
-    requires { ⌜ (first + rows ≤ rowsEnd) × IsClear rows (now field) ⌝ }
+fn mark_behind(kind: Kind, bytes: &[u8], first: Row, rows: u64, field: &mut [u8]) -> Deletions
+    requires { ⌜ (first .0 + rows ≤ rowsEnd) × IsClear rows (now field) ⌝ }
     ensures { λ r.
-        ⌜ MarksRows rows (markedIn first rows (reading.rowsBehind kind (now (bytes .entry)))) (now (field .entry)) (now (field .exit)) r ⌝ }
+        ⌜ MarksRows rows (markedIn (first .0) rows (reading.rowsBehind kind (now (bytes .entry)))) (now (field .entry)) (now (field .exit)) r ⌝ }
 {
     match kind {
         Kind::Unknown => Deletions::Refused(Refusal::Magic),
@@ -216,13 +217,13 @@ fn mark_held(
     file: &[u8],
     start: Position,
     end: Position,
-    first: u64,
+    first: Row,
     rows: u64,
     field: &mut [u8],
 ) -> Deletions
-    requires { ⌜ BinFits (start .0) (end .0) (length (now file)) × (first + rows ≤ rowsEnd) × IsClear rows (now field) ⌝ }
+    requires { ⌜ BinFits (start .0) (end .0) (length (now file)) × (first .0 + rows ≤ rowsEnd) × IsClear rows (now field) ⌝ }
     ensures { λ r.
-        ⌜ MarksRows rows (markedIn first rows (rowsOf (binFrom (start .0) (end .0) (now (file .entry))))) (now (field .entry)) (now (field .exit)) r ⌝ }
+        ⌜ MarksRows rows (markedIn (first .0) rows (rowsOfBin (binFrom (start .0) (end .0) (now (file .entry))))) (now (field .entry)) (now (field .exit)) r ⌝ }
 {
     let from = start.0;
     let to = end.0;
@@ -238,9 +239,9 @@ fn mark_held(
 }
 
 // Marks the window's rows of the asked bin in a field that is clear, and counts them.
-fn mark_bin(file: &[u8], bin: u64, first: u64, rows: u64, field: &mut [u8]) -> Deletions
-    requires { ⌜ (first + rows ≤ rowsEnd) × IsClear rows (now field) ⌝ }
-    ensures { λ r. ⌜ MarksRows rows (markedIn first rows (rowsIn bin (now (file .entry)))) (now (field .entry)) (now (field .exit)) r ⌝ }
+fn mark_bin(file: &[u8], bin: u64, first: Row, rows: u64, field: &mut [u8]) -> Deletions
+    requires { ⌜ (first .0 + rows ≤ rowsEnd) × IsClear rows (now field) ⌝ }
+    ensures { λ r. ⌜ MarksRows rows (markedIn (first .0) rows (rowsIn bin (now (file .entry)))) (now (field .entry)) (now (field .exit)) r ⌝ }
 {
     let place = deletion_file::asked_bin(file, bin);
     match place {
@@ -250,19 +251,19 @@ fn mark_bin(file: &[u8], bin: u64, first: u64, rows: u64, field: &mut [u8]) -> D
 }
 
 // Whether a window ends past all rows. The sum of two numbers of 64 bits may not fit, so none is made.
-fn ends_past(first: u64, rows: u64) -> bool
-    ensures { λ r. ⌜ r ≡ ltb rowsEnd (first + rows) ⌝ }
+fn ends_past(first: Row, rows: u64) -> bool
+    ensures { λ r. ⌜ r ≡ ltb rowsEnd (first .0 + rows) ⌝ }
 {
-    if ROWS_END < first {
+    if ROWS_END < first.0 {
         return true;
     }
-    ROWS_END - first < rows
+    ROWS_END - first.0 < rows
 }
 
 // Read deletions through a window: of the rows of bin number `bin`, in either kind, those from `first` up to but not first + rows are set in the field for
 // `rows` rows, each counted from `first`, and no others. Bytes behind the field stay.
-pub fn read_window(file: &[u8], bin: u64, first: u64, rows: u64, field: &mut [u8]) -> Deletions
-    ensures { λ r. ⌜ WindowPromise (now (file .entry)) bin first rows (now (field .entry)) (now (field .exit)) r ⌝ }
+pub fn read_window(file: &[u8], bin: u64, first: Row, rows: u64, field: &mut [u8]) -> Deletions
+    ensures { λ r. ⌜ WindowPromise (now (file .entry)) bin (first .0) rows (now (field .entry)) (now (field .exit)) r ⌝ }
 {
     if ends_past(first, rows) {
         return Deletions::Refused(Refusal::Limit);

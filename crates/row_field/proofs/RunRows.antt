@@ -33,11 +33,21 @@ all-rows a (suc c) k =
     let h : (2 ^ suc c - 1) / 2 ≡ 2 ^ c - 1 = omega arith in
     rw (suc-add c k, byteRows-odd (2 ^ suc c - 1) a (c + k) o, h, all-rows (a + 1) c k)
 
-later-rows : (y a l k : ℕ) → byteRows (y * 2 ^ l) a (l + k) ≡ byteRows y (a + l) k
+pub later-rows : (y a l k : ℕ) → byteRows (y * 2 ^ l) a (l + k) ≡ byteRows y (a + l) k
 later-rows y a zero k = rw (zero-add, add-zero, mul-one)
 later-rows y a (suc l) k =
     let e : a + 1 + l ≡ a + suc l = omega arith in
     rw (suc-add l k, byteRows-even (y * 2 ^ suc l) a (l + k) (shifted-even y l), shifted-half y l, later-rows y (a + 1) l k, e)
+
+-- none of them stands past the lowest c
+pub few-rows : (y a c k : ℕ) → y < 2 ^ c → byteRows y a (c + k) ≡ byteRows y a c
+unfolding byteRows
+few-rows y a zero k h =
+    let e : y ≡ 0 = omega arith in
+    rw (zero-add, e) (no-rows a k)
+few-rows y a (suc c) k h =
+    let g = rw pow-suc at h in
+    rw (suc-add c k, few-rows (y / 2) (a + 1) c k (omega arith))
 
 between-rows : (a low high : ℕ) → low ≤ high → high < 8 → byteRows (2 ^ (high + 1) - 2 ^ low) a 8 ≡ upTo (a + low) (high + 1 - low)
 between-rows a low high h g =

@@ -2,3 +2,6 @@
 pub mod Windows
 pub mod Clipping
 pub mod WindowMarks
+pub mod Moved
+pub mod ByteShifts
+pub mod Merges
