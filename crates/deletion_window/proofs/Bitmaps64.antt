@@ -2,13 +2,12 @@
 use Prim.Native.Nat.{ℕ, zero, suc, _+_, _*_, _<_, _≤_}
 use mathlib.Core.Path.{_≡_, refl, sym, ap, _∙_}
 use mathlib.Core.Logic.{_↔_}
-use mathlib.Core.Bool.{Bool, true, false, cond}
 use mathlib.Core.List.{List, [], _∷_, _++_}
 use native.Mathlib.Omega.{arith}
 use lib.Dec.{eqb, leb, ltb}
-use lib.ListN.{length, drop}
+use lib.ListN.{length}
 use borrow.Author.Tests.{le-leb, leb-true, lt-ltb, ltb-true, eqb-true}
-use Rattle.numbers.specs.Meaning.{leAt, le, little, number, Bytes}
+use Rattle.numbers.specs.Meaning.{le, little, Bytes}
 use Rattle.numbers.proofs.ByteLists.{bytes-nil, bytes-append, bytes-le}
 use Rattle.numbers.proofs.Laws.{number-laid, on-number}
 use Rattle.refusal.specs.Reading.{Out, refuse, ok, check, andThen, refusedAs}
@@ -24,7 +23,8 @@ use Rattle.roaring.proofs.Theorems.{laid-out-is-read, read-was-laid-out}
 use Rattle.deletion_file.proofs.Frames.{nothing}
 use Rattle.deletion_file.proofs.Accepted.{bytes-right}
 use Rattle.deletion_window.specs.Layout.{indexEnd, indexRows, rowsEnd, Indexed, indexedBytes, listed, IndexesRise, Bitmaps, bitmaps}
-use Rattle.deletion_window.specs.Reading.{wrong, Next, nextBitmap, bitmapsIn, rows64}
+use Rattle.deletion_window.specs.Reading.{wrong, IndexedRows, nextBitmap, bitmapsIn, rows64}
+use Rattle.deletion_window.proofs.Refusals.{Only, check-only, then-only, number-only}
 
 -- ---- what is laid out
 
@@ -57,7 +57,7 @@ bytes-bitmaps (bitmaps xs g) = bytes-append (le 8 (length xs)) (indexedBytes xs)
 
 -- ---- laid out, so read
 
-abbrev next : Indexed → List ℕ → Next
+abbrev next : Indexed → List ℕ → IndexedRows
 next x behind = record { index = x .index; rows = above (x .index * indexRows) (x .low); behind = behind }
 
 next-laid : (lo : ℕ) (x : Indexed) (t : List ℕ) → lo ≤ x .index → x .index < indexEnd → Bitmap (x .low) (x .bitmap)
@@ -82,7 +82,7 @@ bitmaps-read (bitmaps xs g) =
 -- ---- read, so laid out
 
 -- an index and its bitmap stood at the front of s
-record NextWas (lo : ℕ) (s : List ℕ) (n : Next) : Type 0 where
+record NextWas (lo : ℕ) (s : List ℕ) (n : IndexedRows) : Type 0 where
   indexed : Indexed
   at-least : lo ≤ indexed .index
   below : indexed .index < indexEnd
@@ -91,7 +91,7 @@ record NextWas (lo : ℕ) (s : List ℕ) (n : Next) : Type 0 where
   are-bytes : Bytes (n .behind)
   is : next indexed (n .behind) ≡ n
 
-next-back : (lo : ℕ) (s : List ℕ) (n : Next) → Bytes s → nextBitmap lo s ≡ ok n → NextWas lo s n
+next-back : (lo : ℕ) (s : List ℕ) (n : IndexedRows) → Bytes s → nextBitmap lo s ≡ ok n → NextWas lo s n
 unfolding nextBitmap
 next-back lo s n b e =
     on-number little 4 (refuse wrong) (λ o. o ≡ ok n) (λ s. NextWas lo s n) s _ not-ok b e
@@ -119,17 +119,17 @@ record InWas (count lo : ℕ) (s rows : List ℕ) : Type 0 where
   cut : s ≡ indexedBytes all
   are-rows : listed all ≡ rows
 
-in-more : {count lo : ℕ} {s rows more : List ℕ} {n : Next} → NextWas lo s n → InWas count (n .index + 1) (n .behind) more → n .rows ++ more ≡ rows
+in-more : {count lo : ℕ} {s rows more : List ℕ} {n : IndexedRows} → NextWas lo s n → InWas count (n .index + 1) (n .behind) more → n .rows ++ more ≡ rows
     → InWas (suc count) lo s rows
 in-more {more = more} {n = n} x i e =
     let y = x .indexed in
-    let f : y .index ≡ n .index = ap (λ (m : Next). m .index) (x .is) in
+    let f : y .index ≡ n .index = ap (λ (m : IndexedRows). m .index) (x .is) in
     record {
       all = y ∷ i .all;
       rise = (x .at-least, x .below, x .is-bitmap, rw f (i .rise));
       many = ap suc (i .many);
       cut = x .cut ∙ ap (λ (t : List ℕ). le 4 (y .index) ++ (y .bitmap ++ t)) (i .cut);
-      are-rows = ap (λ (t : List ℕ). above (y .index * indexRows) (y .low) ++ t) (i .are-rows) ∙ ap (λ (m : Next). m .rows ++ more) (x .is) ∙ e;
+      are-rows = ap (λ (t : List ℕ). above (y .index * indexRows) (y .low) ++ t) (i .are-rows) ∙ ap (λ (m : IndexedRows). m .rows ++ more) (x .is) ∙ e;
     }
 
 in-back : (count lo : ℕ) (s rows : List ℕ) → Bytes s → bitmapsIn count lo s ≡ ok rows → InWas count lo s rows
@@ -153,50 +153,28 @@ rows-back bytes rows b e =
 
 -- ---- whatever is wrong is refused alike
 
--- if it is a refusal, it is this one
-abbrev Only : {A : Type 0} → Out Refusal A → Type 0
-Only (refuse r) = r ≡ wrong
-Only (ok a) = Unit {0}
+-- what holds of that refusal holds of every one
+module _ (P : Refusal → Type 0) (p : P wrong) where
+  read-only : (o : Out Fault Parsed) → Only P (refusedAs (λ why. wrong) o)
+  unfolding refusedAs
+  read-only (refuse why) = p
+  read-only (ok q) = tt
 
-module _ {A : Type 0} where
-  check-only : (b : Bool) (x : Out Refusal A) → Only x → Only (check b wrong x)
-  unfolding check
-  check-only true x f = f
-  check-only false x f = refl
+  next-only : (lo : ℕ) (s : List ℕ) → Only P (nextBitmap lo s)
+  unfolding nextBitmap
+  next-only lo s = search (number-only P, check-only P, then-only P, read-only)
 
-  then-only : {B : Type 0} (x : Out Refusal B) (k : B → Out Refusal A) → Only x → ((b : B) → Only (k b)) → Only (andThen x k)
-  unfolding andThen
-  then-only (refuse r) k f g = f
-  then-only (ok b) k f g = g b
+  in-only : (count lo : ℕ) (s : List ℕ) → Only P (bitmapsIn count lo s)
+  unfolding bitmapsIn
+  in-only zero lo s = search (check-only P)
+  in-only (suc count) lo s = search (then-only P, next-only, in-only count)
 
-  number-only : (w : ℕ) (s : List ℕ) (k : ℕ → List ℕ → Out Refusal A) → ((v : ℕ) (t : List ℕ) → Only (k v t)) → Only (number little w (refuse wrong) s k)
-  unfolding number
-  number-only w s k f = by (leb w (length s))
-    where
-      by : (b : Bool) → Only (cond b (k (leAt w s 0) (drop w s)) (refuse wrong))
-      by true = f _ _
-      by false = refl
-
-read-only : (o : Out Fault Parsed) → Only (refusedAs (λ why. wrong) o)
-unfolding refusedAs
-read-only (refuse why) = refl
-read-only (ok p) = tt
-
-next-only : (lo : ℕ) (s : List ℕ) → Only (nextBitmap lo s)
-unfolding nextBitmap
-next-only lo s = search (number-only, check-only, then-only, read-only)
-
-in-only : (count lo : ℕ) (s : List ℕ) → Only (bitmapsIn count lo s)
-unfolding bitmapsIn
-in-only zero lo s = search check-only
-in-only (suc count) lo s = search (then-only, next-only, in-only count)
-
-rows-only : (bytes : List ℕ) → Only (rows64 bytes)
-unfolding rows64
-rows-only bytes = search (number-only, in-only)
+  pub rows-only : (bytes : List ℕ) → Only P (rows64 bytes)
+  unfolding rows64
+  rows-only bytes = search (number-only P, in-only)
 
 wrong-only : (bytes : List ℕ) (r : Refusal) → rows64 bytes ≡ refuse r → r ≡ wrong
-wrong-only bytes r e = rw e at (rows-only bytes)
+wrong-only bytes r e = rw e at (rows-only (λ q. q ≡ wrong) refl bytes)
 
 -- and refused is exactly what is laid out for no rows
 pub refused-64 : (bytes : List ℕ) (r : Refusal) → Bytes bytes → (rows64 bytes ≡ refuse r) ↔ ((r ≡ wrong) × ((rows : List ℕ) → Bitmaps rows bytes → ⊥))

@@ -1,30 +1,32 @@
--- The call, taken apart: its stages, the bits and the count that it leaves, and the stages of the call without a window.
-use Prim.Native.Nat.{ℕ, _+_, _<_, _≤_}
+-- The call, taken apart: its stages, the bits and the count that it leaves, and what it refuses with.
+use Prim.Native.Nat.{ℕ, _+_, _<_}
 use mathlib.Core.Path.{_≡_, refl, sym, ap, _∙_}
-use mathlib.Core.Logic.{_↔_}
-use mathlib.Core.Bool.{Bool, true, false}
+use mathlib.Core.Logic.{_↔_, inl, inr}
+use mathlib.Core.Bool.{Bool, false}
 use mathlib.Core.List.{List}
-use native.Mathlib.Omega.{arith}
 use lib.Dec.{leb}
 use lib.ListN.{length}
 use borrow.Author.Tests.{le-leb, leb-true}
 use Rattle.refusal.specs.Meaning.{limit}
-use Rattle.refusal.specs.Reading.{Out, refuse, ok, check, andThen, refusedAs}
+use Rattle.refusal.specs.Reading.{Out, refuse, ok, check, andThen}
 use Rattle.refusal.specs.declared.Refusal.{Refusal}
-use Rattle.refusal.specs.declared.Refusal.the-variants.{Bitmap, Range, Limit}
+use Rattle.refusal.specs.declared.Refusal.the-variants.{Limit}
 use Rattle.refusal.proofs.Laws.{not-ok, check-ok, then-ok}
+use Rattle.refusal.specs.Claims.{CarriesNothing}
 use Rattle.row_field.specs.Meaning.{size, bit, markAll, cleared, count}
 use Rattle.row_field.proofs.Marks.{member}
-use Rattle.roaring.specs.declared.Extent.the-variants.{Exactly}
-use Rattle.roaring.specs.Reading.{Parsed, containerOf, measured, endOf}
 use Rattle.window.specs.Meaning.{inWindow}
 use Rattle.deletion_file.specs.declared.Deletions.the-variants.{Deleted}
-use Rattle.deletion_file.specs.Reading.{bitmapIn, binEntry, markBitmap, markBin, deletionsReady, deletions, leftBy, deletionsBy}
+use Rattle.deletion_file.specs.Reading.{deletionsReady, leftBy, deletionsBy, askedBin}
 use Rattle.deletion_file.proofs.Accepted.{ready-back, deleted-back}
-use Rattle.deletion_window.specs.Layout.{rowsEnd}
-use Rattle.deletion_window.specs.Reading.{rows32, rowsIn, markedIn, windowReady, windowDeletions, windowBuffer}
-use Rattle.deletion_window.specs.Claims.{Allowed}
-use Rattle.deletion_window.proofs.InWindows.{bit-cleared, bit-marked}
+use Rattle.deletion_file.proofs.CarriesNothing.{asked-bare, ready-bare}
+use Rattle.deletion_window.specs.Layout.{rowsEnd, HasRows}
+use Rattle.deletion_window.specs.Reading.{rowsIn, markedIn, windowReady, windowDeletions, windowBuffer, rowsOfBin}
+use Rattle.deletion_window.specs.Claims.{Allowed, AnswersRows, BitmapOrBare}
+use Rattle.deletion_window.proofs.InWindows.{bit-cleared, bit-marked, field-in, count-in}
+use Rattle.deletion_window.proofs.Bins.{bin-rises, bin-only}
+use Rattle.deletion_window.proofs.Files.{laid-rows}
+use Rattle.deletion_window.proofs.Refusals.{Only, check-only, then-only}
 
 marked-refused : (first n : ℕ) (field : List ℕ) (r : Refusal) (o : Out Refusal (List ℕ)) → (markedIn first n o field ≡ refuse r) ↔ (o ≡ refuse r)
 unfolding markedIn andThen
@@ -71,10 +73,21 @@ module _ (file : List ℕ) (b first n : ℕ) (buffer : List ℕ) (a : Allowed fi
     unfolding windowBuffer leftBy
     bit-so = rw (call-so, ready-so) (bit-go (rowsIn b file))
 
+  -- the rows of a bin that is laid out
+  pub answers-so : (rows : List ℕ) → HasRows b rows file → AnswersRows file b first n buffer rows
+  unfolding windowBuffer deletionsBy leftBy
+  answers-so rows h =
+      let e = marked-so rows (laid-rows h) in
+      record {
+        answer = rw e (ap Deleted (count-in first n buffer rows (a .room) rowsEnd (bin-rises (h .bin))));
+        field = rw e (field-in first n buffer rows (a .room));
+      }
+
 -- ---- what was accepted
 
 module _ (file : List ℕ) (b first n : ℕ) (buffer : List ℕ) where
-  pub accepted-so : {after : List ℕ} → windowDeletions file b first n buffer ≡ ok after → Allowed file first n buffer × ((rows : List ℕ) × (rowsIn b file ≡ ok rows))
+  pub accepted-so : {after : List ℕ} → windowDeletions file b first n buffer ≡ ok after
+      → Allowed file first n buffer × ((rows : List ℕ) × (rowsIn b file ≡ ok rows))
   unfolding windowDeletions windowReady markedIn
   accepted-so e =
       let (clear, is, m) = then-ok (windowReady file first n buffer) _ _ e in
@@ -97,44 +110,22 @@ module _ (file : List ℕ) (b first n : ℕ) (buffer : List ℕ) where
       let f = deleted-so is in
       cc
 
--- ---- without a window, from row 0 on
+-- ---- what it refuses with
 
-pub ready-zero : (file : List ℕ) (n : ℕ) (buffer : List ℕ) → n ≤ limit → windowReady file 0 n buffer ≡ deletionsReady file n buffer
-unfolding windowReady check
-ready-zero file n buffer h = rw (le-leb (0 + n) rowsEnd (omega arith))
+bare-only : {A : Type 0} (o : Out Refusal A) → CarriesNothing o → Only BitmapOrBare o
+bare-only (refuse r) c = inl c
+bare-only (ok a) c = tt
 
--- where that call's refusal comes from
-pub data RefusedAt (file : List ℕ) (b n : ℕ) (buffer : List ℕ) (r : Refusal) : Type 0 where
-  at-ready : deletionsReady file n buffer ≡ refuse r → RefusedAt file b n buffer r
-  at-bin : {clear : List ℕ} → deletionsReady file n buffer ≡ ok clear → bitmapIn b file ≡ refuse r → RefusedAt file b n buffer r
-  at-bitmap : {clear bytes : List ℕ} → deletionsReady file n buffer ≡ ok clear → bitmapIn b file ≡ ok bytes → markBitmap bytes n clear ≡ refuse r
-      → RefusedAt file b n buffer r
+ready-only : (file : List ℕ) (first n : ℕ) (buffer : List ℕ) → Only BitmapOrBare (windowReady file first n buffer)
+unfolding windowReady
+ready-only file first n buffer = check-only BitmapOrBare _ Limit _ (inl tt) (bare-only (deletionsReady file n buffer) (ready-bare file n buffer))
 
-pub refused-at : (file : List ℕ) (b n : ℕ) (buffer : List ℕ) (r : Refusal) → deletions file b n buffer ≡ refuse r → RefusedAt file b n buffer r
-unfolding deletions markBin andThen
-refused-at file b n buffer r e = ready (deletionsReady file n buffer) refl e
-  where
-    bin : {clear : List ℕ} (o : Out Refusal (List ℕ)) → deletionsReady file n buffer ≡ ok clear → bitmapIn b file ≡ o
-        → andThen o (λ bytes. markBitmap bytes n clear) ≡ refuse r → RefusedAt file b n buffer r
-    bin (refuse q) x y f = at-bin x (y ∙ f)
-    bin (ok bytes) x y f = at-bitmap x y f
+rows-in-only : (b : ℕ) (file : List ℕ) → Only BitmapOrBare (rowsIn b file)
+unfolding rowsIn
+rows-in-only b file =
+    then-only BitmapOrBare (askedBin b file) rowsOfBin (bare-only (askedBin b file) (asked-bare b file))
+    (bin-only BitmapOrBare (λ i. inr (i, refl)) (inl tt) (inl tt))
 
-    ready : (o : Out Refusal (List ℕ)) → deletionsReady file n buffer ≡ o → andThen o (markBin file b n) ≡ refuse r → RefusedAt file b n buffer r
-    ready (refuse q) x f = at-ready (x ∙ f)
-    ready (ok clear) x f = bin (bitmapIn b file) x refl f
-
--- what is refused there but for RANGE is refused here
-range-go : (r : Refusal) (t : Bool) (after rows : List ℕ) → check t (Range binEntry) (ok after) ≡ refuse r → ((entry : ℕ) → r ≡ Range entry → ⊥)
-    → _≡_ {A = Out Refusal (List ℕ)} (ok rows) (refuse r)
-unfolding check
-range-go r true after rows e n = absurd (not-ok (sym e))
-range-go r false after rows e n = absurd (n binEntry (cc))
-
-pub bitmap-refused : (bytes field : List ℕ) (n : ℕ) (r : Refusal) → markBitmap bytes n field ≡ refuse r → ((entry : ℕ) → r ≡ Range entry → ⊥) → rows32 bytes ≡ refuse r
-unfolding markBitmap rows32 andThen
-bitmap-refused bytes field n r e f = by (refusedAs (λ why. Bitmap binEntry (containerOf why)) (measured (Exactly (length bytes)) bytes)) e
-  where
-    by : (o : Out Refusal Parsed) → andThen o (λ p. check (leb (endOf (p .rows)) n) (Range binEntry) (ok (markAll field (p .rows)))) ≡ refuse r
-        → andThen o (λ p. ok (p .rows)) ≡ refuse r
-    by (refuse q) g = (let h : q ≡ r = cc in ap refuse h)
-    by (ok p) g = range-go r (leb (endOf (p .rows)) n) _ (p .rows) g f
+pub call-only : (file : List ℕ) (b first n : ℕ) (buffer : List ℕ) → Only BitmapOrBare (windowDeletions file b first n buffer)
+unfolding windowDeletions markedIn
+call-only file b first n buffer = search (then-only BitmapOrBare, ready-only, rows-in-only)

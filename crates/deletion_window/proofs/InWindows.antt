@@ -1,6 +1,7 @@
 -- Rows seen through a window: which of them are set in its field, how many they are, and two windows side by side.
-use Prim.Native.Nat.{ℕ, zero, suc, _+_, _-_, _<_, _≤_}
-use mathlib.Core.Path.{_≡_, refl, _∙_}
+use Prim.Native.Nat.{ℕ, zero, suc, _+_, _-_, _/_, _<_, _≤_}
+use mathlib.Core.Path.{_≡_, refl, sym, _∙_}
+use mathlib.Core.Logic.{_↔_}
 use mathlib.Core.Bool.{Bool, true, false, _||_, or-true}
 use mathlib.Core.List.{List, [], _∷_, _++_}
 use native.Mathlib.Nat.{zero-add, add-zero}
@@ -9,19 +10,19 @@ use native.Mathlib.Omega.{arith}
 use lib.Dec.{eqb}
 use lib.ListN.{length, drop, replicate, length-replicate}
 use borrow.Author.Tests.{eq-eqb, ne-eqb}
-use Rattle.row_field.specs.Meaning.{size, bit, markAll, fieldOf, cleared, Rising, count}
-use Rattle.row_field.proofs.Laws.{bit-zeros}
+use Rattle.row_field.specs.Meaning.{size, bit, markAll, fieldOf, cleared, Rising, Below, count}
+use Rattle.row_field.proofs.Laws.{bit-zeros, bit-out}
 use Rattle.row_field.proofs.RowLists.{rising-more}
-use Rattle.row_field.proofs.Marks.{member, member-append, bit-markAll}
+use Rattle.row_field.proofs.Marks.{member, member-append, member-past, bit-markAll}
 use Rattle.row_field.proofs.Counts.{tally, tally-add, rows-tally, length-zeroed, bit-zeroed}
-use Rattle.row_field.proofs.Fronts.{marked-field, marked-count}
+use Rattle.row_field.proofs.Fronts.{length-field, marked-field, marked-count}
 use Rattle.window.specs.Meaning.{windowed, rowWindow, inWindow}
 use Rattle.window.proofs.Windows.{windowed-in, windowed-low, windowed-high, windowed-rising, windowed-below}
 use Rattle.deletion_window.specs.Claims.{Among, among}
 
 -- ---- one of the rows
 
-pub among-member : {r : ℕ} {rows : List ℕ} → Among r rows → member r rows ≡ true
+among-member : {r : ℕ} {rows : List ℕ} → Among r rows → member r rows ≡ true
 unfolding member
 among-member {r} (among before behind) = member-append r before (r ∷ behind) ∙ rw (eq-eqb r r refl) (or-true (member r before))
 
@@ -32,7 +33,7 @@ member-among-go : (r q : ℕ) (rows : List ℕ) → eqb r q || member r rows ≡
 member-among-go r q rows e f (yes h) = rw h (among [] rows)
 member-among-go r q rows e f (no h) = among-next q (f (rw (ne-eqb r q h) at e))
 
-pub member-among : (r : ℕ) (rows : List ℕ) → member r rows ≡ true → Among r rows
+member-among : (r : ℕ) (rows : List ℕ) → member r rows ≡ true → Among r rows
 unfolding member
 member-among r [] e = absurd (let z : _≡_ {A = ℕ} 0 1 = cc in omega arith)
 member-among r (q ∷ rows) e = member-among-go r q rows e (member-among r rows) (ℕ-discrete r q)
@@ -51,7 +52,7 @@ module _ (first n r : ℕ) (h : r < n) where
   member-go v vs e (no l) (yes m) = rw (windowed-in (rowWindow first n) v vs (omega arith) m, e, same-row v (omega arith) (ℕ-discrete (first + r) v))
   member-go v vs e (no l) (no m) = rw (windowed-high (rowWindow first n) v vs (omega arith), ne-eqb (first + r) v (omega arith)) e
 
-  pub member-in : (rows : List ℕ) → member r (inWindow first n rows) ≡ member (first + r) rows
+  member-in : (rows : List ℕ) → member r (inWindow first n rows) ≡ member (first + r) rows
   unfolding member windowed
   member-in [] = refl
   member-in (v ∷ vs) = member-go v vs (member-in vs) (decLt v first) (decLt v (first + n))
@@ -60,7 +61,7 @@ module _ (first n r : ℕ) (h : r < n) where
   bit-in : (f rows : List ℕ) → size n ≤ length f → bit f r ≡ false → bit (markAll f (inWindow first n rows)) r ≡ member (first + r) rows
   bit-in f rows l e = bit-markAll f (inWindow first n rows) r (omega arith) ∙ rw e (member-in rows)
 
-  pub bit-field : (rows : List ℕ) → bit (fieldOf n (inWindow first n rows)) r ≡ member (first + r) rows
+  bit-field : (rows : List ℕ) → bit (fieldOf n (inWindow first n rows)) r ≡ member (first + r) rows
   bit-field rows = bit-in (replicate (size n) 0) rows (rw length-replicate (omega arith)) (bit-zeros (size n) r)
 
   pub bit-cleared : (buffer : List ℕ) → bit (cleared n buffer) r ≡ false
@@ -69,13 +70,34 @@ module _ (first n r : ℕ) (h : r < n) where
   pub bit-marked : (buffer rows : List ℕ) → size n ≤ length buffer → bit (markAll (cleared n buffer) (inWindow first n rows)) r ≡ member (first + r) rows
   bit-marked buffer rows l = bit-in (cleared n buffer) rows (rw length-zeroed l) (bit-cleared buffer)
 
+-- ---- no row is set past the window's length
+
+in-below : (first n : ℕ) (rows : List ℕ) → Below n (inWindow first n rows)
+in-below first n rows =
+    let e : 0 + (first + n - first) ≡ n = omega arith in
+    rw e at (windowed-below (rowWindow first n) rows)
+
+spare-go : (first n r : ℕ) (rows : List ℕ) → n ≤ r → Dec (r / 8 < size n) → bit (fieldOf n (inWindow first n rows)) r ≡ false
+spare-go first n r rows h (yes l) =
+    bit-markAll (replicate (size n) 0) (inWindow first n rows) r (rw length-replicate l)
+    ∙ rw (bit-zeros (size n) r) (member-past r n (inWindow first n rows) h (in-below first n rows))
+spare-go first n r rows h (no l) = bit-out (fieldOf n (inWindow first n rows)) r (rw (length-field n (inWindow first n rows)) (omega arith))
+
+means-go : (first n r : ℕ) (rows : List ℕ) → Dec (r < n) → (bit (fieldOf n (inWindow first n rows)) r ≡ true) ↔ ((r < n) × Among (first + r) rows)
+means-go first n r rows (yes h) =
+    (λ e. (h, member-among (first + r) rows (sym (bit-field first n r h rows) ∙ e)), λ w. bit-field first n r h rows ∙ among-member (w .1))
+means-go first n r rows (no h) =
+    let f = spare-go first n r rows (omega arith) (decLt (r / 8) (size n)) in
+    (λ e. absurd (let z : _≡_ {A = ℕ} 0 1 = cc in omega arith), λ w. absurd (h (w .0)))
+
+pub field-means : (first n r : ℕ) (rows : List ℕ) → (bit (fieldOf n (inWindow first n rows)) r ≡ true) ↔ ((r < n) × Among (first + r) rows)
+field-means first n r rows = means-go first n r rows (decLt r n)
+
 -- ---- the rows of a window, marked in the cleared field
 
 module _ (first n : ℕ) (buffer rows : List ℕ) (room : size n ≤ length buffer) where
   pub field-in : markAll (cleared n buffer) (inWindow first n rows) ≡ fieldOf n (inWindow first n rows) ++ drop (size n) buffer
-  field-in =
-      let e : 0 + (first + n - first) ≡ n = omega arith in
-      marked-field n buffer (inWindow first n rows) room (rw e at (windowed-below (rowWindow first n) rows))
+  field-in = marked-field n buffer (inWindow first n rows) room (in-below first n rows)
 
   pub count-in : (hi : ℕ) → Rising 0 hi rows → count (markAll (cleared n buffer) (inWindow first n rows)) n ≡ length (inWindow first n rows)
   count-in hi s =
