@@ -18,7 +18,7 @@ use Rattle.deletion_file.specs.Layout.{Bin, magic}
 use Rattle.deletion_file.specs.Reading.{binIn, askedBin, hasMagic, checksumHolds, afterMagic, bitmapIn}
 use Rattle.deletion_file.specs.Promises.{part, binFrom}
 
-drop-take : {A : Type 0} (m n : ℕ) (l : List A) → drop m (take n l) ≡ take (n - m) (drop m l)
+pub drop-take : {A : Type 0} (m n : ℕ) (l : List A) → drop m (take n l) ≡ take (n - m) (drop m l)
 drop-take zero n l = rw (let e : n - 0 ≡ n = omega arith in e)
 drop-take (suc m) zero l = rw (let e : 0 - suc m ≡ 0 = omega arith in e)
 drop-take (suc m) (suc n) [] = sym (take-nil (suc n - suc m))

@@ -24,7 +24,7 @@ use Rattle.deletion_file.specs.Promises.{binFrom, BinFits, FindsBin}
 
 -- ---- one stage after the other
 
-then-then : {A B C : Type 0} (o : Out Refusal A) (f : A → Out Refusal B) (g : B → Out Refusal C) → andThen (andThen o f) g ≡ andThen o (λ a. andThen (f a) g)
+pub then-then : {A B C : Type 0} (o : Out Refusal A) (f : A → Out Refusal B) (g : B → Out Refusal C) → andThen (andThen o f) g ≡ andThen o (λ a. andThen (f a) g)
 unfolding andThen
 then-then (refuse r) f g = refl
 then-then (ok a) f g = refl

@@ -1,4 +1,4 @@
--- Laws of numbers seen through a window, of a window seen from a base on, and of what is marked through one.
+-- Laws of numbers seen through a window, of a window seen from a base on, of bits that are moved, and of what is marked.
 pub mod Windows
 pub mod Clipping
 pub mod WindowMarks

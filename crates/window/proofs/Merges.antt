@@ -1,21 +1,23 @@
 -- What merging bits marks: within a byte, and in a part that is lent.
-use Prim.Native.Nat.{ℕ, zero, suc, _+_, _-_, _*_, _/_, _%_, _^_, _<_, _≤_, min}
-use mathlib.Core.Path.{_≡_, refl, sym, ap, _∙_}
+use Prim.Native.Nat.{ℕ, _+_, _-_, _*_, _/_, _%_, _^_, _<_, _≤_, min}
+use mathlib.Core.Path.{_≡_, refl, sym, _∙_}
 use mathlib.Core.Bool.{Bool, false, _||_}
-use mathlib.Core.List.{List, _++_, append-nil}
+use mathlib.Core.List.{List, append-nil}
 use native.Mathlib.Nat.{add-zero}
 use native.Mathlib.Decide.{decLe}
 use native.Mathlib.Omega.{arith}
 use lib.ListN.{length, take, drop, length-take, length-drop}
 use borrow.Rule.Slice.PartMut.{midOf, putMid}
 use Rattle.numbers.specs.Meaning.{Bytes}
-use Rattle.row_field.specs.Meaning.{bit, above, Rising, rowsFrom, rowsOf}
+use Rattle.row_field.specs.Meaning.{above, Rising, rowsOf}
 use Rattle.row_field.specs.Promises.{byteRows, MarkedRows, MarkedInTurn}
 use Rattle.row_field.proofs.RowLists.{rising-below, above-rising, rowsOf-rising}
 use Rattle.row_field.proofs.Marks.{Past, anySeen-rising, part-marked, part-set}
 use Rattle.row_field.proofs.Loops.{in-turn, marks-first, marks-part, marks-past, marks-done}
+use Rattle.window.specs.declared.Window.{Window}
+use Rattle.window.specs.Meaning.{windowed}
 use Rattle.window.specs.Promises.{eightFrom, moved}
-use Rattle.window.proofs.Moved.{moved-rising, moved-past, moved-part, moved-above, rows-moved}
+use Rattle.window.proofs.Moved.{moved-rising, moved-past, moved-part, moved-above, rows-moved, moved-parts, windowed-bits}
 use Rattle.window.proofs.ByteShifts.{within-byte}
 
 -- ---- within a byte
@@ -88,6 +90,24 @@ module _ (f : List ℕ) (a k from to : ℕ) (p : from ≡ min a (length f)) (q :
 
 -- ---- in three parts, one after the other
 
-pub three-marked : {whole xs ys zs f f₁ f₂ f₃ : List ℕ} {was₁ was₂ was₃ : Bool} → whole ≡ xs ++ (ys ++ zs)
-    → MarkedInTurn f f₁ xs was₁ → MarkedInTurn f₁ f₂ ys was₂ → MarkedInTurn f₂ f₃ zs was₃ → MarkedInTurn f f₃ whole ((was₁ || was₂) || was₃)
-three-marked {whole} {zs = zs} {f = f} e x y z = marks-done (marks-part (marks-part (marks-part (marks-first whole f) e x) refl y) (sym (append-nil zs)) z) refl
+module _ (w : Window) (g : List ℕ) (head : ℕ) where
+  abbrev byte : ℕ
+  byte = (w .shift + 8 - 1) / 8
+
+  abbrev next : ℕ
+  next = w .low + head
+
+  abbrev count : ℕ
+  count = (w .end - next) / 8
+
+  abbrev left : ℕ
+  left = next + 8 * count
+
+  pub window-marked : w .low ≤ w .end → w .end ≤ length g * 8 → w .shift < 8 → head ≡ min ((8 - w .shift) % 8) (w .end - w .low)
+      → {f f₁ f₂ f₃ : List ℕ} {was₁ was₂ was₃ : Bool} → MarkedInTurn f f₁ (moved g (w .low) (0 * 8 + w .shift) head) was₁
+      → MarkedInTurn f₁ f₂ (moved g next (byte * 8) (count * 8)) was₂ → MarkedInTurn f₂ f₃ (moved g left ((byte + count) * 8 + 0) (w .end - left)) was₃
+      → MarkedInTurn f f₃ (windowed w (rowsOf g)) ((was₁ || was₂) || was₃)
+  window-marked o l s h {f} x y z =
+      let parts = windowed-bits w g o l ∙ moved-parts g (w .low) (w .shift) (w .end) head byte count o s h refl refl in
+      let whole = marks-first (windowed w (rowsOf g)) f in
+      marks-done (marks-part (marks-part (marks-part whole parts x) refl y) (sym (append-nil (moved g left ((byte + count) * 8 + 0) (w .end - left)))) z) refl

@@ -1,15 +1,15 @@
 -- Laws of bits that are moved: in turn, rising, past a part's end, of a part of a field, and seen through a window.
 use Prim.Native.Nat.{ℕ, zero, suc, _+_, _-_, _*_, _/_, _%_, _<_, _≤_, min}
-use mathlib.Core.Path.{_≡_, refl, sym, ap, _∙_}
+use mathlib.Core.Path.{_≡_, refl, _∙_}
 use mathlib.Core.Bool.{Bool, true, false, cond}
-use mathlib.Core.List.{List, [], _∷_, _++_, append-nil}
+use mathlib.Core.List.{List, _∷_, _++_, append-nil}
 use native.Mathlib.Nat.{zero-add, add-zero, suc-add, sub-self, min-eq-left}
 use native.Mathlib.Decide.{decLe}
 use native.Mathlib.Omega.{arith}
-use lib.ListN.{length, getD, take, drop}
+use lib.ListN.{length, take, drop}
 use lib.Seq.{getD-take, getD-drop}
 use Rattle.row_field.specs.Meaning.{bit, above, Rising, rowsFrom, rowsOf}
-use Rattle.row_field.proofs.RowLists.{rising-cond, rising-more, cond-append, rowsFrom-append, rowsFrom-rising}
+use Rattle.row_field.proofs.RowLists.{rising-cond, cond-append, rowsFrom-append, rowsFrom-rising}
 use Rattle.row_field.proofs.Marks.{Past, rising-past}
 use Rattle.window.specs.declared.Window.{Window}
 use Rattle.window.specs.Meaning.{windowed}
@@ -20,7 +20,7 @@ use Rattle.window.proofs.Windows.{windowed-in, windowed-append, all-low
 
 pub moved-append : (f : List ℕ) (from to j k : ℕ) → moved f from to (j + k) ≡ moved f from to j ++ moved f (from + j) (to + j) k
 unfolding moved
-moved-append f from to zero k = rw (zero-add, add-zero, add-zero)
+moved-append f from to zero k = rw (zero-add k, add-zero from, add-zero to)
 moved-append f from to (suc j) k =
     let a : from + 1 + j ≡ from + suc j = omega arith in
     let b : to + 1 + j ≡ to + suc j = omega arith in
@@ -113,7 +113,7 @@ module _ (g : List ℕ) (low shift end head at count : ℕ) (o : low ≤ end) (s
 
 -- ---- through a window
 
--- where each row's own bit is counted
+-- a row that counts, if it is set
 windowed-cond : (w : Window) (b : Bool) (v : ℕ) (vs : List ℕ) → w .low ≤ v → v < w .end
     → windowed w (cond b (v ∷ vs) vs) ≡ cond b ((v - w .low + w .shift) ∷ windowed w vs) (windowed w vs)
 windowed-cond w true v vs h l = windowed-in w v vs h l
