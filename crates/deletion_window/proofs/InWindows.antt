@@ -17,7 +17,7 @@ use Rattle.row_field.proofs.Marks.{member, member-append, member-past, bit-mark
 use Rattle.row_field.proofs.Counts.{tally, tally-add, rows-tally, length-zeroed, bit-zeroed}
 use Rattle.row_field.proofs.Fronts.{length-field, marked-field, marked-count}
 use Rattle.window.specs.Meaning.{windowed, rowWindow, inWindow}
-use Rattle.window.proofs.Windows.{windowed-in, windowed-low, windowed-high, windowed-rising, windowed-below}
+use Rattle.window.proofs.Windows.{on-windowed, windowed-rising, windowed-below}
 use Rattle.deletion_window.specs.Claims.{Among, among}
 
 -- ---- one of the rows
@@ -45,17 +45,15 @@ module _ (first n r : ℕ) (h : r < n) where
   same-row v l (yes e) = rw (eq-eqb (first + r) v e) (eq-eqb r (v - first + 0) (omega arith))
   same-row v l (no e) = rw (ne-eqb (first + r) v e) (ne-eqb r (v - first + 0) (λ x. e (omega arith)))
 
-  member-go : (v : ℕ) (vs : List ℕ) → member r (inWindow first n vs) ≡ member (first + r) vs → Dec (v < first) → Dec (v < first + n)
-      → member r (inWindow first n (v ∷ vs)) ≡ member (first + r) (v ∷ vs)
-  unfolding member
-  member-go v vs e (yes l) d = rw (windowed-low (rowWindow first n) v vs l, ne-eqb (first + r) v (omega arith)) e
-  member-go v vs e (no l) (yes m) = rw (windowed-in (rowWindow first n) v vs (omega arith) m, e, same-row v (omega arith) (ℕ-discrete (first + r) v))
-  member-go v vs e (no l) (no m) = rw (windowed-high (rowWindow first n) v vs (omega arith), ne-eqb (first + r) v (omega arith)) e
-
   member-in : (rows : List ℕ) → member r (inWindow first n rows) ≡ member (first + r) rows
   unfolding member windowed
   member-in [] = refl
-  member-in (v ∷ vs) = member-go v vs (member-in vs) (decLt v first) (decLt v (first + n))
+  member-in (v ∷ vs) =
+      let i = member-in vs in
+      on-windowed (rowWindow first n) v vs (λ rs. member r rs ≡ member (first + r) (v ∷ vs))
+      (λ l. rw (ne-eqb (first + r) v (omega arith)) i)
+      (λ l m. rw (same-row v l (ℕ-discrete (first + r) v), i))
+      (λ l. rw (ne-eqb (first + r) v (omega arith)) i)
 
   -- marked in a field that has not row r yet
   bit-in : (f rows : List ℕ) → size n ≤ length f → bit f r ≡ false → bit (markAll f (inWindow first n rows)) r ≡ member (first + r) rows
