@@ -183,6 +183,15 @@ unfolding markAll mark
 cleared-marked n f [] b = refl
 cleared-marked n f (r ∷ rows) b = cleared-marked n (mark f r) rows (b .1) ∙ zeroed-set (size n) f (r / 8) _ (omega arith)
 
+zeroed-again : (k : ℕ) (f : List ℕ) → zeroed k (zeroed k f) ≡ zeroed k f
+unfolding zeroed
+zeroed-again zero f = refl
+zeroed-again (suc k) [] = refl
+zeroed-again (suc k) (x ∷ f) = ap (λ (g : List ℕ). 0 ∷ g) (zeroed-again k f)
+
+pub is-clear : (n : ℕ) (f : List ℕ) {clear : List ℕ} → clear ≡ cleared n f → IsClear n clear
+is-clear n f e = rw e (zeroed-again (size n) f)
+
 module _ (first n : ℕ) (bytes before after : List ℕ) (all : Bool) (w : MarksEach first n bytes before after all) where
   pub taken-back : all ≡ false → IsClear n before → {field : List ℕ} → field ≡ cleared n after
       → MarksRows n (markedIn first n (rows64 bytes)) before field (Deletions.Refused wrong)

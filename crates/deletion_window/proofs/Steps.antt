@@ -7,8 +7,8 @@ use mathlib.Core.List.{List, _++_}
 use native.Mathlib.Decide.{decLt}
 use native.Mathlib.Omega.{arith}
 use lib.Dec.{leb, ltb}
-use lib.ListN.{length, drop, length-drop, length-append}
-use lib.Seq.{drop-drop, drop-append-seam}
+use lib.ListN.{length, take, drop, length-drop, length-append}
+use lib.Seq.{take-all, drop-drop, drop-append-seam}
 use borrow.Author.Tests.{le-leb, lt-leb, lt-ltb, le-ltb, eq-eqb, ne-eqb, ltb-true, ltb-false}
 use Rattle.numbers.specs.Meaning.{leAt, beAt, little, Bytes}
 use Rattle.numbers.proofs.ByteLists.{bytes-drop}
@@ -33,7 +33,7 @@ use Rattle.deletion_file.proofs.CallSteps.{numbers-so, fault-so}
 use Rattle.deletion_window.specs.declared.Kind.{Kind}
 use Rattle.deletion_window.specs.declared.Kind.the-variants.{Unknown, Bits32, Bits64}
 use Rattle.deletion_window.specs.Layout.{magic64, indexEnd, indexRows, rowsEnd}
-use Rattle.deletion_window.specs.Reading.{wrong, IndexedRows, nextBitmap, hasMagic64, kindOf, known, rowsBehind, rowsOfBin, rowsIn, markedIn, windowReady, windowDeletions, windowBuffer}
+use Rattle.deletion_window.specs.Reading.{wrong, IndexedRows, nextBitmap, rows64, rows32, hasMagic64, kindOf, known, rowsBehind, rowsOfBin, rowsIn, markedIn, windowReady, windowDeletions, windowBuffer}
 use Rattle.deletion_window.specs.Promises.{FoundBitmap, WindowPromise}
 
 -- ---- a window that ends past all rows
@@ -66,6 +66,10 @@ module _ (bytes : List ℕ) {has : Bool} (e : has ≡ hasMagic bytes) where
     kind-none m = rw (← e, f, ← g, ne-eqb v magic64 m)
 
 -- ---- a bitmap behind its index, at a position
+
+-- all that is left, lent as a part
+pub to-end : (p : ℕ) (s : List ℕ) → take (length s - p) (drop p s) ≡ drop p s
+to-end p s = take-all (length s - p) (drop p s) (rw length-drop (omega arith))
 
 module _ (lo : ℕ) (s : List ℕ) (p : ℕ) where
   pub next-cut : length s - p < 4 → nextBitmap lo (drop p s) ≡ refuse wrong
@@ -134,6 +138,21 @@ module _ (first n : ℕ) {field : List ℕ} where
   pub marks-same : (o q : Out Refusal (List ℕ)) → o ≡ q → {after : List ℕ} {answer : Deletions} → MarksRows n (markedIn first n q) field after answer
       → MarksRows n (markedIn first n o) field after answer
   marks-same o q e m = rw e m
+
+-- ---- what a kind leads to
+
+module _ (bytes : List ℕ) {kind : Kind} where
+  pub behind-unknown : kind ≡ Unknown → rowsBehind kind bytes ≡ refuse Magic
+  unfolding rowsBehind
+  behind-unknown e = ap (λ (k : Kind). rowsBehind k bytes) e
+
+  pub behind-32 : kind ≡ Bits32 → rowsBehind kind bytes ≡ rows32 bytes
+  unfolding rowsBehind
+  behind-32 e = ap (λ (k : Kind). rowsBehind k bytes) e
+
+  pub behind-64 : kind ≡ Bits64 → rowsBehind kind bytes ≡ rows64 bytes
+  unfolding rowsBehind
+  behind-64 e = ap (λ (k : Kind). rowsBehind k bytes) e
 
 -- ---- a bin at its place of the file
 

@@ -1,53 +1,35 @@
+-- `mark_bitmap` meets its contract: what `measure` and `mark_indexed` ensure, put into the reading.
 use borrow.Author.Needs.{needs}
+use native.Mathlib.Omega.{arith}
+use Rattle.deletion_window.proofs.Marking.{unsound-so, sound-so, marked-so}
 use Rattle.deletion_window.proofs.mark_bitmap.Statement.{statement}
 use Rattle.deletion_window.proofs.mark_bitmap.Tie as tie
-use Rattle.deletion_window.proofs.mark_bitmap.Reads as reads
-use Rattle.deletion_window.proofs.mark_bitmap.Lts as lts
-use Rattle.deletion_window.proofs.mark_indexed.Reads as mark-indexed-reads
-use Rattle.roaring.proofs.measure.Reads as measure-reads
-use Rattle.row_field.proofs.count.Reads as count-reads
 
--- src/lib.rt:163:9
-measure-requires : tie.Need-measure-requires
-measure-requires c κs = search needs
-
--- src/lib.rt:165:27
-enum-known-measured : tie.Need-enum-known-measured
-enum-known-measured c = search needs
-
--- src/lib.rt:174:26
-enum-told : tie.Need-enum-told
-enum-told c = search needs
-
--- src/lib.rt:174:13
 mark-indexed-requires : tie.Need-mark-indexed-requires
-mark-indexed-requires c κs = ?
+mark-indexed-requires c κs =
+    let told = c .before in
+    let known = told .before .before .before .before in
+    let start = known .before in
+    let a = start .args in (
+      sound-so (a .first .0) (a .rows) (a .field .now) (a .bytes .now) (told .before .before .measure .ensures) (told .enum-told .given .1) (λ i. known .shared-slice-known .given i .fits),
+      omega arith,
+      start .pre,
+    )
 
--- src/lib.rt:175:32
-count-requires : tie.Need-count-requires
-count-requires c κs = search needs
-
--- src/lib.rt:159:1
 returns : tie.Need-returns
-returns c = ?
+returns c = unsound-so _ _ _ _ (c .before .before .before .measure .ensures) (c .before .measured .given .1)
 
--- src/lib.rt:159:1
-same-length : tie.Need-same-length
-same-length c = search needs
-
--- src/lib.rt:159:1
 returns-2 : tie.Need-returns-2
-returns-2 c = ?
+returns-2 c =
+    let marked = c .before .before .before .before in
+    let told = marked .before .before in
+    let known = told .before .before .before .before in
+    let a = known .before .args in
+    marked-so (a .first .0) (a .rows) (a .field .now) (a .bytes .now) (told .before .before .measure .ensures) (told .enum-told .given .1)
+    (λ i. known .shared-slice-known .given i .fits) (marked .mark-indexed .ensures) (c .count .ensures)
 
 pub mark-bitmap-spec : {M : Type 1} → statement M
 mark-bitmap-spec =
     tie.close
     (tie.spec
-    measure-requires
-    enum-known-measured
-    enum-told
-    mark-indexed-requires
-    count-requires
-    returns
-    same-length
-    returns-2)
+    (λ c κs. search needs) (λ c. search needs) (λ c. search needs) mark-indexed-requires (λ c κs. search needs) returns (λ c. search needs) returns-2)

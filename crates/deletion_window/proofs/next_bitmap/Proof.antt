@@ -3,7 +3,7 @@ use borrow.Author.Needs.{needs}
 use native.Mathlib.Omega.{arith}
 use Prim.Native.Nat.{_+_}
 use Rattle.deletion_window.specs.Promises.{FoundBitmap}
-use Rattle.deletion_window.proofs.Steps.{next-cut, next-low, next-high, next-unsound, next-found}
+use Rattle.deletion_window.proofs.Steps.{to-end, next-cut, next-low, next-high, next-unsound, next-found}
 use Rattle.deletion_window.proofs.next_bitmap.Statement.{statement}
 use Rattle.deletion_window.proofs.next_bitmap.Tie as tie
 
@@ -31,7 +31,7 @@ found c =
     let index = c .before .before .before .before .before .before .before in
     let a = index .before .before .before .args in
     next-found (a .least) (a .bytes .now) (a .at .0) (omega arith) (index .le32 .ensures .0) (c .before .before .before .before .before .before .if2 .left)
-    (c .before .before .before .before .before .if3 .left) (c .before .before .before .measure .ensures) (c .before .measured .given .1) (λ i. index .before .before .shared-slice-known .given i .fits)
+    (c .before .before .before .before .before .if3 .left) (rw (to-end (a .at .0 + 4) (a .bytes .now)) at (c .before .before .before .measure .ensures)) (c .before .measured .given .1) (λ i. index .before .before .shared-slice-known .given i .fits)
 
 add-t19 : tie.Need-add-t19
 add-t19 c = let w = found c in record { fits = omega arith }
@@ -41,7 +41,7 @@ returns-4 c =
     let index = c .before .before .before .before .before .before in
     let a = index .before .before .before .args in
     next-unsound (a .least) (a .bytes .now) (a .at .0) (omega arith) (index .le32 .ensures .0) (c .before .before .before .before .before .if2 .left)
-    (c .before .before .before .before .if3 .left) (c .before .before .measure .ensures) (c .enum-told .given .1)
+    (c .before .before .before .before .if3 .left) (rw (to-end (a .at .0 + 4) (a .bytes .now)) at (c .before .before .measure .ensures)) (c .enum-told .given .1)
 
 returns-5 : tie.Need-returns-5
 returns-5 c = found c
