@@ -33,7 +33,7 @@ use Rattle.deletion_file.proofs.Frames.{Between, between-first, between
 bytes-left : (x y : List ℕ) → Bytes (x ++ y) → Bytes x
 bytes-left x y b = rw (take-append-seam x y) at (bytes-take (length x) (x ++ y) b)
 
-bytes-right : (x y : List ℕ) → Bytes (x ++ y) → Bytes y
+pub bytes-right : (x y : List ℕ) → Bytes (x ++ y) → Bytes y
 bytes-right x y b = rw (drop-append-seam x y) at (bytes-drop (length x) (x ++ y) b)
 
 -- ---- a bin among the bins
