@@ -78,11 +78,17 @@ impl Windowed<'_> {
         match self.answer {
             LIMIT => {
                 let past = self.end().is_none() || self.file.len() as u64 > MAX;
-                return demand(past && nothing_said && self.after == self.before, "LIMIT within all limits, or that changes the field");
+                return demand(
+                    past && nothing_said && self.after == self.before,
+                    "LIMIT within all limits, or that changes the field",
+                );
             }
             ROOM => {
                 let short = self.end().is_some() && !has_room;
-                return demand(short && nothing_said && self.after == self.before, "ROOM where there is room, or that changes the field");
+                return demand(
+                    short && nothing_said && self.after == self.before,
+                    "ROOM where there is room, or that changes the field",
+                );
             }
             _ if !may_be_read => return Some("a window past a limit, or without room, is read"),
             _ => {}
@@ -97,7 +103,10 @@ impl Windowed<'_> {
                 (1.., Some(last)) => *last >> (self.rows % 8),
                 _ => 0,
             };
-            return demand(ones == self.deleted && spare == 0 && self.fault == NO_FAULT, "a count that isn't the field's, or spare bits");
+            return demand(
+                ones == self.deleted && spare == 0 && self.fault == NO_FAULT,
+                "a count that isn't the field's, or spare bits",
+            );
         }
         if field.iter().any(|byte| *byte != 0) || self.deleted != 0 {
             return Some("a refusal that leaves the field other than zero, or counts");

@@ -3,8 +3,8 @@
 
 use super::*;
 use reference::writer::{
-    bin_32, bin_32_traced, bin_64, bin_64_traced, bitmap_traced, file_of_bins, file_of_bins_traced, indexed_bitmaps, IndexedBitmap,
-    Traced,
+    bin_32, bin_32_traced, bin_64, bin_64_traced, bitmap_traced, file_of_bins, file_of_bins_traced, indexed_bitmaps,
+    IndexedBitmap, Traced,
 };
 
 use crate::comparison::{Found, READ_WINDOW};
@@ -35,13 +35,12 @@ type Window = (u64, u64);
 fn expected(listed: &[u64], (first, rows): Window, before: &[u8]) -> Found {
     let size = rows.div_ceil(8) as usize;
     let mut field = vec![0; size];
-    let inside = listed.iter().filter(|row| (first..first + rows).contains(row));
-    let mut count = 0;
-    for row in inside.map(|row| row - first) {
+    // They rise, so that those before and those behind the window are two ends of the list.
+    let inside = listed.partition_point(|row| *row < first)..listed.partition_point(|row| *row < first + rows);
+    for row in listed[inside.clone()].iter().map(|row| row - first) {
         field[(row / 8) as usize] |= 1 << (row % 8);
-        count += 1;
     }
-    (0, count, [&field, &before[size..]].concat(), NO_FAULT)
+    (0, inside.len() as u64, [&field, &before[size..]].concat(), NO_FAULT)
 }
 
 /// Reads a sound bin of these rows, and answers what was read.
@@ -210,27 +209,28 @@ fn each_small_window(both: &mut Comparison) {
 /// bit of a byte about the edges of the bits, and inside of them.
 fn bits_at_each_bit(both: &mut Comparison) {
     let random = &mut Random::new(DEFAULT_SEED);
-    for start in [CONTAINER, BITMAP_ROWS, 3 * BITMAP_ROWS - CONTAINER, ROWS_END - 2 * CONTAINER] {
+    let starts = [CONTAINER, BITMAP_ROWS, 3 * BITMAP_ROWS - CONTAINER, ROWS_END - 2 * CONTAINER];
+    let forms = [BitmapForm::WithoutRuns, BitmapForm::Smallest];
+    for (start, form) in starts.into_iter().zip(forms.iter().cycle()) {
         let end = start + CONTAINER;
         let before = [start - 15, start - 9, start - 8, start - 7, start - 2, start - 1];
         let bits = (start..end).filter(|row| *row == start || *row == end - 1 || random.percent(40));
         let behind = end..end + 12;
         let rows: Vec<u64> = before.into_iter().chain(bits).chain(behind).collect();
-        for form in [BitmapForm::WithoutRuns, BitmapForm::Smallest] {
-            let file = file_of_bins(&[bin_64(&rows, &form)]);
-            let near = |edge: u64| edge - 9..=edge + 9;
-            let over_both = near(start).flat_map(|first| near(end).map(move |end| (first, end - first)));
-            let inside = (start + 4_000..start + 4_009).flat_map(|first| (0..=25).map(move |length| (first, length)));
-            let over_start = near(start).flat_map(|first| (0..=33).map(move |length| (first, length)));
-            let over_end = (0..=33).flat_map(|length| near(end).map(move |end| (end - length, length)));
-            // Each of the three containers lies outside of some of them.
-            let outside = [(start - 200, 100), (end + 12, 50), (end + 5, 100), (start - 20, 19)];
-            for window in over_both.step_by(7).chain(inside).chain(over_start).chain(over_end).chain(outside) {
-                let field = vec![0xA5; window.1.div_ceil(8) as usize + 1];
-                let whole = read_sound(both, &file, 0, &rows, window, &field);
-                if window.1 == 25 {
-                    (0..=window.1).for_each(|cut| read_in_parts(both, &file, 0, window, cut, &whole));
-                }
+        let file = file_of_bins(&[bin_64(&rows, form)]);
+        let near = |edge: u64| edge - 9..=edge + 9;
+        let over_both = near(start).flat_map(|first| near(end).map(move |end| (first, end - first)));
+        let inside = (start + 4_000..start + 4_009).flat_map(|first| (0..=25).map(move |length| (first, length)));
+        let over_start = near(start).flat_map(|first| (0..=33).map(move |length| (first, length)));
+        let over_end = (0..=33).flat_map(|length| near(end).map(move |end| (end - length, length)));
+        // Each of the three containers lies outside of some of them.
+        let outside = [(start - 200, 100), (end + 12, 50), (end + 5, 100), (start - 20, 19)];
+        for window in over_both.step_by(7).chain(inside).chain(over_start).chain(over_end).chain(outside) {
+            let field = vec![0xA5; window.1.div_ceil(8) as usize + 1];
+            let whole = read_sound(both, &file, 0, &rows, window, &field);
+            // In each two parts, from three bits of a byte on.
+            if window.1 == 25 && window.0 % 3 == 0 {
+                (0..=window.1).for_each(|cut| read_in_parts(both, &file, 0, window, cut, &whole));
             }
         }
     }
@@ -452,7 +452,8 @@ fn numbers_of_bitmaps(both: &mut Comparison) {
     for bitmaps in lists {
         let sound = bin_64_traced(&bitmaps).bytes;
         let number = bitmaps.len() as u64;
-        let numbers = [0, 1, 2, 3, 4, 5, 1 << 8, 1 << 31, 1 << 32, number | 1 << 32, number | 1 << 63, 1 << 63, u64::MAX - 1, u64::MAX];
+        let numbers =
+            [0, 1, 2, 3, 4, 5, 1 << 8, 1 << 31, 1 << 32, number | 1 << 32, number | 1 << 63, 1 << 63, u64::MAX - 1, u64::MAX];
         for stated in numbers {
             for more in [&[][..], &[0], &[0; 3], &[0; 4], &[0; 12], &MAGIC_64] {
                 let mut bin = [&sound[..], more].concat();
@@ -482,7 +483,8 @@ fn numbers_of_bitmaps(both: &mut Comparison) {
 
 /// The first and the last row of bitmaps, and of all, each alone in a window of one row and between two others; the highest row of a 32-bit bin.
 fn last_rows(both: &mut Comparison) {
-    let rows: Vec<u64> = [BITMAP_ROWS, 2 * BITMAP_ROWS, 1 << 62, ROWS_END].into_iter().flat_map(|edge| [edge - 1, edge]).collect();
+    let rows: Vec<u64> =
+        [BITMAP_ROWS, 2 * BITMAP_ROWS, 1 << 62, ROWS_END].into_iter().flat_map(|edge| [edge - 1, edge]).collect();
     let rows = [&[0][..], &rows[..rows.len() - 1]].concat();
     for form in [BitmapForm::WithoutRuns, BitmapForm::WithRuns(vec![ContainerForm::Runs { cuts: Vec::new() }])] {
         let low: Vec<u32> = rows.iter().map_while(|row| u32::try_from(*row).ok()).collect();
@@ -509,8 +511,10 @@ fn many_bitmaps(both: &mut Comparison) {
         let of = |i: u32| IndexedBitmap { index: i * step, lows: lows.clone(), form: BitmapForm::WithoutRuns };
         let bitmaps: Vec<IndexedBitmap> = (0..MANY).map(of).collect();
         let file = file_of_bins(&[bin_64_traced(&bitmaps).bytes]);
-        let rows: Vec<u64> =
-            bitmaps.iter().flat_map(|bitmap| bitmap.lows.iter().map(|low| u64::from(bitmap.index) * BITMAP_ROWS + u64::from(*low))).collect();
+        let rows: Vec<u64> = bitmaps
+            .iter()
+            .flat_map(|bitmap| bitmap.lows.iter().map(|low| u64::from(bitmap.index) * BITMAP_ROWS + u64::from(*low)))
+            .collect();
         for i in [0, 1, MANY / 2, MANY - 1] {
             let window = (u64::from(i * step) * BITMAP_ROWS + 5, 20);
             read_sound(both, &file, 0, &rows, window, &[0xA5; 4]);
@@ -534,30 +538,22 @@ fn full_containers(first: u32, last: u32) -> Vec<u8> {
     bytes
 }
 
-/// The most rows of a window, all of them deleted: up to 2^63, over the edge of two bitmaps, and of a 32-bit bin.
+/// The most rows of a window, all of them deleted: up to 2^63, and over the edge of two bitmaps.
 pub fn most_rows(both: &mut Comparison, field: &mut [u8], reference_field: &mut [u8]) {
     let all = full_containers(0, 65_535);
     let upper = full_containers(32_767, 65_535);
     let indexed = |index: u32, bitmap: &[u8]| [&index.to_le_bytes()[..], bitmap].concat();
     let wide = |bitmaps: &[Vec<u8>]| [&MAGIC_64[..], &(bitmaps.len() as u64).to_le_bytes(), &bitmaps.concat()].concat();
-    let file = file_of_bins(&[
-        wide(&[indexed(0, &upper), indexed(1, &all), indexed(INDEX_END - 1, &upper)]),
-        [&MAGIC_32[..], &upper].concat(),
-    ]);
-    let last = ((MAX - 1) % 8) as u32;
-    // Bin, first row, and how many rows at the window's beginning are there.
-    for (bin, first, deleted) in
-        [(0, ROWS_END - MAX, MAX), (0, BITMAP_ROWS - MAX / 2, MAX), (1, BITMAP_ROWS - MAX + 11, MAX - 11)]
-    {
-        let found = said(raw::read_window(&file, bin, first, MAX, field));
-        let expected = reader::read_window(&file, bin, first, MAX, reference_field);
+    let file = file_of_bins(&[wide(&[indexed(0, &upper), indexed(1, &all), indexed(INDEX_END - 1, &upper)])]);
+    let spare = 8 * field.len() as u64 - MAX;
+    for first in [ROWS_END - MAX, BITMAP_ROWS - MAX / 2] {
+        let found = said(raw::read_window(&file, 0, first, MAX, field));
+        let expected = reader::read_window(&file, 0, first, MAX, reference_field);
         assert_eq!(found, expected, "the most rows from {first} on");
-        assert_eq!(found, (0, deleted, NO_FAULT), "the most rows from {first} on");
+        assert_eq!(found, (0, MAX, NO_FAULT), "the most rows from {first} on");
         assert!(*field == *reference_field, "the most rows from {first} on leave another field");
-        if deleted == MAX {
-            let (end, others) = field.split_last().expect("bytes");
-            assert!(others.iter().all(|byte| *byte == 0xFF) && *end == 0xFF >> (7 - last), "not all of the most rows");
-        }
+        let (last, others) = field.split_last().expect("bytes");
+        assert!(others.iter().all(|byte| *byte == 0xFF) && *last == 0xFF >> spare, "not all of the most rows from {first} on");
         both.tally.add(READ_WINDOW, found.0);
     }
 }
