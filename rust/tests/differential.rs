@@ -57,7 +57,7 @@ const POSSIBLE: [&[u8]; CALLS.len()] = [
 const DEFAULT_SEED: u64 = 20_240_101;
 const DEFAULT_CASES: u64 = 540_000;
 /// How many fixed calls there are at least. With the random ones, and the calls of the test `faults`, they are the README's about
-/// 1,300,000.
+/// 1,400,000.
 const FIXED_CALLS: u64 = 375_000;
 
 const MAX: u64 = 2_147_483_647;
