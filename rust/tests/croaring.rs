@@ -1,5 +1,5 @@
-//! Bitmaps that CRoaring writes are read here, and bitmaps written here are read by CRoaring: those of 32 bits by its C functions, those of 64
-//! bits by its C++ class Roaring64Map, whose portable form is a 64-bit bin's from the number of bitmaps on.
+//! Bitmaps that CRoaring writes are read here, and bitmaps written here are read by CRoaring: those of 32 bits by its C functions,
+//! those of 64 bits by its C++ class Roaring64Map, whose portable form is a 64-bit bin's from the number of bitmaps on.
 //!
 //! Needs a C and a C++ compiler and CRoaring with its headers (Debian: libroaring-dev); without them a test says that it is
 //! skipped.

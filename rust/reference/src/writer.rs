@@ -563,7 +563,7 @@ pub fn index_file_traced(columns: &[IndexedColumn], layout: &FileLayout) -> Trac
 
 /// A deletion file with a 32-bit bin for each bitmap.
 pub fn deletion_file(bitmaps: &[Vec<u8>]) -> Vec<u8> {
-    let bitmaps: Vec<Traced> = bitmaps.iter().map(Traced::without_fields).collect();
+    let bitmaps: Vec<Traced> = bitmaps.iter().map(|bitmap| Traced::without_fields(bitmap)).collect();
     deletion_file_traced(&bitmaps).bytes
 }
 
@@ -575,7 +575,7 @@ pub fn deletion_file_traced(bitmaps: &[Traced]) -> Traced {
 
 /// A deletion file with these bins, of either kind.
 pub fn file_of_bins(bins: &[Vec<u8>]) -> Vec<u8> {
-    let bins: Vec<Traced> = bins.iter().map(Traced::without_fields).collect();
+    let bins: Vec<Traced> = bins.iter().map(|bin| Traced::without_fields(bin)).collect();
     file_of_bins_traced(&bins).bytes
 }
 
@@ -692,8 +692,8 @@ pub enum ByteOrder {
 }
 
 impl Traced {
-    fn without_fields(bytes: &Vec<u8>) -> Traced {
-        Traced { bytes: bytes.clone(), fields: Vec::new() }
+    fn without_fields(bytes: &[u8]) -> Traced {
+        Traced { bytes: bytes.to_vec(), fields: Vec::new() }
     }
 
     fn field(&mut self, name: &'static str, width: usize, order: ByteOrder) {

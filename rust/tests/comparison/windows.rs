@@ -1,5 +1,5 @@
-//! What reading through a window promises of every file, told from the library's answer and its inputs alone, without the reference reader;
-//! and the kinds of its answers, counted.
+//! What reading through a window promises of every file, told from the library's answer and its inputs alone, without the reference
+//! reader; and the kinds of its answers, counted.
 
 use reference::reader::{Fault, ACCEPTED, NO_FAULT};
 

@@ -1,5 +1,5 @@
-//! Deletion bins of both kinds read through windows. A window's field is compared with the list of rows that was written, filtered; two windows
-//! side by side with one over both; and a window from row 0 over a 32-bit bin with the call that has no window.
+//! Deletion bins of both kinds read through windows. A window's field is compared with the list of rows that was written, filtered;
+//! two windows side by side with one over both; and a window from row 0 over a 32-bit bin with the call that has no window.
 
 use super::*;
 use reference::writer::{
@@ -69,17 +69,18 @@ fn read_in_parts(both: &mut Comparison, file: &[u8], bin: u64, (first, rows): Wi
     both.demand(sound, &format!("{rows} rows from {first} on in parts, {cut} and the others"), &[("file", file)]);
 }
 
-/// A 32-bit bin is answered as without a window where that accepts it; where it says RANGE, the window has the rows below its end. A 64-bit bin
-/// has no answer without a window.
-fn read_without_window(both: &mut Comparison, file: &[u8], bin: u64, is_64: bool, rows: u64, before: &[u8]) {
+/// A 32-bit bin is answered as without a window, but where that says RANGE, which a window doesn't say. A 64-bit bin is MAGIC without a
+/// window, whatever else is wrong with it. What was answered without a window and with one from row 0 on.
+fn read_without_window(both: &mut Comparison, file: &[u8], bin: u64, rows: u64, before: &[u8]) -> [Found; 2] {
     let without = both.read_deletions(file, bin, rows, before);
     let from_0 = both.read_window(file, bin, 0, rows, before);
     let sound = match without.0 {
-        0 => !is_64 && from_0 == without,
-        RANGE => !is_64 && from_0.0 == 0,
-        answer => is_64 && answer == MAGIC && from_0.0 == 0,
+        RANGE => from_0.0 == 0,
+        MAGIC => from_0 == without || [0, CHECKSUM, BITMAP].contains(&from_0.0) && from_0.3 == NO_FAULT,
+        _ => from_0 == without,
     };
     both.demand(sound, &format!("bin {bin} for {rows} rows with a window and without"), &[("file", file)]);
+    [without, from_0]
 }
 
 // Random rounds
@@ -103,7 +104,14 @@ pub fn sound_files(both: &mut Comparison, random: &mut Random) {
             _ => random.below(2_000) as u64,
         };
         let before = random::field(random, rows as usize);
-        read_without_window(both, &file, bin, listed.is_64, rows, &before);
+        let [without, from_0] = read_without_window(both, &file, bin, rows, &before);
+        let answer = match listed.is_64 {
+            true => MAGIC,
+            false if past_last > rows => RANGE,
+            false => 0,
+        };
+        let sound = without.0 == answer && from_0 == expected(&listed.rows, (0, rows), &before);
+        both.demand(sound, &format!("bin {bin} of a sound file for {rows} rows"), &[("file", &file)]);
         let limited = random::window_past_a_limit(random);
         let refused = both.read_window(&file, bin, limited.0, limited.1, &before);
         both.demand(refused == (LIMIT, 0, before, NO_FAULT), "a window past a limit", &[("file", &file)]);
@@ -133,6 +141,9 @@ pub fn damaged_files(both: &mut Comparison, random: &mut Random) {
         };
         let before = random::field_or_short(random, rows.min(1_000_000) as usize);
         both.read_window(&file, bin, first, rows, &before);
+        if random.percent(30) {
+            read_without_window(both, &file, bin, rows, &before);
+        }
     }
     for _ in 0..2 {
         let bitmap = random::near_bitmap(random);
@@ -205,8 +216,8 @@ fn each_small_window(both: &mut Comparison) {
     }
 }
 
-/// Bits between an array and runs, each of another container, two of them in the bitmap before or behind: windows that begin and end at each
-/// bit of a byte about the edges of the bits, and inside of them.
+/// A container of bits with an array before it and few rows behind it, at times in other bitmaps: windows that begin and end at each bit
+/// of a byte about the edges of the bits, and inside of them.
 fn bits_at_each_bit(both: &mut Comparison) {
     let random = &mut Random::new(DEFAULT_SEED);
     let starts = [CONTAINER, BITMAP_ROWS, 3 * BITMAP_ROWS - CONTAINER, ROWS_END - 2 * CONTAINER];
@@ -264,7 +275,7 @@ fn every_cut_and_flip(both: &mut Comparison) {
             }
         }
     }
-    // A cut of the bin alone, whose size and checksum are true: whatever is left of it is BITMAP, or MAGIC without four bytes of it.
+    // A cut of the bin alone, whose size and checksum are true: whatever is left behind its magic is BITMAP.
     let sound = bin_64_traced(&indexed_bitmaps(&[0, 2, 5, BITMAP_ROWS], &BitmapForm::WithoutRuns)).bytes;
     for end in MAGIC_64.len()..sound.len() {
         let file = file_of_bins(&[sound[..end].to_vec()]);
@@ -381,7 +392,7 @@ fn ends(both: &mut Comparison) {
     }
 }
 
-/// The two magics in either order of bytes, with each bit flipped, and next to each other; behind each of them a content of each kind.
+/// The two magics in either order of bytes, with each bit flipped, and the numbers next to them; behind each a content of each kind.
 fn magics(both: &mut Comparison) {
     let rows = [1, 2, 3];
     let narrow = bin_32(&rows, &BitmapForm::WithoutRuns)[4..].to_vec();
@@ -481,7 +492,7 @@ fn numbers_of_bitmaps(both: &mut Comparison) {
     }
 }
 
-/// The first and the last row of bitmaps, and of all, each alone in a window of one row and between two others; the highest row of a 32-bit bin.
+/// The first and the last row of bitmaps, and of all, in windows of one row and of more; the highest row of a 32-bit bin.
 fn last_rows(both: &mut Comparison) {
     let rows: Vec<u64> =
         [BITMAP_ROWS, 2 * BITMAP_ROWS, 1 << 62, ROWS_END].into_iter().flat_map(|edge| [edge - 1, edge]).collect();
@@ -522,7 +533,8 @@ fn many_bitmaps(both: &mut Comparison) {
     }
 }
 
-/// The runs of whole containers, one for each key from `first` to `last`. Written by hand, since a list of the rows would take gigabytes.
+/// A bitmap of whole containers, one for each key from `first` to `last`, as runs. Written by hand, since a list of the rows would take
+/// gigabytes.
 fn full_containers(first: u32, last: u32) -> Vec<u8> {
     let count = last - first + 1;
     let mut bytes = (12347 | (count - 1) << 16).to_le_bytes().to_vec();

@@ -30,7 +30,7 @@ fn edge(random: &mut Random, end: u64) -> u64 {
         5..=6 => 1 << 33,
         7..=8 => ROWS_END,
         9 => random.below(5) as u64 * CONTAINER_ROWS,
-        10 => random.number() / CONTAINER_ROWS * CONTAINER_ROWS >> random.between(1, 40),
+        10 => (random.number() >> random.between(1, 40)) / CONTAINER_ROWS * CONTAINER_ROWS,
         _ => random.number() >> random.between(1, 63),
     };
     edge.min(end)
@@ -133,8 +133,8 @@ pub fn window_past_a_limit(random: &mut Random) -> (u64, u64) {
         0 => (random.below(1_000) as u64, MAX + 1 + random.below(3) as u64),
         1 => (random.number() >> random.below(64), *random.pick(&[MAX + 1, 1 << 32, ROWS_END, ROWS_END + 1, u64::MAX])),
         2 => (ROWS_END - length + 1, length),
-        3 => (ROWS_END + 1 + random.number() % ROWS_END.wrapping_sub(1), length),
-        // Both ends of what is past 64 bits: the sum is 0, or a little more.
+        3 => (ROWS_END + 1 + random.number() % (ROWS_END - 1), length),
+        // Past 64 bits the sum is 0, or a little more.
         4 => (u64::MAX - length, length + 1 + random.below(50) as u64),
         _ => (ROWS_END - MAX + 1 + random.below(3) as u64, MAX),
     }

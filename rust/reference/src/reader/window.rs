@@ -9,8 +9,8 @@ const BITMAP_ROWS: u64 = 1 << 32;
 /// The indexes of bitmaps are below this number.
 const INDEX_END: u32 = 1 << 31;
 
-/// Sets the rows of one bin that lie in the window of `rows` rows from row `first` on, which is the field's row 0: answer, their count, and
-/// fault.
+/// Sets the rows of one bin that lie in the window of `rows` rows from row `first` on, which is the field's row 0: answer, their
+/// count, and fault.
 pub fn read_window(file: &[u8], bin: u64, first: u64, rows: u64, field: &mut [u8]) -> (u8, u64, Fault) {
     said(try_read_window(file, bin, first, rows, field), 0)
 }
