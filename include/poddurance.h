@@ -160,7 +160,7 @@ uint8_t poddurance_read_deletions(const uint8_t *file, size_t file_len, uint64_t
  *
  * The bin is a 32-bit one, as in Read deletions, or a 64-bit one, whose magic is the bytes D1 D3 39 64: an 8-byte number of bitmaps, then per bitmap a 4-byte index
  * and the bitmap (numbers little-endian, indexes rising and below 2^31); its rows are index times 2^32 plus the bitmap's. Any fault behind that magic is BITMAP,
- * with entry 0 and container 0; a 32-bit bin's names the container as in Read deletions. MAGIC is a bin with neither magic.
+ * with entry 0 and container 0; a 32-bit bin's names the container as in Read deletions. A bin with neither magic is MAGIC.
  *
  * LIMIT is also given where first + rows is above 2^63, whether the sum fits in 64 bits or not; exactly 2^63 passes. A window from 0 of a 32-bit bin answers as
  * Read deletions, and gives the rows below `rows` where that says RANGE. */

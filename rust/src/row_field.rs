@@ -4,7 +4,8 @@ use std::ops::RangeInclusive;
 
 use crate::{Refusal, LIMIT};
 
-/// A set of the rows of one data file: row r is the bit of weight 2^(r mod 8) in byte r/8.
+/// A set of the rows of one data file: row r is the bit of weight 2^(r mod 8) in byte r/8. Of a [window](crate::read_window) row r is the one
+/// that is r behind its first.
 ///
 /// A field knows its row count and has no byte and no bit beyond it, so that what it counts and iterates over are rows of that
 /// file and nothing else. [`ask_file`](crate::ask_file), [`ask`](crate::ask), [`audit`](crate::audit), [`open`](crate::open),

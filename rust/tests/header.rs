@@ -6,6 +6,7 @@ use std::collections::BTreeMap;
 use std::fs;
 use std::path::{Path, PathBuf};
 use std::process::Command;
+use std::slice;
 
 use poddurance::{raw, Edition, Question, Refusal, Type};
 use reference::writer::{bin_64, bitmap, deletion_file, file_of_bins, BitmapForm};
@@ -491,12 +492,13 @@ fn deletions() -> String {
     let wide = bin_64(&[5, (1 << 32) + 3, (1 << 32) + 10, (1 << 63) - 1], &BitmapForm::Smallest);
     let (magic, behind) = wide.split_at(4);
     let big_endian: Vec<u8> = magic.iter().rev().chain(behind).copied().collect();
-    let mut wrong_sum = file_of_bins(&[wide.clone()]);
+    let sound = file_of_bins(slice::from_ref(&wide));
+    let mut wrong_sum = sound.clone();
     *wrong_sum.last_mut().unwrap() ^= 1;
     [
         ("whole", deletion_file(&[whole])),
         ("cut", deletion_file(&[cut])),
-        ("wide", file_of_bins(&[wide.clone()])),
+        ("wide", sound),
         ("wide_cut", file_of_bins(&[wide[..wide.len() - 1].to_vec()])),
         ("big_endian", file_of_bins(&[big_endian])),
         ("wrong_sum", wrong_sum),
