@@ -241,8 +241,8 @@ fn line(name: &str, words: &[&str], more: &[&str]) -> (i32, String) {
     (ran.status.code().unwrap(), String::from_utf8(ran.stdout).unwrap())
 }
 
-/// With deletions and without, the command line's line, its JSON and the record's own sentence have the numbers of the proved calls, and
-/// these are the scan's.
+/// With deletions, of a 32-bit bin and of a 64-bit one, and without, the command line's line, its JSON and the record's own sentence have
+/// the numbers of the proved calls, and these are the scan's.
 #[test]
 fn lines_have_the_numbers_of_the_calls() {
     let fault = Literals::of(Type::String, ["fault"]).unwrap();
@@ -286,9 +286,12 @@ fn lines_have_the_numbers_of_the_calls() {
 
             // The command line.
             let with_deletions = ["--deletions", "demo/pumps.deletions", "--bin", "0"];
-            for (said, numbers, more, deleted, removed) in [
-                (answer.record(), expected, &[][..], None, None),
-                (&after.record, left, &with_deletions, Some(left.deleted), Some(removed)),
+            // The same rows in a 64-bit bin, from row 0 on.
+            let with_window = ["--deletions", "demo/pumps-64.deletions", "--bin", "0", "--first", "0"];
+            for (said, numbers, more, deleted, removed, from, first) in [
+                (answer.record(), expected, &[][..], None, None, "", ""),
+                (&after.record, left, &with_deletions, Some(left.deleted), Some(removed), "", ""),
+                (&after.record, left, &with_window, Some(left.deleted), Some(removed), " from row 0 on", ",\"first\":0"),
             ] {
                 let Record { rows, nulls, matched, .. } = numbers;
                 assert_eq!((said.rows(), said.nulls(), said.deleted(), said.matched()), (rows, nulls, numbers.deleted, matched));
@@ -296,13 +299,13 @@ fn lines_have_the_numbers_of_the_calls() {
 
                 let (status, answer) = if matched == 0 { (1, "skip") } else { (0, "keep") };
                 let applied = deleted.map_or("deletions not applied".to_string(), |number| format!("{number} deleted"));
-                let expected = format!("{answer}: {said} ({applied}, {nulls} null)\n");
+                let expected = format!("{answer}: {said}{from} ({applied}, {nulls} null)\n");
                 assert_eq!(line(name, &words, more), (status, expected), "{words:?} {more:?}");
 
                 let [deleted, removed] = [deleted, removed].map(|number| number.map_or("null".to_string(), |n| n.to_string()));
                 let expected = format!(
                     "{{\"answer\":\"{answer}\",\"rows\":{rows},\"nulls\":{nulls},\"deleted\":{deleted},\"matched\":{matched},\
-                     \"removed\":{removed}}}\n"
+                     \"removed\":{removed}{first}}}\n"
                 );
                 assert_eq!(line(name, &words, &[more, &["--json"]].concat()), (status, expected), "{words:?} {more:?}");
             }
