@@ -1,6 +1,6 @@
 //! The library and the reference reader answer alike: on sound files with the scan's answer in each edition, less the deleted rows too,
 //! on damaged ones with the same refusal, what it carries, field and bytes behind the field. Lookups answer as Ask on what was opened, and
-//! alike on anything else.
+//! alike on anything else. Windows over deletion bins of both kinds have the rows that were written.
 //!
 //! The environment variables PODDURANCE_SEED (where the seeds start) and PODDURANCE_CASES (how many calls at least) ask
 //! for other or more cases; PODDURANCE_HEAP lends buffers from the heap instead of between guards, so that valgrind sees
@@ -14,6 +14,7 @@ mod large;
 mod lookup;
 mod names;
 mod support;
+mod window;
 
 use std::fmt::Debug;
 use std::fs::File;
@@ -48,15 +49,16 @@ const POSSIBLE: [&[u8]; CALLS.len()] = [
     &[0, 1, 3, 5, 6, 7, 8, 9, 10, 11, 12],
     &[0, 1, 3, 5, 6, 7, 10, 11, 12],
     &[0, 1, 2, 3, 6, 7, 10, 12, 13, 14],
+    &[0, 1, 2, 3, 6, 10, 12, 13, 14],
     &[0, 10, 12],
     &[0, 10, 12],
 ];
 
 const DEFAULT_SEED: u64 = 20_240_101;
-const DEFAULT_CASES: u64 = 500_000;
+const DEFAULT_CASES: u64 = 540_000;
 /// How many fixed calls there are at least. With the random ones, and the calls of the test `faults`, they are the README's about
-/// 1,300,000.
-const FIXED_CALLS: u64 = 330_000;
+/// 1,400,000.
+const FIXED_CALLS: u64 = 375_000;
 
 const MAX: u64 = 2_147_483_647;
 
@@ -76,7 +78,7 @@ fn round(both: &mut Comparison, random: &mut Random) {
     for lender in [first, second, third, fourth, fifth, sixth] {
         lender.place_next(random.percent(50));
     }
-    match random.below(130) {
+    match random.below(150) {
         0..=34 => sound_column(both, random),
         35..=38 => large::many_values(both, random),
         39 => large::several_containers(both, random),
@@ -86,7 +88,9 @@ fn round(both: &mut Comparison, random: &mut Random) {
         80..=94 => deletion_files(both, random),
         95..=99 => subtractions(both, random),
         100..=111 => lookup::opened_column(both, random),
-        _ => lookup::unopened(both, random),
+        112..=129 => lookup::unopened(both, random),
+        130..=139 => window::sound_files(both, random),
+        _ => window::damaged_files(both, random),
     }
 }
 
@@ -1058,6 +1062,7 @@ fn most_rows(both: &mut Comparison) {
     assert_eq!(*last, 0xC0);
     assert!(others.iter().all(|byte| *byte == 0));
     both.tally.add(SUBTRACT_RECORD, answer);
+    window::most_rows(both, field, &mut reference_field);
 }
 
 /// The most rows in version 2: all of them but one the first value's, by a bitmap, and one the second's.
@@ -1156,6 +1161,7 @@ fn buffers_past_the_limit(both: &mut Comparison) {
     assert_eq!(said(raw::read_deletions(long, 0, 8, &mut field)), refused);
     assert_eq!(reader::read_deletions(long, 0, 8, &mut field), refused);
     both.tally.add(READ_DELETIONS, 12);
+    window::files_past_the_limit(both, long);
     assert_eq!(field, [0xA5; 2], "a field was changed by LIMIT");
     // Row fields may be longer than any input buffer.
     assert_eq!(raw::subtract(&mut field, long, 16), (0, 8, 0));
@@ -1258,6 +1264,7 @@ fn library_and_reference_reader_agree() {
         lookup::each_table(&mut both);
         lookup::orders(&mut both);
         lookup::most_blocks(&mut both);
+        window::all(&mut both);
         most_rows(&mut both);
         buffers_past_the_limit(&mut both);
         fixed = both.tally.calls();

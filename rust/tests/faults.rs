@@ -1,6 +1,8 @@
 //! Which entry, container and row a refusal names. Bitmaps of 1, 3, 4, 5 and 20 containers of mixed forms are damaged in each container in each
 //! way, cut at each byte and followed by bytes that are left over, as entries of bodies of both versions and in deletion bins; bodies of
-//! version 2 are opened, and looked up in by the table that they had when they were sound. Library and reference reader are compared, and what they name is held against what the damage itself says, so that a mistake of both is found too.
+//! version 2 are opened, and looked up in by the table that they had when they were sound; bins are read through windows too, and a 64-bit bin names
+//! the first container whatever is wrong. Library and reference reader are compared, and what they name is held against what the damage itself
+//! says, so that a mistake of both is found too.
 
 mod comparison;
 mod support;
@@ -12,7 +14,8 @@ use reference::reader::{Fault, NO_FAULT};
 use reference::record::Record;
 use reference::types::{EQUAL, FIRST_EDITION, INT, NOT_EQUAL, SECOND_EDITION, TINYINT};
 use reference::writer::{
-    bitmap, bitmap_traced, body, body_traced, deletion_file, index_file, BitmapForm, ContainerForm, Groups, Layout, Length, Place,
+    bin_64_traced, bitmap, bitmap_traced, body, body_traced, deletion_file, file_of_bins, index_file, BitmapForm, ContainerForm,
+    Groups, IndexedBitmap, Layout, Length, Place,
 };
 use support::say;
 
@@ -29,10 +32,10 @@ const CONTAINER: u32 = 65_536;
 const COUNTS: [usize; 5] = [1, 3, 4, 5, 20];
 
 /// How many calls the tests that make most of them compare at least. With those of the test `differential` they are the README's
-/// about 1,300,000.
-const CUT_CALLS: u64 = 310_000;
-const LEFT_OVER_CALLS: u64 = 75_000;
-const DAMAGE_CALLS: u64 = 39_000;
+/// about 1,400,000.
+const CUT_CALLS: u64 = 320_000;
+const LEFT_OVER_CALLS: u64 = 78_000;
+const DAMAGE_CALLS: u64 = 45_000;
 const OUTSIDE_CALLS: u64 = 40_000;
 
 // Sound bitmaps
@@ -447,13 +450,75 @@ fn looked_up_too(both: &mut Comparison, host: &Host, table: &[u32], body: &[u8],
     }
 }
 
-/// Read deletions refuses the only bin of a file, naming this container and no entry.
+/// Read deletions refuses the only bin of a file, naming this container and no entry; and so does each window, whether it has rows of that
+/// container or not. In a 64-bit bin the same bitmap is broken too, and the first container is named.
 #[track_caller]
 fn broken_bin(both: &mut Comparison, sound: &Sound, bitmap: Vec<u8>, container: usize, what: impl Fn() -> String) {
     let rows = sound.row_count();
-    let found = both.read_deletions(&deletion_file(&[bitmap]), 0, rows.into(), &vec![0xA5; rows as usize / 8]);
+    let wide = file_of_bins(&[bin_64_of(&bitmap)]);
+    let narrow = deletion_file(&[bitmap]);
+    let found = both.read_deletions(&narrow, 0, rows.into(), &vec![0xA5; rows as usize / 8]);
     let expected = refused(BITMAP, vec![0; rows as usize / 8], [0, container as u64, 0]);
     assert!(found == expected, "a bin: {}: {:?} instead of container {container}", what(), (found.0, found.3));
+
+    for base in [0, u64::from(INDEX) << 32] {
+        let first = base + u64::from(CONTAINER) * container as u64 + WINDOW_FROM;
+        let field = [0xA5; WINDOW.div_ceil(8) as usize];
+        let named = refused(BITMAP, vec![0; field.len()], [0, container as u64, 0]);
+        let found = both.read_window(&narrow, 0, first, WINDOW, &field);
+        assert!(found == named, "a window: {}: {:?} instead of container {container}", what(), (found.0, found.3));
+        let found = both.read_window(&wide, 0, first, WINDOW, &field);
+        let named = refused(BITMAP, vec![0; field.len()], NO_FAULT);
+        assert!(found == named, "a 64-bit bin: {}: {:?} instead of container 0", what(), (found.0, found.3));
+    }
+}
+
+/// The rows of a window that begins inside a byte and a container.
+const WINDOW: u64 = 21;
+const WINDOW_FROM: u64 = 4_987;
+
+/// The index of a bitmap in a 64-bit bin that isn't its first.
+const INDEX: u32 = 3;
+
+/// A 64-bit bin of a bitmap of no rows and of this one.
+fn bin_64_of(bitmap: &[u8]) -> Vec<u8> {
+    let none = [0, INDEX].map(IndexedBitmap::empty);
+    let mut bin = bin_64_traced(&none).bytes;
+    // In the place of the second, which is the last.
+    bin.truncate(bin.len() - bitmap_traced(&none[1].lows, &none[1].form).bytes.len());
+    bin.extend(bitmap);
+    bin
+}
+
+/// The rows of a sound bitmap in a window, as a 32-bit bin and a 64-bit one have them.
+fn windows_of(both: &mut Comparison, sound: &Sound) {
+    let narrow = deletion_file(std::slice::from_ref(&sound.bytes));
+    let wide = file_of_bins(&[bin_64_of(&sound.bytes)]);
+    for i in 0..=sound.count() as u64 {
+        // From and to the edge of a container, over it, and inside of the container.
+        let edge = i * u64::from(CONTAINER);
+        for (first, end) in [
+            (edge, edge + 30),
+            (edge.saturating_sub(30), edge),
+            (edge.saturating_sub(9), edge + 17),
+            (edge + 4_987, edge + 5_008),
+        ] {
+            let rows = end - first;
+            let size = rows.div_ceil(8) as usize;
+            let mut expected = vec![0; size];
+            let inside = sound.rows.iter().map(|row| u64::from(*row)).filter(|row| (first..end).contains(row));
+            let mut count = 0;
+            for row in inside.map(|row| row - first) {
+                expected[(row / 8) as usize] |= 1 << (row % 8);
+                count += 1;
+            }
+            let expected = (ACCEPTED, count, expected, NO_FAULT);
+            let field = vec![0xA5; size];
+            assert_eq!(both.read_window(&narrow, 0, first, rows, &field), expected, "{rows} rows from {first} on");
+            let first = first + (u64::from(INDEX) << 32);
+            assert_eq!(both.read_window(&wide, 0, first, rows, &field), expected, "{rows} rows from {first} on");
+        }
+    }
 }
 
 fn refused(answer: u8, field: Vec<u8>, fault: Fault) -> Found {
@@ -504,8 +569,13 @@ fn sound_bitmaps_are_accepted() {
         assert_eq!((found.0, found.1, found.3), (ACCEPTED, sound.rows.len() as u64, NO_FAULT));
         // A row count that ends before the last row, which is in the last container.
         let last = *sound.rows.last().expect("rows");
-        let found = both.read_deletions(&file, 0, last.into(), &vec![0; rows as usize / 8]);
+        let field = vec![0; rows as usize / 8];
+        let found = both.read_deletions(&file, 0, last.into(), &field);
         assert_eq!((found.0, found.1, found.3), (RANGE, 0, NO_FAULT));
+        // A window has the others.
+        let found = both.read_window(&file, 0, 0, last.into(), &field);
+        assert_eq!((found.0, found.1, found.3), (ACCEPTED, sound.rows.len() as u64 - 1, NO_FAULT));
+        windows_of(both, sound);
     });
 }
 
@@ -621,13 +691,16 @@ fn a_broken_container_goes_before_rows_past_the_end() {
                     (found.0, found.3)
                 };
                 let read = |both: &mut Comparison, bitmap: &[u8]| {
-                    let found = both.read_deletions(&deletion_file(&[bitmap.to_vec()]), 0, rows.into(), &field);
-                    (found.0, found.3)
+                    let file = deletion_file(&[bitmap.to_vec()]);
+                    let found = both.read_deletions(&file, 0, rows.into(), &field);
+                    let through_window = both.read_window(&file, 0, 0, rows.into(), &field);
+                    [(found.0, found.3), (through_window.0, through_window.3)]
                 };
                 for body in &bodies {
                     assert_eq!(audit(both, body), (RANGE, [1, 0, 0]));
                 }
-                assert_eq!(read(both, &sound.bytes), (RANGE, NO_FAULT));
+                // Rows behind a window are no fault, and a container behind it is tested all the same.
+                assert_eq!(read(both, &sound.bytes), [(RANGE, NO_FAULT), (ACCEPTED, NO_FAULT)]);
                 for damage in damage_of(sound, i) {
                     let what = || format!("container {i} of {} for {rows} rows: {}", sound.describe(), damage.what);
                     for body in &bodies {
@@ -637,7 +710,7 @@ fn a_broken_container_goes_before_rows_past_the_end() {
                     }
                     let mut alone = sound.bytes.clone();
                     damage.apply(&mut alone, 0);
-                    assert_eq!(read(both, &alone), (BITMAP, [0, i as u64, 0]), "a bin: {}", what());
+                    assert_eq!(read(both, &alone), [(BITMAP, [0, i as u64, 0]); 2], "a bin: {}", what());
                 }
             }
         }
@@ -795,8 +868,12 @@ fn an_empty_bitmap() {
         audit(-1, &empty[..cut], BITMAP, [5, 0, 0]);
     }
     for more in 1..10 {
-        let file = deletion_file(&[longer[..empty.len() + more].to_vec()]);
-        assert_eq!(both.read_deletions(&file, 0, 8, &[0xA5]), refused(BITMAP, vec![0], NO_FAULT));
+        let bitmap = longer[..empty.len() + more].to_vec();
+        let files = [file_of_bins(&[bin_64_of(&bitmap)]), deletion_file(&[bitmap])];
+        assert_eq!(both.read_deletions(&files[1], 0, 8, &[0xA5]), refused(BITMAP, vec![0], NO_FAULT));
+        for file in files {
+            assert_eq!(both.read_window(&file, 0, 5, 8, &[0xA5]), refused(BITMAP, vec![0], NO_FAULT));
+        }
     }
 
     // The count 0 of a bitmap with one container: the bytes behind it are left over, or no bitmap's.

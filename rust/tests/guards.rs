@@ -1,5 +1,5 @@
 //! The guards beside lent buffers work: a byte before or behind a buffer ends the program that reads it. Open and Look up are lent all their
-//! buffers between guards, the table too.
+//! buffers between guards, the table too, and so is reading through a window.
 
 mod support;
 
@@ -8,8 +8,10 @@ use std::process::{Command, Stdio};
 
 use poddurance::raw;
 use reference::types;
-use reference::writer::{body, Groups, Layout};
+use reference::writer::{bin_32, bin_64, body, file_of_bins, BitmapForm, Groups, Layout};
 use support::Lender;
+
+const BITMAP: u8 = 6;
 
 /// Which byte the program started by the test is to read.
 const TOUCH: &str = "PODDURANCE_TOUCH";
@@ -123,6 +125,75 @@ fn open_and_look_up_stay_inside_their_buffers() {
                     // The last block's entry is always read, and behind the body there is none.
                     assert!(block < 2 || place < whole.len() as u32 || answer != raw::ACCEPTED);
                 }
+            }
+        }
+    }
+}
+
+/// Both buffers have exactly the room that is needed. Windows begin and end at each bit of the first bytes about the edges of containers and
+/// bitmaps, in bits, an array and runs; the file is cut at each byte of its bins, whose sizes and checksums are true then.
+#[test]
+fn read_window_stays_inside_its_buffers() {
+    const CONTAINER: u64 = 65_536;
+    const BITMAP_ROWS: u64 = 1 << 32;
+    let mut lenders: [Lender; 2] = std::array::from_fn(|_| Lender::guarded());
+    let mut read = |file: &[u8], bin: u64, first: u64, rows: u64| {
+        let answers = [true, false].map(|at_end| {
+            lenders.iter_mut().for_each(|lender| lender.place_next(at_end));
+            let [files, fields] = &mut lenders;
+            let field = fields.lend(&vec![0xFF; rows.div_ceil(8) as usize]);
+            (raw::read_window(files.lend(file), bin, first, rows, field), field.to_vec())
+        });
+        assert_eq!(answers[0], answers[1]);
+        let [((answer, deleted, _), field), _] = answers;
+        assert_eq!(deleted, field.iter().map(|byte| u64::from(byte.count_ones())).sum());
+        (answer, deleted)
+    };
+
+    // An array, bits and a run, over the edge of two bitmaps in the 64-bit bin and of containers in both.
+    for start in [0, BITMAP_ROWS - CONTAINER] {
+        let array = (CONTAINER - 40..CONTAINER).step_by(3);
+        let bits = (CONTAINER..2 * CONTAINER).filter(|row| row % 7 < 3);
+        let run = 2 * CONTAINER..2 * CONTAINER + 70;
+        let rows: Vec<u64> = array.chain(bits).chain(run).map(|row| start + row).collect();
+        for form in [BitmapForm::WithoutRuns, BitmapForm::Smallest] {
+            let mut bins = vec![bin_64(&rows, &form)];
+            if start == 0 {
+                bins.push(bin_32(&rows.iter().map(|row| *row as u32).collect::<Vec<_>>(), &form));
+            }
+            let file = file_of_bins(&bins);
+            for bin in 0..bins.len() as u64 {
+                for edge in [start + CONTAINER, start + 2 * CONTAINER] {
+                    let ends = [edge, start + 2 * CONTAINER].map(|end| [end - 1, end, end + 1, end + 5, end + 67]);
+                    for (first, end) in
+                        (edge - 9..edge + 9).flat_map(|first| ends.concat().into_iter().map(move |end| (first, end)))
+                    {
+                        if first <= end {
+                            let inside = rows.iter().filter(|row| (first..end).contains(row)).count() as u64;
+                            assert_eq!(read(&file, bin, first, end - first), (raw::ACCEPTED, inside));
+                        }
+                    }
+                }
+            }
+        }
+    }
+
+    let small = [
+        bin_64(&[0, 2, 5, BITMAP_ROWS, BITMAP_ROWS + 1], &BitmapForm::Smallest),
+        bin_32(&[1, 2, 3, 4, 9], &BitmapForm::Smallest),
+    ];
+    let whole = file_of_bins(&small);
+    for end in 0..whole.len() {
+        let (wide, narrow) = (read(&whole[..end], 0, 3, 13), read(&whole[..end], 1, 3, 13));
+        // A cut between the two bins, or before both, leaves a file of fewer bins.
+        assert!(narrow.0 != raw::ACCEPTED && (wide.0 == raw::ACCEPTED) == (end == file_of_bins(&small[..1]).len()));
+    }
+    const MAGIC_BYTES: usize = 4;
+    for bin in &small {
+        for end in MAGIC_BYTES..bin.len() {
+            let file = file_of_bins(&[bin[..end].to_vec()]);
+            for (first, rows) in [(3, 13), (BITMAP_ROWS - 3, 5), (0, 0)] {
+                assert_eq!(read(&file, 0, first, rows), (BITMAP, 0), "cut at {end}");
             }
         }
     }

@@ -137,6 +137,43 @@ fn read_deletions_refuses_file_and_rows() {
     assert_eq!(field, [0xAA]);
 }
 
+/// The end of all rows of a 64-bit bin.
+const ROWS_END: u64 = 1 << 63;
+
+/// File, length and end are one stage: each alone is LIMIT, before ROOM and before anything of the file.
+#[test]
+fn read_window_refuses_file_rows_and_end() {
+    let long = too_long();
+    let mut field = [0xAA; 1];
+    let refused = (LIMIT_PASSED, 0, Fault::NONE);
+    for (first, rows) in [(0, 6), (0, 0), (3, 9), (ROWS_END - 6, 6), (ROWS_END, 0), (ROWS_END, 1), (u64::MAX, 6), (0, LIMIT + 1)]
+    {
+        assert_eq!(raw::read_window(&long, 0, first, rows, &mut field), refused);
+    }
+    for rows in [LIMIT + 1, 1 << 32, ROWS_END, u64::MAX] {
+        for first in [0, 1, ROWS_END.saturating_sub(rows), u64::MAX - rows, 0_u64.wrapping_sub(rows)] {
+            assert_eq!(raw::read_window(&[], 0, first, rows, &mut field), refused);
+        }
+    }
+    // One row past the end of all, and ends that don't fit 64 bits, the sum being 0 or more again.
+    for rows in [0, 1, 2, 8, 9, LIMIT - 1, LIMIT] {
+        for past in [ROWS_END - rows + 1, ROWS_END + 1, u64::MAX - rows, u64::MAX, 0_u64.wrapping_sub(rows).max(ROWS_END + 1)] {
+            assert_eq!(raw::read_window(&[], 0, past, rows, &mut field), refused, "{rows} rows from {past} on");
+            assert_eq!(raw::read_window(&[], 0, past, rows, &mut []), refused, "{rows} rows from {past} on");
+        }
+    }
+    // At the limit it is ROOM, and exactly at the end too.
+    for (first, rows) in [(0, LIMIT), (ROWS_END - LIMIT, LIMIT), (ROWS_END - 9, 9), (5, LIMIT)] {
+        assert_eq!(raw::read_window(&[], 0, first, rows, &mut field), (10, 0, Fault::NONE));
+    }
+    assert_eq!(field, [0xAA]);
+    // And with room the file is looked at.
+    for (first, rows) in [(ROWS_END, 0), (ROWS_END - 1, 1), (ROWS_END - 8, 8), (0, 8)] {
+        assert_eq!(raw::read_window(&[], 0, first, rows, &mut field), (1, 0, Fault::NONE));
+    }
+    assert_eq!(field, [0]);
+}
+
 #[test]
 fn subtract_refuses_rows() {
     let (mut first, second) = ([0xAA], [0xFF]);
@@ -180,6 +217,9 @@ fn row_fields_may_be_longer() {
     assert_eq!(raw::subtract_record(&mut [0b111], &long, record), (0, Record { matched: 2, ..left }, 1));
     assert_eq!(raw::subtract(&mut long, &[1], 3), (0, 0, 1));
     assert_eq!(raw::subtract(&mut [0b111], &long, 3), (0, 3, 0));
+    long[1] = 0xAA;
+    assert_eq!(raw::read_window(&[1], 0, 3, 5, &mut long), (14, 0, Fault::NONE));
+    assert_eq!(long[..3], [0, 0xAA, 0]);
 }
 
 /// A stored name has at most 65,535 bytes, and an asked one that would have more is LITERAL, up to the limit of its buffer.

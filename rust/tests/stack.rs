@@ -5,7 +5,7 @@ use std::thread;
 
 use poddurance::raw::{self, Fault, Record};
 use reference::types;
-use reference::writer::{bitmap, body, deletion_file, index_file, BitmapForm, Groups, Layout};
+use reference::writer::{bin_64, bitmap, body, deletion_file, file_of_bins, index_file, BitmapForm, Groups, Layout};
 
 const STACK: usize = 128 << 10;
 
@@ -19,6 +19,13 @@ const BLOCK: u32 = 500;
 /// The null rows, behind the others, of the columns that have some.
 const NULLS: u32 = 1_000;
 const MOST_ROWS: u32 = VALUES + NULLS;
+
+/// Rows of one bitmap of a 64-bit bin and of one container, and how many rows of bits there are.
+const BITMAP_ROWS: u64 = 1 << 32;
+const CONTAINER: u64 = 1 << 16;
+const BITS: u32 = 5_000;
+/// How many rows of a window are in the bitmap before.
+const WINDOW_BEFORE: u64 = 77;
 
 /// The longest name that can be stored.
 const LONGEST_NAME: usize = 65_535;
@@ -46,6 +53,11 @@ fn every_call_on_a_small_stack() {
         columns.push((version, body, file, record));
     }
     let deletions = deletion_file(&[bitmap(&(0..VALUES).collect::<Vec<_>>(), &BitmapForm::WithoutRuns)]);
+    // The same rows from the last ones of a bitmap on, and bits of every other row behind them.
+    let from = BITMAP_ROWS - WINDOW_BEFORE;
+    let others = (0..u64::from(BITS)).map(|i| BITMAP_ROWS + CONTAINER + 2 * i);
+    let wide_rows: Vec<u64> = (from..from + u64::from(VALUES)).chain(others).collect();
+    let wide = [BitmapForm::WithoutRuns, BitmapForm::Smallest].map(|form| file_of_bins(&[bin_64(&wide_rows, &form)]));
 
     let calls = move || {
         let mut field = [0; MOST_ROWS.div_ceil(8) as usize];
@@ -76,6 +88,16 @@ fn every_call_on_a_small_stack() {
         let rows = MOST_ROWS.into();
         assert_eq!(raw::read_deletions(&deletions, 0, rows, &mut deleted), (raw::ACCEPTED, VALUES.into(), Fault::NONE));
         assert_eq!(raw::subtract(&mut field, &deleted, rows), (raw::ACCEPTED, 0, LITERALS.into()));
+        for file in &wide {
+            let accepted = (raw::ACCEPTED, VALUES.into(), Fault::NONE);
+            let mut through_window = [0; MOST_ROWS.div_ceil(8) as usize];
+            assert_eq!(raw::read_window(file, 0, from, rows, &mut through_window), accepted);
+            assert_eq!(through_window, deleted);
+            let bits = (raw::ACCEPTED, u64::from(MOST_ROWS / 2), Fault::NONE);
+            assert_eq!(raw::read_window(file, 0, BITMAP_ROWS + CONTAINER + 1, rows, &mut through_window), bits);
+        }
+        let but_three = (raw::ACCEPTED, u64::from(VALUES) - 3, Fault::NONE);
+        assert_eq!(raw::read_window(&deletions, 0, 3, rows, &mut field), but_three);
         let given = Record { rows, nulls: NULLS.into(), deleted: 0, matched: LITERALS.into() };
         let record = Record { deleted: VALUES.into(), matched: 0, ..given };
         assert_eq!(raw::subtract_record(&mut left, &deleted, given), (raw::ACCEPTED, record, LITERALS.into()));

@@ -2,15 +2,15 @@
 //!
 //! It is written from the rules of the formats alone and shares no code with the proved library, so that the two can
 //! be compared: `reader` has the library's calls, `writer` makes files in every permitted layout, `scan` answers
-//! questions from the column itself, and `random` draws columns, questions, layouts and damage. Reader and scan say
-//! what they found as a `record`. `names` has the form of names in files.
+//! questions from the column itself, and `random` draws columns, questions, layouts, windows and damage. Reader and
+//! scan say what they found as a `record`. `names` has the form of names in files.
 //!
 //! ```
 //! use reference::reader;
 //! use reference::record::Record;
 //! use reference::scan::{scan, scan_without};
 //! use reference::types::{literals, FIRST_EDITION, NOT_EQUAL, SECOND_EDITION, STRING};
-//! use reference::writer::{bitmap, body_of, deletion_file, index_file, BitmapForm, Column, Layout};
+//! use reference::writer::{bin_64, bitmap, body_of, deletion_file, file_of_bins, index_file, BitmapForm, Column, Layout};
 //!
 //! let column = Column::strings(&[Some("on"), None, Some("off"), Some("on")]);
 //! let body = body_of(&column, &Layout::version(2));
@@ -41,6 +41,11 @@
 //! assert_eq!(reader::subtract_record(&mut field, &deleted, given), (0, record, 1));
 //! assert_eq!(field, [0b0001]);
 //! assert_eq!((field.to_vec(), record), scan_without(&[2, 3], &column, SECOND_EDITION, NOT_EQUAL, &["off"]));
+//!
+//! // Rows of 64 bits are read through a window, here of 6 rows from 2^32 - 2 on.
+//! let deletions = file_of_bins(&[bin_64(&[7, (1 << 32) - 1, 1 << 32, 1 << 40], &BitmapForm::Smallest)]);
+//! assert_eq!(reader::read_window(&deletions, 0, (1 << 32) - 2, 6, &mut deleted), (0, 2, reader::NO_FAULT));
+//! assert_eq!(deleted, [0b00_0110]);
 //! ```
 
 #![forbid(unsafe_code)]

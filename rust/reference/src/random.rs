@@ -1,4 +1,4 @@
-//! Random columns, layouts, names, questions of both editions and damage, repeated by a seed.
+//! Random columns, layouts, names, questions of both editions, windows and damage, repeated by a seed.
 
 use std::collections::HashSet;
 
@@ -9,6 +9,10 @@ use crate::writer::{
     bitmap_traced, deletion_file_traced, BitmapForm, ByteOrder, Column, ContainerForm, Content, Field, FileLayout, Groups, Index,
     IndexedColumn, Layout, Length, Place, Traced,
 };
+
+mod windows;
+
+pub use windows::{bitmaps_of, file_of_bins, rows_64, window, window_past_a_limit, ListedRows};
 
 /// Random numbers from a seed (splitmix64).
 #[derive(Clone, Debug)]

@@ -1,4 +1,4 @@
-//! The calls: Locate, Audit, Ask, Ask of a file, Open, Look up, Read deletions, Subtract and Subtract of a record.
+//! The calls: Locate, Audit, Ask, Ask of a file, Open, Look up, Read deletions, Read a window, Subtract and Subtract of a record.
 //!
 //! Each answers a number first: 0 accepted, 255 ABSENT (Locate and Ask of a file alone), otherwise a refusal's number.
 //! Counts, records, start and length are 0 with any answer but 0. The calls that read bitmaps end with where a refusal's cause is.
@@ -13,8 +13,10 @@ use crate::roaring::{count_ones, Bitmap, Broken};
 use crate::types::{self, Width};
 
 mod lookup;
+mod window;
 
 pub use lookup::look_up;
+pub use window::read_window;
 
 pub const ACCEPTED: u8 = 0;
 pub const ABSENT: u8 = 255;
@@ -81,7 +83,10 @@ const INDEX_VERSION: u32 = 1;
 const SHORTEST_HEAD: usize = 24;
 
 const DELETION_VERSION: u8 = 1;
+/// Of a 32-bit bin, stored big-endian.
 const BIN_MAGIC: u32 = 1_581_511_376;
+/// Of a 64-bit bin, stored little-endian.
+const BIN_MAGIC_64: u32 = 1_681_511_377;
 /// The entry that a fault in a bin names: it has none.
 const BIN_ENTRY: u64 = 0;
 
@@ -336,6 +341,11 @@ fn flip(field: &mut [u8], rows: u64) {
     for byte in field.iter_mut() {
         *byte = !*byte;
     }
+    clear_spare_bits(field, rows);
+}
+
+/// Clears the bits of the last byte that stand for no row.
+fn clear_spare_bits(field: &mut [u8], rows: u64) {
     let used = rows % 8;
     if let (1.., Some(last)) = (used, field.last_mut()) {
         *last &= 0xFF >> (8 - used);
@@ -635,7 +645,11 @@ fn try_read_deletions(file: &[u8], bin: u64, rows: u64, buffer: &mut [u8]) -> Re
     }
     let field = field_for(rows, buffer)?;
     field.fill(0);
-    let bitmap = bin_bitmap(file, bin)?;
+    let bin = Bin::find(file, bin)?;
+    if bin.kind()? != Kind::Bitmap32 {
+        return Err(Refusal::Magic);
+    }
+    let bitmap = bin.bitmap_32()?;
     if bitmap.last_row().is_some_and(|last| u64::from(last) >= rows) {
         return Err(Refusal::Range { entry: BIN_ENTRY });
     }
@@ -643,35 +657,71 @@ fn try_read_deletions(file: &[u8], bin: u64, rows: u64, buffer: &mut [u8]) -> Re
     Ok(bitmap.cardinality())
 }
 
-/// The bitmap of the asked bin, after every size to the end of the file has been walked.
-fn bin_bitmap(file: &[u8], asked: u64) -> Result<Bitmap<'_>, Refusal> {
-    let mut input = Input::new(file);
-    if input.u8()? != DELETION_VERSION {
-        return Err(Refusal::Version);
-    }
-    let mut found = None;
-    let mut number = 0;
-    while !input.is_empty() {
-        let size = input.count().map_err(|_| Refusal::Short)?;
-        if size < 4 {
-            return Err(Refusal::Short);
+/// One bin of a deletion file.
+struct Bin<'a> {
+    magic: [u8; 4],
+    /// What stands behind the magic.
+    content: &'a [u8],
+    /// Whether the stored checksum is that of magic and content.
+    checksum_holds: bool,
+}
+
+/// What a bin holds, as its magic says.
+#[derive(Clone, Copy, Debug, PartialEq, Eq)]
+enum Kind {
+    Bitmap32,
+    Bitmap64,
+}
+
+impl<'a> Bin<'a> {
+    /// The asked bin, after every size to the end of the file has been walked.
+    fn find(file: &'a [u8], asked: u64) -> Result<Bin<'a>, Refusal> {
+        let mut input = Input::new(file);
+        if input.u8()? != DELETION_VERSION {
+            return Err(Refusal::Version);
         }
-        let bin = input.take(size)?;
-        let checksum = input.u32()?;
-        if number == asked {
-            found = Some((bin, checksum));
+        let mut found = None;
+        let mut number = 0;
+        while !input.is_empty() {
+            let size = input.count().map_err(|_| Refusal::Short)?;
+            if size < 4 {
+                return Err(Refusal::Short);
+            }
+            let bin = input.take(size)?;
+            let checksum = input.u32()?;
+            if number == asked {
+                found = Some((bin, checksum));
+            }
+            number += 1;
         }
-        number += 1;
+        let (bin, checksum) = found.ok_or(Refusal::NoBin)?;
+        let (magic, content) = bin.split_at(4);
+        let magic = magic.try_into().expect("4 bytes");
+        Ok(Bin { magic, content, checksum_holds: crc32(bin) == checksum })
     }
-    let (bin, checksum) = found.ok_or(Refusal::NoBin)?;
-    let (magic, bitmap) = bin.split_at(4);
-    if magic != BIN_MAGIC.to_be_bytes() {
-        return Err(Refusal::Magic);
+
+    fn kind(&self) -> Result<Kind, Refusal> {
+        if self.magic == BIN_MAGIC.to_be_bytes() {
+            Ok(Kind::Bitmap32)
+        } else if self.magic == BIN_MAGIC_64.to_le_bytes() {
+            Ok(Kind::Bitmap64)
+        } else {
+            Err(Refusal::Magic)
+        }
     }
-    if crc32(bin) != checksum {
-        return Err(Refusal::Checksum);
+
+    /// What stands behind the magic, if the checksum holds.
+    fn checked(&self) -> Result<&'a [u8], Refusal> {
+        if !self.checksum_holds {
+            return Err(Refusal::Checksum);
+        }
+        Ok(self.content)
     }
-    Bitmap::parse_whole(bitmap).map_err(|broken| bitmap_refusal(BIN_ENTRY, broken))
+
+    /// The one bitmap of a 32-bit bin.
+    fn bitmap_32(&self) -> Result<Bitmap<'a>, Refusal> {
+        Bitmap::parse_whole(self.checked()?).map_err(|broken| bitmap_refusal(BIN_ENTRY, broken))
+    }
 }
 
 // Subtract

@@ -1,9 +1,9 @@
 //! From meaning to bytes: Roaring bitmaps, bodies, index files and deletion files, with every choice that the formats
 //! leave open as a parameter.
 //!
-//! The short way is [`body_of`], [`index_file`] and [`deletion_file`]. The functions that end in `_traced` also tell
-//! where each field of the structure lies, so that a test can damage it. Nothing is checked here: a broken
-//! [`Groups`] or [`Layout`] gives a broken body.
+//! The short way is [`body_of`], [`index_file`] and [`deletion_file`], for bins of both kinds [`file_of_bins`]. The functions that end
+//! in `_traced` also tell where each field of the structure lies, so that a test can damage it. Nothing is checked here: a broken
+//! [`Groups`] or [`Layout`] gives a broken body, and bitmaps whose indexes don't rise a broken bin.
 
 use std::collections::HashMap;
 
@@ -561,23 +561,87 @@ pub fn index_file_traced(columns: &[IndexedColumn], layout: &FileLayout) -> Trac
 
 // Deletion files
 
-/// A deletion file with a bin for each bitmap.
+/// A deletion file with a 32-bit bin for each bitmap.
 pub fn deletion_file(bitmaps: &[Vec<u8>]) -> Vec<u8> {
-    let bitmaps: Vec<Traced> = bitmaps.iter().map(|bitmap| Traced { bytes: bitmap.clone(), fields: Vec::new() }).collect();
+    let bitmaps: Vec<Traced> = bitmaps.iter().map(Traced::without_fields).collect();
     deletion_file_traced(&bitmaps).bytes
 }
 
 /// As [`deletion_file`], with the places of its fields.
 pub fn deletion_file_traced(bitmaps: &[Traced]) -> Traced {
+    let bins: Vec<Traced> = bitmaps.iter().map(bin_32_traced).collect();
+    file_of_bins_traced(&bins)
+}
+
+/// A deletion file with these bins, of either kind.
+pub fn file_of_bins(bins: &[Vec<u8>]) -> Vec<u8> {
+    let bins: Vec<Traced> = bins.iter().map(Traced::without_fields).collect();
+    file_of_bins_traced(&bins).bytes
+}
+
+/// As [`file_of_bins`], with the places of its fields.
+pub fn file_of_bins_traced(bins: &[Traced]) -> Traced {
     let mut out = Traced::default();
     out.big("version", 1, 1);
+    for bin in bins {
+        out.big("bin size", 4, bin.bytes.len() as u64);
+        out.append(bin);
+        out.big("checksum", 4, u64::from(crc32(&bin.bytes)));
+    }
+    out
+}
+
+/// A 32-bit bin of the rows, which must rise.
+pub fn bin_32(rows: &[u32], form: &BitmapForm) -> Vec<u8> {
+    bin_32_traced(&bitmap_traced(rows, form)).bytes
+}
+
+/// A 32-bit bin of a bitmap, with the places of its fields.
+pub fn bin_32_traced(bitmap: &Traced) -> Traced {
+    let mut out = Traced::default();
+    out.big("magic", 4, 1_581_511_376);
+    out.append(bitmap);
+    out
+}
+
+/// One bitmap of a 64-bit bin: its rows are index times 2^32 plus each of the low parts, which must rise.
+#[derive(Clone, Debug, Default, PartialEq, Eq)]
+pub struct IndexedBitmap {
+    pub index: u32,
+    pub lows: Vec<u32>,
+    pub form: BitmapForm,
+}
+
+impl IndexedBitmap {
+    /// That of no rows.
+    pub fn empty(index: u32) -> IndexedBitmap {
+        IndexedBitmap { index, ..IndexedBitmap::default() }
+    }
+}
+
+/// The bitmaps of rows below 2^63 that rise, one for each index that a row has.
+pub fn indexed_bitmaps(rows: &[u64], form: &BitmapForm) -> Vec<IndexedBitmap> {
+    rows.chunk_by(|a, b| a >> 32 == b >> 32)
+        .map(|rows| {
+            let lows = rows.iter().map(|row| *row as u32).collect();
+            IndexedBitmap { index: (rows[0] >> 32) as u32, lows, form: form.clone() }
+        })
+        .collect()
+}
+
+/// A 64-bit bin of rows below 2^63, which must rise.
+pub fn bin_64(rows: &[u64], form: &BitmapForm) -> Vec<u8> {
+    bin_64_traced(&indexed_bitmaps(rows, form)).bytes
+}
+
+/// A 64-bit bin of these bitmaps, with the places of its fields.
+pub fn bin_64_traced(bitmaps: &[IndexedBitmap]) -> Traced {
+    let mut out = Traced::default();
+    out.little("magic", 4, 1_681_511_377);
+    out.little("bitmap number", 8, bitmaps.len() as u64);
     for bitmap in bitmaps {
-        out.big("bin size", 4, bitmap.bytes.len() as u64 + 4);
-        let from = out.bytes.len();
-        out.big("magic", 4, 1_581_511_376);
-        out.append(bitmap);
-        let checksum = crc32(&out.bytes[from..]);
-        out.big("checksum", 4, u64::from(checksum));
+        out.little("bitmap index", 4, u64::from(bitmap.index));
+        out.append(&bitmap_traced(&bitmap.lows, &bitmap.form));
     }
     out
 }
@@ -628,6 +692,10 @@ pub enum ByteOrder {
 }
 
 impl Traced {
+    fn without_fields(bytes: &Vec<u8>) -> Traced {
+        Traced { bytes: bytes.clone(), fields: Vec::new() }
+    }
+
     fn field(&mut self, name: &'static str, width: usize, order: ByteOrder) {
         if width > 0 {
             self.fields.push(Field { name, at: self.bytes.len(), width, order });

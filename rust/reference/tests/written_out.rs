@@ -1,12 +1,14 @@
 //! The files that document 01 writes out, and what document 02 says of them.
 
-use reference::reader::{ask, ask_file, audit, locate, look_up, open, read_deletions, subtract, subtract_record, NO_FAULT};
+use reference::reader::{
+    ask, ask_file, audit, locate, look_up, open, read_deletions, read_window, subtract, subtract_record, NO_FAULT,
+};
 use reference::record::Record;
 use reference::scan::{scan, scan_without};
 use reference::types::*;
 use reference::writer::{
-    bitmap, body, body_of, deletion_file, index_file, index_file_traced, BitmapForm, Column, ContainerForm, Content, FileLayout,
-    Index, IndexedColumn, Layout,
+    bin_32, bin_64, bin_64_traced, bitmap, body, body_of, deletion_file, file_of_bins, index_file, index_file_traced,
+    indexed_bitmaps, BitmapForm, Column, ContainerForm, Content, FileLayout, Index, IndexedBitmap, IndexedColumn, Layout,
 };
 
 fn hex(text: &str) -> Vec<u8> {
@@ -618,4 +620,120 @@ fn blocks_are_cut_by_bytes() {
     let groups = Column::strings(&[Some("aa"), Some("bbbbbbbb"), Some("c")]).groups();
     let blocks = |bytes| Layout::version(2).with_blocks_within(bytes, &groups).blocks;
     assert_eq!([17, 36, 37, 38, 50, 51].map(blocks), [vec![1, 1, 1], vec![1, 1, 1], vec![1, 2], vec![2, 1], vec![2, 1], vec![3]]);
+}
+
+/// A 64-bit bin of the small bitmaps: rows 0, 2, 5, and 2^32 + 1 to 2^32 + 4 as a run.
+const BIN_64: &str = "D1 D3 39 64 02 00 00 00 00 00 00 00 \
+    00 00 00 00 3A 30 00 00 01 00 00 00 00 00 02 00 10 00 00 00 00 00 02 00 05 00 \
+    01 00 00 00 3B 30 00 00 01 00 00 03 00 01 00 01 00 03 00";
+const SECOND_BITMAP: u64 = 1 << 32;
+const ROWS_END: u64 = 1 << 63;
+
+#[test]
+fn small_bin_of_64_bits() {
+    let rows: Vec<u64> = [0, 2, 5].into_iter().chain(SECOND_BITMAP + 1..=SECOND_BITMAP + 4).collect();
+    assert_eq!(bin_64(&rows, &BitmapForm::Smallest), hex(BIN_64));
+    let file = file_of_bins(&[hex(BIN_64), bin_32(&[0, 2, 5], &BitmapForm::WithoutRuns)]);
+    for (bin, first, rows, field, deleted) in [
+        (0, 0, 6, [0b10_0101, 0xAA], 3),
+        (0, 0, 5, [0b101, 0xAA], 2),
+        (0, 2, 3, [0b001, 0xAA], 1),
+        (0, 1, 9, [0b1_0010, 0], 2),
+        (0, 6, 8, [0, 0xAA], 0),
+        (0, SECOND_BITMAP, 6, [0b01_1110, 0xAA], 4),
+        (0, SECOND_BITMAP - 3, 8, [0b1111_0000, 0xAA], 4),
+        (0, SECOND_BITMAP - 6, 16, [0b1000_0000, 0b111], 4),
+        (0, SECOND_BITMAP + 3, 1, [1, 0xAA], 1),
+        (0, ROWS_END - 8, 8, [0, 0xAA], 0),
+        (0, ROWS_END, 0, [0xAA, 0xAA], 0),
+        (0, 2, 0, [0xAA, 0xAA], 0),
+        (1, 0, 6, [0b10_0101, 0xAA], 3),
+        // Where the call without a window says RANGE, the rows below the end.
+        (1, 0, 5, [0b101, 0xAA], 2),
+        (1, 2, 6, [0b1001, 0xAA], 2),
+        (1, SECOND_BITMAP, 6, [0, 0xAA], 0),
+    ] {
+        let mut found = [0xAA; 2];
+        assert_eq!(read_window(&file, bin, first, rows, &mut found), (0, deleted, NO_FAULT), "{rows} rows from {first} on");
+        assert_eq!(found, field, "{rows} rows from {first} on");
+    }
+    let mut field = [0xAA];
+    assert_eq!(read_deletions(&file, 0, 6, &mut field), (2, 0, NO_FAULT));
+    assert_eq!(field, [0]);
+    assert_eq!(read_deletions(&file, 1, 5, &mut field), (7, 0, NO_FAULT));
+}
+
+/// LIMIT for the file, the length, and an end past 2^63, then ROOM: the field as it was.
+#[test]
+fn windows_past_a_limit() {
+    let file = file_of_bins(&[hex(BIN_64)]);
+    let mut field = [0xAA];
+    for (first, rows, answer) in [
+        (0, 1 << 31, 12),
+        (0, u64::MAX, 12),
+        (ROWS_END, 1, 12),
+        (ROWS_END - 7, 8, 12),
+        (ROWS_END + 1, 0, 12),
+        (u64::MAX, 0, 12),
+        (u64::MAX, 1, 12),
+        (u64::MAX - 6, 8, 12),
+        (0, (1 << 31) - 1, 10),
+        (ROWS_END - 9, 9, 10),
+    ] {
+        for file in [&file[..], &[]] {
+            assert_eq!(read_window(file, 0, first, rows, &mut field), (answer, 0, NO_FAULT), "{rows} rows from {first} on");
+        }
+    }
+    assert_eq!(field, [0xAA]);
+    assert_eq!(read_window(&[], 0, 0, 8, &mut field), (1, 0, NO_FAULT));
+    assert_eq!(field, [0]);
+}
+
+/// Whatever is wrong behind the magic is the first container's fault; no bitmap, and bitmaps of no rows, aren't wrong.
+#[test]
+fn faults_of_a_bin_of_64_bits() {
+    for (text, answer) in [
+        ("D1 D3 39 64 00 00 00 00 00 00 00 00", 0),
+        ("D1 D3 39 64 01 00 00 00 00 00 00 00 FF FF FF 7F 3A 30 00 00 00 00 00 00", 0),
+        ("D1 D3 39 64 02 00 00 00 00 00 00 00 00 00 00 00 3A 30 00 00 00 00 00 00 01 00 00 00 3A 30 00 00 00 00 00 00", 0),
+        ("64 39 D3 D1 00 00 00 00 00 00 00 00", 2),
+        ("D0 F2 43 5E 3A 30 00 00 00 00 00 00", 2),
+        ("5E 43 F2 D0 3A 30 00 00 00 00 00 00", 0),
+        ("D1 D3 39 64", 6),
+        ("D1 D3 39 64 00 00 00 00 00 00 00", 6),
+        ("D1 D3 39 64 00 00 00 00 00 00 00 00 00", 6),
+        ("D1 D3 39 64 FF FF FF FF FF FF FF FF", 6),
+        ("D1 D3 39 64 01 00 00 00 00 00 00 00 00 00 00 00", 6),
+        ("D1 D3 39 64 01 00 00 00 00 00 00 00 00 00 00 80 3A 30 00 00 00 00 00 00", 6),
+        ("D1 D3 39 64 01 00 00 00 00 00 00 00 00 00 00 00 3A 30 00 00 00 00 00 00 00", 6),
+        ("D1 D3 39 64 02 00 00 00 00 00 00 00 00 00 00 00 3A 30 00 00 00 00 00 00", 6),
+        ("D1 D3 39 64 02 00 00 00 00 00 00 00 01 00 00 00 3A 30 00 00 00 00 00 00 01 00 00 00 3A 30 00 00 00 00 00 00", 6),
+        ("D1 D3 39 64 02 00 00 00 00 00 00 00 01 00 00 00 3A 30 00 00 00 00 00 00 00 00 00 00 3A 30 00 00 00 00 00 00", 6),
+        // The second container is broken, and the bitmap's other bytes are right.
+        ("D1 D3 39 64 01 00 00 00 00 00 00 00 00 00 00 00 3B 30 01 00 00 00 00 00 00 00 00 00 00 05 00 06 00", 6),
+    ] {
+        let mut field = [0xAA; 2];
+        assert_eq!(read_window(&file_of_bins(&[hex(text)]), 0, 3, 8, &mut field), (answer, 0, NO_FAULT), "{text}");
+        assert_eq!(field, [0, 0xAA], "{text}");
+    }
+    let mut file = file_of_bins(&[hex(BIN_64)]);
+    *file.last_mut().unwrap() ^= 1;
+    assert_eq!(read_window(&file, 0, 0, 8, &mut [0]), (13, 0, NO_FAULT));
+    assert_eq!(read_window(&file, 1, 0, 8, &mut [0]), (14, 0, NO_FAULT));
+    // A 32-bit bin names the container.
+    let second = hex("5E 43 F2 D0 3B 30 01 00 00 00 00 00 00 00 00 00 00 05 00 06 00");
+    assert_eq!(read_window(&file_of_bins(&[second]), 0, 3, 8, &mut [0]), (6, 0, [0, 1, 0]));
+}
+
+#[test]
+fn bitmaps_of_no_rows_between_others() {
+    let mut bitmaps = indexed_bitmaps(&[5, 7 << 32, ROWS_END - 1], &BitmapForm::WithoutRuns);
+    assert_eq!(bitmaps.iter().map(|bitmap| bitmap.index).collect::<Vec<_>>(), [0, 7, (1 << 31) - 1]);
+    bitmaps.splice(1..1, [IndexedBitmap::empty(1), IndexedBitmap::empty(6)]);
+    let file = file_of_bins(&[bin_64_traced(&bitmaps).bytes]);
+    for (first, bits) in [(0, 0b10_0000), (1 << 32, 0), (7 << 32, 1), (ROWS_END - 8, 0x80)] {
+        let mut field = [0xAA];
+        assert_eq!(read_window(&file, 0, first, 8, &mut field), (0, u64::from(bits != 0), NO_FAULT));
+        assert_eq!(field, [bits]);
+    }
 }

@@ -1,4 +1,4 @@
-//! The kinds of answers with a record, and of names, counted, so that a test can demand that each of them occurred.
+//! The kinds of answers with a record, of names and of windows, counted, so that a test can demand that each of them occurred.
 
 use reference::reader::ACCEPTED;
 use reference::record::Record;
@@ -6,6 +6,7 @@ use reference::types;
 
 use super::lookups::{LookUpKinds, LookedUp, Stands, Unopened};
 use super::names::{NameKinds, Named};
+use super::windows::{WindowKinds, Windowed};
 use super::{ASK_FILE, LOCATE};
 use crate::support::CALLS;
 
@@ -111,6 +112,7 @@ pub struct Kinds {
     /// Answers of a column with null rows, by edition and question.
     with_nulls: [u64; QUESTIONS],
     of_look_up: LookUpKinds,
+    of_window: WindowKinds,
     of_subtract: [u64; OF_SUBTRACT.len()],
 }
 
@@ -121,6 +123,7 @@ impl Kinds {
             of_ask: [0; OF_ASK.len()],
             with_nulls: [0; QUESTIONS],
             of_look_up: LookUpKinds::new(),
+            of_window: WindowKinds::new(),
             of_subtract: [0; OF_SUBTRACT.len()],
         }
     }
@@ -152,6 +155,10 @@ impl Kinds {
         self.of_look_up.add_unopened(unopened, answer);
     }
 
+    pub fn add_windowed(&mut self, windowed: &Windowed) {
+        self.of_window.add(windowed);
+    }
+
     pub fn add_subtracted(&mut self, subtracted: &Subtracted) {
         add(&mut self.of_subtract, OF_SUBTRACT.map(|(_, is)| is(subtracted)));
     }
@@ -168,6 +175,7 @@ impl Kinds {
             all.push((format!("Ask: null rows, question {question} in edition {edition}"), count));
         }
         all.extend(self.of_look_up.all().into_iter().map(|(kind, count)| (format!("Look up: {kind}"), count)));
+        all.extend(self.of_window.all().into_iter().map(|(kind, count)| (format!("Read window: {kind}"), count)));
         all.extend(
             OF_SUBTRACT.iter().zip(self.of_subtract).map(|((name, _), count)| (format!("Subtract record: {name}"), count)),
         );

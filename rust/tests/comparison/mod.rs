@@ -7,6 +7,7 @@
 pub mod kinds;
 pub mod lookups;
 pub mod names;
+pub mod windows;
 
 use kinds::{Kinds, Subtracted};
 use lookups::LookedUp;
@@ -14,6 +15,7 @@ use names::Named;
 use poddurance::raw;
 use reference::reader::{self, Fault, ACCEPTED};
 use reference::record::Record;
+use windows::Windowed;
 
 use crate::support::{hex, say, Lender, Tally};
 
@@ -24,8 +26,9 @@ pub const ASK_FILE: usize = 3;
 pub const OPEN: usize = 4;
 pub const LOOK_UP: usize = 5;
 pub const READ_DELETIONS: usize = 6;
-pub const SUBTRACT: usize = 7;
-pub const SUBTRACT_RECORD: usize = 8;
+pub const READ_WINDOW: usize = 7;
+pub const SUBTRACT: usize = 8;
+pub const SUBTRACT_RECORD: usize = 9;
 
 /// What both say of a call: answer, count, the field as they leave it, and where a refusal's cause is.
 pub type Found = (u8, u64, Vec<u8>, Fault);
@@ -307,6 +310,33 @@ impl Comparison {
         }
         self.tally.add(READ_DELETIONS, found.0);
         (found.0, found.1, expected_field, found.2)
+    }
+
+    /// What is promised of any file is held against the library's answer by itself too.
+    pub fn read_window(&mut self, file: &[u8], bin: u64, first: u64, rows: u64, field: &[u8]) -> Found {
+        let mut expected_field = field.to_vec();
+        let expected = reader::read_window(file, bin, first, rows, &mut expected_field);
+        let (lent_file, lent_field) = (self.first.lend(file), self.second.lend(field));
+        let found = said(raw::read_window(lent_file, bin, first, rows, lent_field));
+        let same = found == expected && lent_field == expected_field && lent_file == file;
+        let after = lent_field.to_vec();
+        let (answer, deleted, fault) = found;
+        let windowed = Windowed { file, bin, first, rows, before: field, after: &after, answer, deleted, fault };
+        let broken = windowed.broken_promise();
+        if !same || broken.is_some() {
+            let inputs = [
+                ("file", file),
+                ("field before", field),
+                ("field after, library", &after),
+                ("field after, reference reader", &expected_field),
+            ];
+            let broken = broken.map(|promise| format!("; {promise}")).unwrap_or_default();
+            let asked = format!("bin {bin}, {rows} rows from {first} on");
+            self.fail("Read window", &inputs, &format!("{asked}: library {found:?}, reference reader {expected:?}{broken}"));
+        }
+        self.tally.add(READ_WINDOW, answer);
+        self.kinds.add_windowed(&windowed);
+        (answer, deleted, expected_field, fault)
     }
 
     pub fn subtract(&mut self, first: &[u8], second: &[u8], rows: u64) -> (u8, u64, u64, Vec<u8>) {

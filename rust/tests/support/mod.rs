@@ -162,8 +162,8 @@ impl Lender {
 }
 
 /// The names of the calls, in the order of the table.
-pub const CALLS: [&str; 9] =
-    ["Locate", "Audit", "Ask", "Ask file", "Open", "Look up", "Read deletions", "Subtract", "Subtract record"];
+pub const CALLS: [&str; 10] =
+    ["Locate", "Audit", "Ask", "Ask file", "Open", "Look up", "Read deletions", "Read window", "Subtract", "Subtract record"];
 
 /// The names of the answers by their number.
 pub const ANSWERS: [&str; 15] = [
