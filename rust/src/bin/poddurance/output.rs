@@ -9,7 +9,7 @@ use crate::commas::with_commas;
 use crate::modified::{decoded, pieces, Piece};
 
 /// What came out. Its numbers are the library's answers or the user's own, but for those of `columns`; a field is for the list of its
-/// rows alone.
+/// rows alone, to which the first row of a window is added.
 #[derive(Debug)]
 pub enum Outcome {
     /// What the head of an index file lists.
