@@ -12,18 +12,18 @@
  * Each function answers 0 when it accepts, 255 for ABSENT (Locate and Ask of a file), and otherwise the number of its refusal:
  *
  *    1 SHORT     the bytes end inside a field that is due, outside bitmaps
- *    2 MAGIC     the magic of an index file or a bin differs
+ *    2 MAGIC     the magic of an index file or a bin differs; for Read deletions that of a 64-bit bin does too, which Read window reads
  *    3 VERSION   the version of an index file, a body or a deletion file is unknown; for Open and Look up: the body's is not 2
  *    4 HEAD      the head of an index file breaks a rule
  *    5 DICT      a dictionary breaks a rule
  *    6 BITMAP    place, length or form of a bitmap is wrong; carries the entry and the container
- *    7 RANGE     a row at or above the row count; carries the entry
+ *    7 RANGE     a row at or above the row count, not through a window; carries the entry
  *    8 TWICE     a row already placed; carries the entry that places it again
  *    9 MISSING   a row never placed; carries the lowest one
  *   10 ROOM      a lent field has fewer than (n + 7) / 8 bytes; for Open and Look up also: the table has fewer words than the body has blocks
  *   11 LITERAL   literals don't fit question and type, or a name can't be asked for (it is not standard UTF-8, or too long); also: a type, an edition or a
  *                question is unknown
- *   12 LIMIT     a limit is passed (an input buffer or a row count above 2147483647, and others)
+ *   12 LIMIT     a limit is passed (an input buffer or a row count above 2147483647, a window that ends above 2^63, and others)
  *   13 CHECKSUM  the checksum of a bin differs
  *   14 NOBIN     the bin number is not below the number of bins
  *
@@ -42,6 +42,7 @@
  *                    entry's bitmap: BITMAP, RANGE. Of a body that Open accepted: as Ask, LIMIT, LITERAL and ROOM alone
  *    Ask of a file   as Locate, then as Ask on the part that was found: body and literals are tested when Ask's turn comes
  *    Read deletions  LIMIT, ROOM | SHORT, VERSION, SHORT, NOBIN, MAGIC, CHECKSUM, BITMAP, RANGE
+ *    Read window     LIMIT, ROOM | SHORT, VERSION, SHORT, NOBIN, MAGIC, CHECKSUM, BITMAP
  *    Subtract        LIMIT, ROOM (leaves both fields as they were when it refuses)
  *    Subtract record LIMIT, ROOM (leaves both fields as they were when it refuses; the record becomes all 0)
  */
@@ -119,7 +120,8 @@ enum {
  *            deletion bin. Look up, which names an entry only of a body that Open did not accept, counts within the block.
  * container  the lowest container of the entry's bitmap, from 0, whose key, cardinality, offset or bytes are wrong or cut off. 0 for a fault in the bitmap's place,
  *            cookie, count or flags and for a length below -1 or past the body; else a length other than -1 ends the bytes there, so that the container it
- *            cuts is named. If only bytes left over behind the last container are wrong, the number of containers.
+ *            cuts is named. If only bytes left over behind the last container are wrong, the number of containers. In a 64-bit bin it is 0, whatever is wrong
+ *            behind its magic.
  * row        the lowest row without a place, from 0. */
 typedef struct {
     uint64_t entry;
@@ -147,9 +149,23 @@ typedef struct {
     uint64_t matched;
 } poddurance_record;
 
-/* Read deletions: the rows of bin number `bin` (from 0) of a deletion file, into a field for `rows` rows, and how many they are. */
+/* Read deletions: the rows of bin number `bin` (from 0) of a deletion file, into a field for `rows` rows, and how many they are. A 64-bit bin is MAGIC, also
+ * where its checksum or its bytes are wrong: Read window reads it. */
 uint8_t poddurance_read_deletions(const uint8_t *file, size_t file_len, uint64_t bin, uint64_t rows,
                                   uint8_t *field, size_t field_len, uint64_t *deleted, poddurance_fault *fault);
+
+/* Read window: of the rows of bin number `bin` (from 0) of a deletion file those in a window, the `rows` rows from row `first` on, into a field for `rows` rows, and
+ * how many they are. Row r of the field is set exactly if the bin lists row first + r, and *deleted counts these alone. A row that is listed before the window
+ * or behind it is no fault, so that a data file can be read in parts; there is no RANGE. The whole bin is tested, whatever the window.
+ *
+ * The bin is a 32-bit one, as in Read deletions, or a 64-bit one, whose magic is the bytes D1 D3 39 64: an 8-byte number of bitmaps, then per bitmap a 4-byte index
+ * and the bitmap (numbers little-endian, indexes rising and below 2^31); its rows are index times 2^32 plus the bitmap's. Any fault behind that magic is BITMAP,
+ * with entry 0 and container 0; a 32-bit bin's names the container as in Read deletions. A bin with neither magic is MAGIC.
+ *
+ * LIMIT is also given where first + rows is above 2^63, whether the sum fits in 64 bits or not; exactly 2^63 passes. A window from 0 of a 32-bit bin answers as
+ * Read deletions, and gives the rows below `rows` where that says RANGE. */
+uint8_t poddurance_read_window(const uint8_t *file, size_t file_len, uint64_t bin, uint64_t first, uint64_t rows,
+                               uint8_t *field, size_t field_len, uint64_t *deleted, poddurance_fault *fault);
 
 /* Subtract: clears in `first` each row below `rows` that is set in `second`. Answers how many rows below `rows` are left in `first`, and how many were
  * removed. ROOM is tested on both fields. */

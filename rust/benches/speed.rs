@@ -3,7 +3,8 @@
 //! Both are given the same bytes and a cleared field, one call at a time and in changing order, and the median of all times counts.
 //! Clearing the field is not timed. Before that, answers, counts and fields of both are compared.
 //!
-//! A second table has lookups in opened bodies, of many literals in turn, beside Ask's EQUAL of the same literals.
+//! A second table has lookups in opened bodies, of many literals in turn, beside Ask's EQUAL of the same literals. A third has deletions read
+//! through windows.
 //!
 //! Each table is measured PODDURANCE_RUNS times, three unless that is set, and each line shows the run whose ratio is the median.
 //! Then calls on more and more rows are timed for the plot `docs/speed.svg`.
@@ -27,7 +28,7 @@ use reference::random::Random;
 use reference::reader;
 use reference::record::Record;
 use reference::types;
-use reference::writer::{bitmap, body, deletion_file, index_file, BitmapForm, ContainerForm, Groups, Layout};
+use reference::writer::{bin_32, bin_64, body, file_of_bins, index_file, BitmapForm, ContainerForm, Groups, Layout};
 use timing::{grouped, median_by, print_machine, shown, time, Effort, Patience};
 
 /// The rows of one Roaring container.
@@ -78,6 +79,8 @@ fn main() {
     print!("{LEGEND}");
     look_up_table(&sizes, &patience, runs);
     print!("{LOOK_UP_LEGEND}");
+    window_table(&sizes, &patience, runs);
+    print!("{WINDOW_LEGEND}");
 
     let picture = against_rows(&sizes, &patience);
     if !quick {
@@ -116,13 +119,18 @@ fn table(sizes: &Sizes, patience: &Patience, runs: usize) {
     let locate = Call::Locate { file: &head, column: &column };
     lines.push(Line { what: of(sizes.columns, "columns"), call: locate, rows: 0, copied: None });
 
+    measure_lines(&lines, patience, runs, |line, cells| print_cells(&line.what, line.call.name(), cells));
+}
+
+/// Measures all lines in each run, and prints each in the last.
+fn measure_lines<'a>(lines: &[Line<'a>], patience: &Patience, runs: usize, print: impl Fn(&Line<'a>, [String; 5])) {
     lines.iter().for_each(Line::compare);
     let mut measured: Vec<Vec<Times>> = lines.iter().map(|_| Vec::new()).collect();
     for run in 1..=runs {
         for (line, times) in lines.iter().zip(&mut measured) {
             times.push(line.measure(patience));
             if run == runs {
-                print_line(line, median_by(times, Times::ratio));
+                print(line, cells(median_by(times, Times::ratio)));
             }
         }
     }
@@ -282,12 +290,29 @@ fn many_rows(random: &mut Random, rows: u32) -> Input {
 
 /// A deletion file with one bin, and its rows as a field.
 fn deletions(random: &mut Random, rows: u32) -> (Vec<u8>, Vec<u8>) {
-    let deleted: Vec<u32> = (0..rows).filter(|_| random.percent(10)).collect();
+    let deleted = at_a_chance(random, rows, 10);
     let mut field = vec![0; field_size(rows)];
     for row in &deleted {
         field[*row as usize / 8] |= 1 << (row % 8);
     }
-    (deletion_file(&[bitmap(&deleted, &BitmapForm::WithoutRuns)]), field)
+    (file_of_bins(&[bin_32(&deleted, &BitmapForm::WithoutRuns)]), field)
+}
+
+/// Each row with a chance of so many in 100.
+fn at_a_chance(random: &mut Random, rows: u32, percent: usize) -> Vec<u32> {
+    (0..rows).filter(|_| random.percent(percent)).collect()
+}
+
+/// Rows in runs of 1 to 100, with gaps of 1 to 200 between them.
+fn in_runs(random: &mut Random, rows: u32) -> Vec<u32> {
+    let mut all = Vec::new();
+    let mut next = 0;
+    while next < rows {
+        let end = rows.min(next + random.between(1, 100) as u32);
+        all.extend(next..end);
+        next = end + random.between(1, 200) as u32;
+    }
+    all
 }
 
 fn sensor(number: usize) -> String {
@@ -317,6 +342,7 @@ enum Call<'a> {
     Ask { body: &'a [u8], ty: u32, question: u32, literals: &'a [u8] },
     LookUp { body: &'a [u8], ty: u32, literals: &'a [u8], table: &'a [u32] },
     ReadDeletions { file: &'a [u8], rows: u32 },
+    ReadWindow { file: &'a [u8], first: u32, rows: u32 },
     Subtract { first: &'a [u8], second: &'a [u8], rows: u32 },
 }
 
@@ -332,6 +358,7 @@ impl Call<'_> {
             Call::Ask { .. } => "Ask EQUAL",
             Call::LookUp { .. } => "Look up",
             Call::ReadDeletions { .. } => "Read deletions",
+            Call::ReadWindow { .. } => "Read window",
             Call::Subtract { .. } => "Subtract",
         }
     }
@@ -356,6 +383,7 @@ impl Call<'_> {
             Call::Ask { body, ty, question, literals } => four(raw::ask(body, ty, EDITION, question, literals, field)),
             Call::LookUp { body, ty, literals, table } => five(raw::look_up(body, ty, EDITION, literals, table, field)),
             Call::ReadDeletions { file, rows } => one(raw::read_deletions(file, 0, rows.into(), field)),
+            Call::ReadWindow { file, first, rows } => one(raw::read_window(file, 0, first.into(), rows.into(), field)),
             Call::Subtract { second, rows, .. } => two(raw::subtract(field, second, rows.into())),
         }
     }
@@ -372,6 +400,7 @@ impl Call<'_> {
             Call::Ask { body, ty, question, literals } => four(reader::ask(body, ty, EDITION, question, literals, field)),
             Call::LookUp { body, ty, literals, table } => five(reader::look_up(body, ty, EDITION, literals, table, field)),
             Call::ReadDeletions { file, rows } => one(reader::read_deletions(file, 0, rows.into(), field)),
+            Call::ReadWindow { file, first, rows } => one(reader::read_window(file, 0, first.into(), rows.into(), field)),
             Call::Subtract { second, rows, .. } => two(reader::subtract(field, second, rows.into())),
         }
     }
@@ -564,6 +593,51 @@ struct LookUpTimes {
     times: Times,
 }
 
+// Windows
+
+/// A window that begins inside a byte: so many rows behind one that doesn't.
+const INSIDE_A_BYTE: u32 = 3;
+
+/// Measures reading through windows in each run, and prints it in the last.
+fn window_table(sizes: &Sizes, patience: &Patience, runs: usize) {
+    let mut random = Random::new(4);
+    let rows = sizes.rows;
+    let wide = |rows: &[u32], form: &BitmapForm| bin_64(&rows.iter().copied().map(u64::from).collect::<Vec<_>>(), form);
+    let as_runs = BitmapForm::WithRuns(vec![ContainerForm::Runs { cuts: Vec::new() }; rows.div_ceil(CONTAINER) as usize]);
+    let in_bits = at_a_chance(&mut random, rows, 10);
+    let in_arrays = at_a_chance(&mut random, rows, 1);
+    let bins = [
+        ("32-bit, bits", bin_32(&in_bits, &BitmapForm::WithoutRuns)),
+        ("64-bit, bits", wide(&in_bits, &BitmapForm::WithoutRuns)),
+        ("64-bit, arrays", wide(&in_arrays, &BitmapForm::WithoutRuns)),
+        ("64-bit, runs", wide(&in_runs(&mut random, rows), &as_runs)),
+    ]
+    .map(|(name, bin)| (name, file_of_bins(&[bin])));
+    let windows = [(0, rows), (INSIDE_A_BYTE, rows), (rows / 2 + INSIDE_A_BYTE, CONTAINER)];
+
+    let mut lines = Vec::new();
+    for (name, file) in &bins {
+        for (first, rows) in windows {
+            let call = Call::ReadWindow { file, first, rows };
+            lines.push(Line { what: name.to_string(), call, rows, copied: Some(file.len()) });
+        }
+    }
+    println!();
+    print_window("bin", "window", ["library", "reference", "ratio", "library/memcpy", "reference/memcpy"].map(str::to_string));
+    print_window("---", "---", ["--:"; 5].map(str::to_string));
+    measure_lines(&lines, patience, runs, |line, cells| {
+        let Call::ReadWindow { first, rows, .. } = line.call else { unreachable!("all of them are windows") };
+        let window = format!("{} rows from {}", grouped(rows as usize), grouped(first as usize));
+        print_window(&line.what, &window, cells);
+    });
+}
+
+const WINDOW_LEGEND: &str = "
+Median times of reading deletions through a window, so many rows from a row on; ratio and /memcpy as in the first table. The bin lists rows up to the
+end of the first window, and is checked as a whole, whatever the window. bits: each row is deleted with a chance of 1 in 10. arrays: 1 in 100.
+runs: runs of 1 to 100 rows, with gaps of 1 to 200.
+";
+
 // Measuring
 
 /// The medians of one run.
@@ -627,12 +701,12 @@ fn median(mut times: Vec<Duration>) -> Duration {
 
 // Printing
 
-fn print_line(line: &Line, times: Times) {
+/// What a line shows of its times.
+fn cells(times: Times) -> [String; 5] {
     let Times { library, reference, memcpy } = times;
     let share = |one: Duration| memcpy.map(|memcpy| format!("{:.1} %", 100.0 * memcpy.as_secs_f64() / one.as_secs_f64()));
     let [of_library, of_reference] = [library, reference].map(|one| share(one).unwrap_or_default());
-    let ratio = format!("{:.2}", times.ratio());
-    print_cells(&line.what, line.call.name(), [shown(library), shown(reference), ratio, of_library, of_reference]);
+    [shown(library), shown(reference), format!("{:.2}", times.ratio()), of_library, of_reference]
 }
 
 fn print_cells(what: &str, call: &str, numbers: [String; 5]) {
@@ -644,5 +718,12 @@ fn print_look_up(what: &str, blocks: &str, literals: &str, numbers: [String; 5])
     let [ask, library, reference, ratio, faster] = numbers;
     println!(
         "| {what:<14} | {blocks:<9} | {literals:<8} | {ask:>9} | {library:>9} | {reference:>9} | {ratio:>5} | {faster:>11} |"
+    );
+}
+
+fn print_window(what: &str, window: &str, numbers: [String; 5]) {
+    let [library, reference, ratio, of_library, of_reference] = numbers;
+    println!(
+        "| {what:<14} | {window:<30} | {library:>9} | {reference:>9} | {ratio:>7} | {of_library:>14} | {of_reference:>16} |"
     );
 }

@@ -438,7 +438,8 @@ impl Answer {
 /// Reads the deleted rows that bin number `bin`, from 0, of a deletion file lists, and gives the field back with those rows set.
 ///
 /// The data file's row count is the field's; a deleted row at or above it is [`Refusal::Range`]. A bin has no entries: [`Refusal::Range`]
-/// and [`Refusal::Bitmap`] name the entry 0, and print it. The command line leaves it out.
+/// and [`Refusal::Bitmap`] name the entry 0, and print it. The command line leaves it out. A 64-bit bin is [`Refusal::Magic`]:
+/// [`read_window`] reads it.
 ///
 /// ```
 /// use poddurance::{read_deletions, Refusal, RowField};
@@ -472,7 +473,69 @@ pub fn read_deletions(file: &[u8], bin: u64, mut field: RowField) -> Result<Dele
     Ok(Deleted { field, count })
 }
 
-/// The answer of [`read_deletions`] to a file that it accepts: the rows that are deleted.
+/// Reads the deleted rows that bin number `bin`, from 0, of a deletion file lists in a window, as many rows as the field is for from row `first`
+/// on, and gives the field back with those rows set: **its row r stands for row `first` + r of the data file**.
+///
+/// The bin is a 32-bit one, as [`read_deletions`] reads it, or a 64-bit one, as Paimon writes it where `deletion-vectors.bitmap64` is set. Where
+/// the data file has at most [`LIMIT`](crate::LIMIT) rows, one window from 0 reads all of them; else they are read in parts. A listed row before
+/// the window or behind it is no fault, so that there is no [`Refusal::Range`], and nothing tells that a bin is another data file's. The whole
+/// bin is checked, whatever the window.
+///
+/// A window that ends above 2^63, where rows end, is [`Refusal::Limit`]. [`Refusal::Bitmap`] names the entry 0, and in a 64-bit bin the
+/// container 0, whatever is wrong behind its magic.
+///
+/// ```
+/// use poddurance::{read_deletions, read_window, Refusal, RowField};
+///
+/// // Rows 5, 4294967299 and 4294967306: in the bitmap with index 0, and in that with index 1 by their low parts 3 and 10.
+/// let file = [
+///     1, 0, 0, 0, 58, 0xD1, 0xD3, 0x39, 0x64, 2, 0, 0, 0, 0, 0, 0, 0, // version, size, magic, number of bitmaps
+///     0, 0, 0, 0, 0x3A, 0x30, 0, 0, 1, 0, 0, 0, 0, 0, 0, 0, 0x10, 0, 0, 0, 5, 0,
+///     1, 0, 0, 0, 0x3A, 0x30, 0, 0, 1, 0, 0, 0, 0, 0, 1, 0, 0x10, 0, 0, 0, 3, 0, 10, 0,
+///     0x4A, 0x43, 0x81, 0xBA,
+/// ];
+/// let first = (1 << 32) + 1; // inside a byte of the bitmap's rows
+/// let deleted = read_window(&file, 0, first, RowField::for_rows(12)?)?;
+/// assert_eq!(deleted.count(), 2);
+/// assert!(deleted.field().iter().eq([2, 9]));
+/// assert!(deleted.field().iter().map(|row| first + row).eq([4_294_967_299, 4_294_967_306]));
+///
+/// // The rows behind the window are no fault.
+/// assert!(read_window(&file, 0, 0, RowField::for_rows(6)?)?.field().iter().eq([5]));
+/// assert_eq!(read_deletions(&file, 0, RowField::for_rows(6)?), Err(Refusal::Magic));
+///
+/// assert_eq!(read_window(&file, 0, (1 << 63) - 6, RowField::for_rows(6)?)?.count(), 0);
+/// assert_eq!(read_window(&file, 0, (1 << 63) - 5, RowField::for_rows(6)?), Err(Refusal::Limit));
+///
+/// // A bitmap is said to follow, and none does.
+/// let cut = [1, 0, 0, 0, 12, 0xD1, 0xD3, 0x39, 0x64, 1, 0, 0, 0, 0, 0, 0, 0, 0x73, 0xB2, 0x48, 0x92];
+/// let refused = read_window(&cut, 0, 0, RowField::for_rows(6)?);
+/// assert_eq!(refused, Err(Refusal::Bitmap { entry: 0, container: 0 }));
+/// # Ok::<(), Refusal>(())
+/// ```
+///
+/// A 32-bit bin, from a row inside a byte:
+///
+/// ```
+/// use poddurance::{read_window, RowField};
+///
+/// // Rows 0, 2 and 5.
+/// let file = [
+///     1, 0, 0, 0, 26, 0x5E, 0x43, 0xF2, 0xD0, 0x3A, 0x30, 0, 0, 1, 0, 0, 0, 0, 0, 2, 0, 0x10, 0, 0, 0, 0, 0, 2, 0, 5, 0,
+///     0x80, 0x72, 0x25, 0x2B,
+/// ];
+/// let deleted = read_window(&file, 0, 1, RowField::for_rows(3)?)?;
+/// assert_eq!(deleted.field().as_bytes(), [0b010]); // row 2; neither 0 nor 5 is a fault
+/// # Ok::<(), poddurance::Refusal>(())
+/// ```
+pub fn read_window(file: &[u8], bin: u64, first: u64, mut field: RowField) -> Result<Deleted, Refusal> {
+    let rows = field.rows();
+    let (answer, count, fault) = raw::read_window(file, bin, first, rows, field.bytes_mut());
+    accepted(answer, fault)?;
+    Ok(Deleted { field, count })
+}
+
+/// The answer of [`read_deletions`] or [`read_window`] to a file that it accepts: the rows that are deleted, of a window counted from its first.
 ///
 /// ```
 /// use poddurance::{read_deletions, subtract, RowField};

@@ -5,7 +5,8 @@
 //! what each call answers and which [`Refusal`] it gives. [`ask_file`] goes from an index file to the answer; [`locate`],
 //! [`audit`] and [`ask`] are its steps. [`open`] audits a body of version 2 once, and [`OpenedBody::look_up`] then answers EQUAL without an
 //! audit. [`read_deletions`] and [`subtract_record`] take the deleted rows away, [`subtract`] where there is
-//! no index, and so no record. The [`Record`] that comes with an answer is what a graph may claim of its rows.
+//! no index, and so no record; [`read_window`] reads 64-bit bins too, and a part of a data file's rows. The [`Record`] that comes with an
+//! answer is what a graph may claim of its rows.
 //!
 //! Which rows of a data file hold another value than 7, without the deleted ones?
 //!
@@ -72,7 +73,7 @@ mod record;
 mod refusal;
 mod row_field;
 
-pub use calls::{ask, ask_file, audit, locate, read_deletions, subtract, subtract_record};
+pub use calls::{ask, ask_file, audit, locate, read_deletions, read_window, subtract, subtract_record};
 pub use calls::{Answer, Audited, Deleted, Error, RecordSubtracted, Subtracted};
 pub use literals::{Literals, Value};
 pub use names::{Edition, Question, Type, UnknownName};
@@ -81,7 +82,7 @@ pub use record::Record;
 pub use refusal::Refusal;
 pub use row_field::{Ranges, RowField, Rows};
 
-/// The most bytes that an input buffer may have, and the most rows; more is [`Refusal::Limit`]. Document 01 sets it.
+/// The most bytes that an input buffer may have, and the most rows of a field; more is [`Refusal::Limit`]. Document 01 sets it.
 ///
 /// ```
 /// use poddurance::{Refusal, RowField, LIMIT};

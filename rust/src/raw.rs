@@ -1,4 +1,4 @@
-//! The nine calls as the archive has them: numbers in, numbers out, over buffers that the caller keeps.
+//! The ten calls as the archive has them: numbers in, numbers out, over buffers that the caller keeps.
 //!
 //! Each call answers [`ACCEPTED`], [`ABSENT`] ([`locate`] and [`ask_file`] alone) or the number of a [`Refusal`](crate::Refusal),
 //! and then its counts, of [`ask`], [`ask_file`], [`look_up`] and [`subtract_record`] the [`Record`] first, which are 0 unless the call
@@ -212,6 +212,17 @@ mod c {
             file: *const u8,
             file_len: usize,
             bin: u64,
+            rows: u64,
+            field: *mut u8,
+            field_len: usize,
+            deleted: *mut u64,
+            fault: *mut Fault,
+        ) -> u8;
+        pub fn poddurance_read_window(
+            file: *const u8,
+            file_len: usize,
+            bin: u64,
+            first: u64,
             rows: u64,
             field: *mut u8,
             field_len: usize,
@@ -519,7 +530,7 @@ pub fn look_up(body: &[u8], ty: u32, edition: u32, literals: &[u8], table: &[u32
 }
 
 /// Read deletions: the answer, how many rows bin number `bin` of the deletion file lists, and where a refusal's cause is, its entry
-/// being 0. Accepted, those rows are set in the field for `rows` rows.
+/// being 0. Accepted, those rows are set in the field for `rows` rows. A 64-bit bin is MAGIC (2), and read with [`read_window`].
 ///
 /// ```
 /// use poddurance::raw::{read_deletions, Fault};
@@ -544,6 +555,54 @@ pub fn read_deletions(file: &[u8], bin: u64, rows: u64, field: &mut [u8]) -> (u8
             file.as_ptr(),
             file.len(),
             bin,
+            rows,
+            field.as_mut_ptr(),
+            field.len(),
+            &mut deleted,
+            &mut fault,
+        )
+    };
+    (answer, deleted, fault)
+}
+
+/// Read window: the answer, how many rows bin number `bin` of the deletion file lists among the `rows` rows from row `first` on, and where a
+/// refusal's cause is. Accepted, row r is set in the field for `rows` rows exactly if the bin lists row `first` + r.
+///
+/// The bin is a 32-bit one, as [`read_deletions`] reads it, or a 64-bit one, whose rows are below 2^63. A row before the window or behind it is
+/// no fault, so that there is no RANGE. A window that ends above 2^63 is LIMIT (12). BITMAP (6) names the entry 0, and in a 64-bit bin the
+/// container 0, whatever is wrong behind its magic.
+///
+/// ```
+/// use poddurance::raw::{read_deletions, read_window, Fault};
+///
+/// // Rows 5, 4294967299 and 4294967306: in the bitmap with index 0, and in that with index 1 by their low parts 3 and 10.
+/// let file = [
+///     1, 0, 0, 0, 58, 0xD1, 0xD3, 0x39, 0x64, 2, 0, 0, 0, 0, 0, 0, 0, // version, size, magic, number of bitmaps
+///     0, 0, 0, 0, 0x3A, 0x30, 0, 0, 1, 0, 0, 0, 0, 0, 0, 0, 0x10, 0, 0, 0, 5, 0,
+///     1, 0, 0, 0, 0x3A, 0x30, 0, 0, 1, 0, 0, 0, 0, 0, 1, 0, 0x10, 0, 0, 0, 3, 0, 10, 0,
+///     0x4A, 0x43, 0x81, 0xBA,
+/// ];
+/// let mut field = [0xAA; 3];
+/// assert_eq!(read_window(&file, 0, (1 << 32) + 1, 12, &mut field), (0, 2, Fault::NONE));
+/// assert_eq!(field, [0b00000100, 0b00000010, 0xAA]); // rows 2 and 9 of the window; what lies behind is as it was
+/// assert_eq!(read_window(&file, 0, 0, 6, &mut field), (0, 1, Fault::NONE));
+/// assert_eq!(field[0], 0b100000);
+/// assert_eq!(read_deletions(&file, 0, 6, &mut field), (2, 0, Fault::NONE)); // MAGIC
+/// assert_eq!(read_window(&file, 0, (1 << 63) - 6, 6, &mut field), (0, 0, Fault::NONE));
+/// assert_eq!(read_window(&file, 0, (1 << 63) - 5, 6, &mut field), (12, 0, Fault::NONE)); // LIMIT
+/// ```
+#[must_use]
+pub fn read_window(file: &[u8], bin: u64, first: u64, rows: u64, field: &mut [u8]) -> (u8, u64, Fault) {
+    let (mut deleted, mut fault) = (0, Fault::NONE);
+    // SAFETY: a slice's pointer is never null and is good for its length, `field`'s for writing too; the results are two locals good
+    // for writing. All live through the call, which keeps none of them. `field` is borrowed mutably, so that it overlaps no other
+    // buffer.
+    let answer = unsafe {
+        c::poddurance_read_window(
+            file.as_ptr(),
+            file.len(),
+            bin,
+            first,
             rows,
             field.as_mut_ptr(),
             field.len(),

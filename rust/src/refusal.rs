@@ -23,7 +23,8 @@ use crate::raw::Fault;
 pub enum Refusal {
     /// The bytes end inside a field that is due, outside bitmaps.
     Short,
-    /// The magic of an index file or a bin differs.
+    /// The magic of an index file or a bin differs. For [`read_deletions`](crate::read_deletions) that of a 64-bit bin does too, which
+    /// [`read_window`](crate::read_window) reads.
     Magic,
     /// The version of an index file, a body or a deletion file is unknown, or a body that was to be opened is not of version 2.
     Version,
@@ -37,10 +38,11 @@ pub enum Refusal {
         entry: u64,
         /// The lowest container whose key, cardinality, offset or bytes are wrong or cut off. It is 0 for a fault in the bitmap's place,
         /// cookie, count or flags and for a length below -1 or past the body; else a length other than -1 ends the bytes there, so that the
-        /// container it cuts is named. It is the number of containers if only bytes left over behind them are wrong.
+        /// container it cuts is named. It is the number of containers if only bytes left over behind them are wrong. In a 64-bit bin it is 0 for every
+        /// fault.
         container: u64,
     },
-    /// A row at or above the row count.
+    /// A row at or above the row count. Through a window, outside of which rows are no fault, it isn't given.
     Range {
         /// Whose row it is, 0 in a deletion bin.
         entry: u64,
@@ -62,7 +64,7 @@ pub enum Refusal {
     /// modified UTF-8, so that no file can store it ([`locate`](crate::locate)). A [`raw`](crate::raw) call also gives it for a name that
     /// is not standard UTF-8 and for an unknown type, edition or question.
     Literal,
-    /// A limit is passed.
+    /// A limit is passed; for [`read_window`](crate::read_window) also where the window ends above 2^63.
     Limit,
     /// The checksum of a bin differs.
     Checksum,

@@ -4,13 +4,14 @@ use std::ops::RangeInclusive;
 
 use crate::{Refusal, LIMIT};
 
-/// A set of the rows of one data file: row r is the bit of weight 2^(r mod 8) in byte r/8.
+/// A set of the rows of one data file: row r is the bit of weight 2^(r mod 8) in byte r/8. Of a [window](crate::read_window) row r is the one
+/// that is r behind its first.
 ///
 /// A field knows its row count and has no byte and no bit beyond it, so that what it counts and iterates over are rows of that
 /// file and nothing else. [`ask_file`](crate::ask_file), [`ask`](crate::ask), [`audit`](crate::audit), [`open`](crate::open),
-/// [`look_up`](crate::OpenedBody::look_up) and [`read_deletions`](crate::read_deletions) take a field as memory to work in and give it back
-/// with their answer. A refusal gives none back: there is no field left in which an earlier answer, or nothing at all, could be taken for
-/// the answer.
+/// [`look_up`](crate::OpenedBody::look_up), [`read_deletions`](crate::read_deletions) and [`read_window`](crate::read_window) take a field as
+/// memory to work in and give it back with their answer. A refusal gives none back: there is no field left in which an earlier answer, or
+/// nothing at all, could be taken for the answer.
 ///
 /// ```
 /// use poddurance::{read_deletions, RowField};

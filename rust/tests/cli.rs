@@ -142,17 +142,39 @@ fn events_2() -> Vec<u8> {
     [&front[..], &directory, &(entries.len() as u32).to_be_bytes(), &entries, &bitmaps].concat()
 }
 
-/// A deletion file with these bitmaps.
+/// A deletion file with these bitmaps in 32-bit bins.
 fn deletion_file(bitmaps: &[Vec<u8>]) -> Vec<u8> {
+    file_of_bins(&bitmaps.iter().map(|bitmap| [&1_581_511_376u32.to_be_bytes(), &bitmap[..]].concat()).collect::<Vec<_>>())
+}
+
+/// A deletion file with these bins.
+fn file_of_bins(bins: &[Vec<u8>]) -> Vec<u8> {
     let mut file = vec![1];
-    for bitmap in bitmaps {
-        let mut bin = 1_581_511_376u32.to_be_bytes().to_vec();
-        bin.extend(bitmap);
+    for bin in bins {
         file.extend((bin.len() as u32).to_be_bytes());
-        file.extend(&bin);
-        file.extend(crc32(&bin).to_be_bytes());
+        file.extend(bin);
+        file.extend(crc32(bin).to_be_bytes());
     }
     file
+}
+
+/// A 64-bit bin with these bitmaps, each behind its index.
+fn bin_64(bitmaps: &[(u32, Vec<u8>)]) -> Vec<u8> {
+    let mut bin = 1_681_511_377u32.to_le_bytes().to_vec();
+    bin.extend((bitmaps.len() as u64).to_le_bytes());
+    for (index, bitmap) in bitmaps {
+        bin.extend(index.to_le_bytes());
+        bin.extend(bitmap);
+    }
+    bin
+}
+
+/// Rows 0, 2, 5, 4294967296 to 4294967298 and 9223372036854775807, which is the last of all.
+fn wide_bin() -> Vec<u8> {
+    // The last row's container has the key 65535.
+    let mut last = bitmap(&[65_535]);
+    last[8..10].fill(0xFF);
+    bin_64(&[(0, bitmap(&[0, 2, 5])), (1, bitmap(&[0, 1, 2])), ((1 << 31) - 1, last)])
 }
 
 /// CRC-32 by its definition, bit by bit.
@@ -752,7 +774,13 @@ fn a_lookup_says_what_ask_says() {
         (demo, "state", "STRING", &["fault", "idle", "running", "stopped"]),
         (demo, "alarm", "BOOLEAN", &["true", "false"]),
     ] {
-        for more in [&[][..], &["--rows"], &["--edition", "1"], &["--rows", "--deletions", deletions, "--bin", "0"]] {
+        for more in [
+            &[][..],
+            &["--rows"],
+            &["--edition", "1"],
+            &["--rows", "--deletions", deletions, "--bin", "0"],
+            &["--rows", "--deletions", deletions, "--bin", "0", "--first", "1"],
+        ] {
             let asked: Vec<(i32, String, String)> = literals
                 .iter()
                 .map(|literal| run(&[&["ask", file, column, ty, "EQUAL"], more, &["--", literal]].concat()))
@@ -954,6 +982,208 @@ fn reads_deletions() {
         &["deletions", file, "0", "6", "--json", "--rows"],
         0,
         r#"{"answer":"deleted","count":3,"rows":6,"ranges":[[0,0],[2,2],[5,5]]}"#,
+    );
+}
+
+/// A window has the rows from its first one on, of a 32-bit bin as of a 64-bit one, and says which. Rows outside are no fault.
+#[test]
+fn reads_deletions_through_a_window() {
+    let folder = Folder::new();
+    let narrow = &folder.write("narrow", &deletion_file(&[bitmap(&[7]), bitmap(&[0, 2, 5])]));
+    let wide = &folder.write("wide", &file_of_bins(&[bin_64(&[]), wide_bin()]));
+    for file in [narrow, wide] {
+        let window = |rows: &str, first: &str, line: &str| {
+            says(&["deletions", file, "1", rows, "--first", first, "--rows"], 0, line);
+        };
+        window("6", "0", "deleted: 3 of 6 rows from row 0 on\nrows: 0, 2, 5");
+        window("5", "0", "deleted: 2 of 5 rows from row 0 on\nrows: 0, 2");
+        window("1000", "1", "deleted: 2 of 1,000 rows from row 1 on\nrows: 2, 5");
+        window("1", "5", "deleted: 1 of 1 row from row 5 on\nrows: 5");
+        window("1000", "6", "deleted: 0 of 1,000 rows from row 6 on\nrows: none");
+        window("0", "2", "deleted: 0 of 0 rows from row 2 on\nrows: none");
+        says(&["deletions", file, "1", "6", "--first=2"], 0, "deleted: 2 of 6 rows from row 2 on");
+        let object = r#"{"answer":"deleted","count":2,"rows":1000,"first":1"#;
+        says(&["deletions", file, "1", "1000", "--first", "1", "--json"], 0, &format!("{object}}}"));
+        let listed = format!(r#"{object},"ranges":[[2,2],[5,5]]}}"#);
+        says(&["deletions", file, "1", "1000", "--first", "1", "--json", "--rows"], 0, &listed);
+        says_of_input(
+            &["deletions", "-", "1", "6", "--first", "2"],
+            &fs::read(file).unwrap(),
+            0,
+            "deleted: 2 of 6 rows from row 2 on",
+        );
+    }
+    says(&["deletions", wide, "0", "6", "--first", "0"], 0, "deleted: 0 of 6 rows from row 0 on");
+    let window = |rows: &str, first: &str, line: &str| {
+        says(&["deletions", wide, "1", rows, "--first", first, "--rows"], 0, line);
+    };
+    window("6", "4294967295", "deleted: 3 of 6 rows from row 4294967295 on\nrows: 4294967296-4294967298");
+    window("2", "4294967297", "deleted: 2 of 2 rows from row 4294967297 on\nrows: 4294967297-4294967298");
+    window("8", "9223372036854775800", "deleted: 1 of 8 rows from row 9223372036854775800 on\nrows: 9223372036854775807");
+    window("0", "9223372036854775808", "deleted: 0 of 0 rows from row 9223372036854775808 on\nrows: none");
+    says(
+        &["deletions", wide, "1", "6", "--first", "4294967295", "--rows", "--json"],
+        0,
+        r#"{"answer":"deleted","count":3,"rows":6,"first":4294967295,"ranges":[[4294967296,4294967298]]}"#,
+    );
+    // Without a first row the call is the one of before, to which rows outside are a fault.
+    says(&["deletions", narrow, "1", "5"], 3, "refused: RANGE (7), a row at or above the row count");
+}
+
+/// Without --first a 64-bit bin is refused, whatever else is wrong with it, and the line says what reads it. Of no other bin it says so.
+#[test]
+fn a_64_bit_bin_needs_a_first_row() {
+    let folder = Folder::new();
+    let index = &folder.write("index", &index_file("state", "bitmap", &events_2()));
+    let meaning = "the bin is a 64-bit one, to be read with --first ROW";
+    let differs = "index file or bin magic differs";
+    let mut wrong_sum = file_of_bins(&[wide_bin()]);
+    *wrong_sum.last_mut().unwrap() ^= 1;
+    // The same magic in the order of bytes of a 32-bit bin's.
+    let turned = [&1_681_511_377u32.to_be_bytes(), &wide_bin()[4..]].concat();
+    for (bytes, bin, without, with) in [
+        (file_of_bins(&[wide_bin()]), "0", meaning, None),
+        (wrong_sum, "0", meaning, Some("CHECKSUM (13), bin checksum differs")),
+        (
+            file_of_bins(&[wide_bin()[..11].to_vec()]),
+            "0",
+            meaning,
+            Some("BITMAP (6), place, length or form of a bitmap is wrong: container 0"),
+        ),
+        (file_of_bins(&[turned, wide_bin()]), "0", differs, Some("MAGIC (2), index file or bin magic differs")),
+        (file_of_bins(&[b"none".to_vec(), wide_bin()]), "1", meaning, None),
+    ] {
+        let file = &folder.write("deletions", &bytes);
+        says(&["deletions", file, bin, "6"], 3, &format!("refused: MAGIC (2), {without}"));
+        let json = format!(r#"{{"answer":"refused","file":"deletions","name":"MAGIC","number":2,"meaning":"{without}"}}"#);
+        says(&["deletions", file, bin, "6", "--json"], 3, &json);
+        let beside = ["--deletions", file, "--bin", bin];
+        for asked in [&["ask", index, "state", "STRING", "EQUAL", "login"][..], &["lookup", index, "state", "STRING", "login"]] {
+            let words = [asked, &beside].concat();
+            says(&words, 3, &format!("refused: MAGIC (2), {without}, in the deletion file"));
+            says(&[&words[..], &["--json"]].concat(), 3, &json);
+        }
+        match with {
+            Some(refusal) => says(&["deletions", file, bin, "6", "--first", "0"], 3, &format!("refused: {refusal}")),
+            None => says(&["deletions", file, bin, "6", "--first", "0"], 0, "deleted: 3 of 6 rows from row 0 on"),
+        }
+    }
+    // Another refusal than MAGIC has its own words.
+    let file = &folder.write("deletions", &file_of_bins(&[wide_bin()]));
+    says(&["deletions", file, "1", "6"], 3, "refused: NOBIN (14), bin number not below the number of bins");
+    says(&["deletions", file, "0", "2147483648"], 3, "refused: LIMIT (12), a limit is passed");
+}
+
+/// Row 0 of the index is the window's first row, and rows are listed as the bin has them.
+#[test]
+fn asks_and_looks_up_with_deletions_through_a_window() {
+    let folder = Folder::new();
+    let file = &folder.write("index", &index_file("state", "bitmap", &events_2()));
+    let deletions = &folder.write("deletions", &file_of_bins(&[wide_bin()]));
+    // Of 6 events login is in 0, 2 and 5, click in 1 and 4, purchase in 3.
+    let from = |command: &[&str], first: &str, more: &[&str]| {
+        let words =
+            [&command[..1], &[file, "state", "STRING"], &command[1..], &["--deletions", deletions, "--bin", "0"], more].concat();
+        [&words[..], &["--first", first]].concat().into_iter().map(String::from).collect::<Vec<_>>()
+    };
+    let login = ["ask", "EQUAL", "login"];
+    says(&from(&login, "0", &["--rows"]), 1, "skip: drawn from 0 of 6 rows from row 0 on (3 deleted, 0 null)\nrows: none");
+    // The bin's rows 4294967296 to 4294967298 are the index's rows 1 to 3, and then its rows 0 to 2.
+    says(
+        &from(&login, "4294967295", &["--rows"]),
+        0,
+        "keep: drawn from 2 of 6 rows from row 4294967295 on (3 deleted, 0 null)\nrows: 4294967295, 4294967300",
+    );
+    says(
+        &from(&login, "4294967296", &["--rows"]),
+        0,
+        "keep: drawn from 1 of 6 rows from row 4294967296 on (3 deleted, 0 null)\nrows: 4294967301",
+    );
+    says(
+        &from(&login, "4294967295", &["--rows", "--json"]),
+        0,
+        r#"{"answer":"keep","rows":6,"nulls":0,"deleted":3,"matched":2,"removed":1,"first":4294967295,"ranges":[[4294967295,4294967295],[4294967300,4294967300]]}"#,
+    );
+    says(&from(&login, "6", &[]), 0, "keep: drawn from 3 of 6 rows from row 6 on (0 deleted, 0 null)");
+
+    let both = ["lookup", "login", "click"];
+    says(
+        &from(&both, "4294967295", &["--rows"]),
+        0,
+        "keep \"login\": drawn from 2 of 6 rows from row 4294967295 on (3 deleted, 0 null), compared with 4 values\n\
+         rows: 4294967295, 4294967300\n\
+         keep \"click\": drawn from 1 of 6 rows from row 4294967295 on (3 deleted, 0 null), compared with 3 values\n\
+         rows: 4294967299",
+    );
+    says(
+        &from(&["lookup", "login"], "0", &["--json"]),
+        1,
+        r#"{"answer":"looked-up","lookups":[{"literal":"login","answer":"skip","rows":6,"nulls":0,"deleted":3,"matched":0,"removed":3,"compared":4,"first":0}]}"#,
+    );
+    // The window of the index's rows ends above 2^63.
+    for command in [&login[..], &both] {
+        says(&from(command, "9223372036854775803", &[]), 3, "refused: LIMIT (12), a limit is passed, in the deletion file");
+        assert_eq!(run(&from(command, "9223372036854775802", &[])).0, 0);
+    }
+    // Without deletions there is no window.
+    complains(&["ask", file, "state", "STRING", "EQUAL", "login", "--first", "0"], "--first goes with --deletions FILE");
+    complains(&["lookup", file, "state", "STRING", "login", "--first", "0"], "--first goes with --deletions FILE");
+}
+
+#[test]
+fn every_refusal_of_a_window() {
+    let folder = Folder::new();
+    let whole = file_of_bins(&[wide_bin()]);
+    let changed = |at: usize, byte: u8| {
+        let mut bytes = whole.clone();
+        bytes[at] = byte;
+        bytes
+    };
+    let bitmaps = |of: &[(u32, Vec<u8>)]| file_of_bins(&[bin_64(of)]);
+    let short = "SHORT (1), the bytes end inside a field that is due, outside bitmaps";
+    let broken = "BITMAP (6), place, length or form of a bitmap is wrong: container 0";
+    let limit = "LIMIT (12), a limit is passed";
+    for (bytes, bin, rows, first, line) in [
+        (vec![], "0", "6", "0", short),
+        (whole[..whole.len() - 1].to_vec(), "0", "6", "0", short),
+        (changed(5, 0), "0", "6", "0", "MAGIC (2), index file or bin magic differs"),
+        (
+            changed(0, 2),
+            "0",
+            "6",
+            "0",
+            "VERSION (3), index file not 1; body not 1 or 2, or not 2 for open and lookup; deletion file not 1",
+        ),
+        (changed(9, 2), "0", "6", "0", "CHECKSUM (13), bin checksum differs"),
+        (whole.clone(), "1", "6", "0", "NOBIN (14), bin number not below the number of bins"),
+        // Indexes that don't rise or are too high, a bitmap that is cut, bytes left over, and faults in a second container and bitmap.
+        (bitmaps(&[(1, bitmap(&[0])), (1, bitmap(&[1]))]), "0", "6", "0", broken),
+        (bitmaps(&[(1 << 31, bitmap(&[0]))]), "0", "6", "0", broken),
+        (bitmaps(&[(0, bitmap(&[0, 2, 5])[..21].to_vec())]), "0", "6", "0", broken),
+        (file_of_bins(&[[wide_bin(), vec![0]].concat()]), "0", "6", "0", broken),
+        (bitmaps(&[(0, bitmap(&[0])), (1, bitmap(&[1, 1]))]), "0", "6", "0", broken),
+        // A 32-bit bin names its container.
+        (
+            deletion_file(&[[bitmap(&[0, 2, 5]), vec![0]].concat()]),
+            "0",
+            "6",
+            "3",
+            "BITMAP (6), place, length or form of a bitmap is wrong: container 1",
+        ),
+        (whole.clone(), "0", "2147483648", "0", limit),
+        (whole.clone(), "0", "18446744073709551615", "18446744073709551615", limit),
+        (whole.clone(), "0", "6", "9223372036854775803", limit),
+        (whole.clone(), "0", "6", "18446744073709551615", limit),
+        (whole.clone(), "0", "0", "9223372036854775809", limit),
+    ] {
+        let file = &folder.write("deletions", &bytes);
+        says(&["deletions", file, bin, rows, "--first", first, "--rows"], 3, &format!("refused: {line}"));
+    }
+    let file = &folder.write("deletions", &bitmaps(&[(1 << 31, bitmap(&[0]))]));
+    says(
+        &["deletions", file, "0", "6", "--first", "0", "--json"],
+        3,
+        r#"{"answer":"refused","file":"deletions","name":"BITMAP","number":6,"meaning":"place, length or form of a bitmap is wrong","entry":0,"container":0}"#,
     );
 }
 
@@ -1231,6 +1461,10 @@ fn wrong_usage() {
     complains(&["ask", file, "s", "TIME", "EQUAL", "100100"], "\"100100\" is no TIME: a time of day is written 10:01:00");
     complains(&["locate", file, "s", "--row"], "\"--row\" is no option");
     complains(&["deletions", file, "0", "many"], "ROWS \"many\" is no whole number");
+    complains(&["deletions", file, "0", "6", "--first"], "--first needs ROW");
+    complains(&["deletions", file, "0", "6", "--first", "-1"], "--first \"-1\" is no whole number");
+    complains(&["deletions", file, "0", "6", "--first", "1e3"], "--first \"1e3\" is no whole number");
+    complains(&["audit", file, "s", "TINYINT", "--first", "0"], "--first goes with ask, lookup and deletions alone");
     // Nothing is asked of a file before all words are read.
     complains(&["ask", "/no such folder/f", "s", "TINYINT", "EQUAL", "x"], "\"x\" is no TINYINT");
 }
@@ -1266,6 +1500,7 @@ fn help_and_version() {
         assert!(out.contains("poddurance ask FILE COLUMN TYPE QUESTION [LITERAL..] [--edition 1|2]\n"));
         assert!(out.contains("poddurance open FILE COLUMN TYPE [--row-count ROWS] [--embedded FILE]\n"));
         assert!(out.contains("poddurance lookup FILE COLUMN TYPE LITERAL.. [--edition 1|2]\n"));
+        assert!(out.contains("poddurance deletions FILE BIN ROWS [--first ROW]\n"));
         // What each edition does with null rows.
         assert!(out.contains("1: they choose null rows too") && out.contains("2: they choose no null row"));
         // What can't be asked for, and how names are shown.
@@ -1278,6 +1513,9 @@ fn help_and_version() {
             "The name itself is in --json.",
             "An index of version 1 is refused: VERSION (3); ask takes both",
             "A literal that no row has is a skip. If anything is refused no literal is answered",
+            "A 64-bit bin needs --first: without it the bin is refused, MAGIC (2), and the line says so",
+            "row 0 of the index, or of ROWS, is row ROW of the bin.",
+            "Rows that the bin lists outside the window are no fault; without --first one at or above the row count is refused: RANGE (7).",
         ] {
             assert!(sentences.contains(sentence), "{sentence}");
         }

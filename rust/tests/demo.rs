@@ -9,9 +9,10 @@ use std::fs;
 use std::path::{Path, PathBuf};
 use std::process::Command;
 
-use demo_files::{alarm, burner, day, files, state, BURNER, DAY, DAY_STATES, DELETED, DELETED_ELSEWHERE, SAMPLES};
+use demo_files::{alarm, burner, calibrated_rows, day, files, state};
+use demo_files::{BURNER, CALIBRATED, DAY, DAY_STATES, DELETED, DELETED_ELSEWHERE, PRESSURE_DAYS, PRESSURE_RATE, SAMPLES};
 use poddurance::raw::{self, Fault, Record};
-use poddurance::{ask_file, audit, read_deletions, subtract_record};
+use poddurance::{ask_file, audit, read_deletions, read_window, subtract_record};
 use poddurance::{Edition, Error, Literals, Question, Refusal, RowField, Type};
 use reference::scan::{scan, scan_without};
 use reference::types;
@@ -48,7 +49,7 @@ fn commands_answer_as_shown() {
     assert_eq!(others, [""; 0], "output without a command");
     let statuses: Vec<i32> = shown.iter().map(|one| one.check(&root())).collect();
     // A reader of the README that finds nothing would pass too.
-    assert_eq!(statuses, [0, 0, 0, 0, 0, 0, 0, 0, 1, 4, 3, 3, 3, 3, 0, 0, 0, 3, 3, 0, 0, 0]);
+    assert_eq!(statuses, [0, 0, 0, 0, 0, 0, 0, 0, 1, 4, 3, 3, 3, 3, 0, 0, 0, 3, 3, 0, 0, 0, 3, 0, 0, 0, 0]);
     // Where none is shown it is 0.
     assert!(shown.iter().zip(statuses).all(|(one, status)| one.status.unwrap_or(0) == status));
 }
@@ -198,6 +199,39 @@ fn deletions_are_as_described() {
     assert_eq!(deletions(2, 24), Err(Refusal::NoBin));
 }
 
+/// The first bin is the other file's, and the second has three seconds of the pressure, in the second of which rows pass 2^32.
+#[test]
+fn deletions_in_64_bit_bins_are_as_described() {
+    let file = demo("pumps-64.deletions");
+    let window = |bin, first, rows| {
+        let deleted = read_window(&file, bin, first, RowField::for_rows(rows)?)?;
+        Ok(deleted.field().iter().map(|row| first + row).collect::<Vec<_>>())
+    };
+    assert_eq!(window(0, 0, 24), Ok(DELETED.map(u64::from).to_vec()));
+    for bin in [0, 1] {
+        assert_eq!(read_deletions(&file, bin, RowField::for_rows(24).unwrap()), Err(Refusal::Magic));
+    }
+    assert_eq!(window(2, 0, 24), Err(Refusal::NoBin));
+
+    // A day at a time.
+    let day = PRESSURE_RATE * u64::from(DAY);
+    let rows: Vec<u64> = (0..PRESSURE_DAYS).flat_map(|number| window(1, number * day, day).unwrap()).collect();
+    assert_eq!(rows, calibrated_rows());
+    assert_eq!(rows.len(), 3_000);
+    let [_, passing, last] = CALIBRATED.map(|second| PRESSURE_RATE * second..PRESSURE_RATE * (second + 1));
+    assert!(passing.contains(&(1 << 32)) && passing.start < 1 << 32);
+    assert_eq!(last.end, PRESSURE_DAYS * day);
+
+    // What the README says of them.
+    let readme = readme().replace(',', "").split_whitespace().collect::<Vec<_>>().join(" ");
+    let shown = format!("{PRESSURE_RATE} samples in each second of {PRESSURE_DAYS} days which are {} rows", PRESSURE_DAYS * day);
+    assert!(readme.contains(&shown), "{shown}");
+    let (days, seconds) = (CALIBRATED[1] / u64::from(DAY), CALIBRATED[1] % u64::from(DAY));
+    let shown = format!("{days} days and {} hours after the first", seconds / 3_600);
+    assert!(readme.contains(&shown), "{shown}");
+    assert!(readme.contains(&format!("--first {}", days * day)));
+}
+
 /// What `ask` prints of the demo: its exit status and the line.
 fn line(name: &str, words: &[&str], more: &[&str]) -> (i32, String) {
     let file = root().join("demo").join(name);
@@ -207,8 +241,8 @@ fn line(name: &str, words: &[&str], more: &[&str]) -> (i32, String) {
     (ran.status.code().unwrap(), String::from_utf8(ran.stdout).unwrap())
 }
 
-/// With deletions and without, the command line's line, its JSON and the record's own sentence have the numbers of the proved calls, and
-/// these are the scan's.
+/// With deletions, of a 32-bit bin and of a 64-bit one, and without, the command line's line, its JSON and the record's own sentence have
+/// the numbers of the proved calls, and these are the scan's.
 #[test]
 fn lines_have_the_numbers_of_the_calls() {
     let fault = Literals::of(Type::String, ["fault"]).unwrap();
@@ -252,9 +286,12 @@ fn lines_have_the_numbers_of_the_calls() {
 
             // The command line.
             let with_deletions = ["--deletions", "demo/pumps.deletions", "--bin", "0"];
-            for (said, numbers, more, deleted, removed) in [
-                (answer.record(), expected, &[][..], None, None),
-                (&after.record, left, &with_deletions, Some(left.deleted), Some(removed)),
+            // The same rows in a 64-bit bin, from row 0 on.
+            let with_window = ["--deletions", "demo/pumps-64.deletions", "--bin", "0", "--first", "0"];
+            for (said, numbers, more, deleted, removed, from, first) in [
+                (answer.record(), expected, &[][..], None, None, "", ""),
+                (&after.record, left, &with_deletions, Some(left.deleted), Some(removed), "", ""),
+                (&after.record, left, &with_window, Some(left.deleted), Some(removed), " from row 0 on", ",\"first\":0"),
             ] {
                 let Record { rows, nulls, matched, .. } = numbers;
                 assert_eq!((said.rows(), said.nulls(), said.deleted(), said.matched()), (rows, nulls, numbers.deleted, matched));
@@ -262,13 +299,13 @@ fn lines_have_the_numbers_of_the_calls() {
 
                 let (status, answer) = if matched == 0 { (1, "skip") } else { (0, "keep") };
                 let applied = deleted.map_or("deletions not applied".to_string(), |number| format!("{number} deleted"));
-                let expected = format!("{answer}: {said} ({applied}, {nulls} null)\n");
+                let expected = format!("{answer}: {said}{from} ({applied}, {nulls} null)\n");
                 assert_eq!(line(name, &words, more), (status, expected), "{words:?} {more:?}");
 
                 let [deleted, removed] = [deleted, removed].map(|number| number.map_or("null".to_string(), |n| n.to_string()));
                 let expected = format!(
                     "{{\"answer\":\"{answer}\",\"rows\":{rows},\"nulls\":{nulls},\"deleted\":{deleted},\"matched\":{matched},\
-                     \"removed\":{removed}}}\n"
+                     \"removed\":{removed}{first}}}\n"
                 );
                 assert_eq!(line(name, &words, &[more, &["--json"]].concat()), (status, expected), "{words:?} {more:?}");
             }

@@ -6,9 +6,10 @@ use std::collections::BTreeMap;
 use std::fs;
 use std::path::{Path, PathBuf};
 use std::process::Command;
+use std::slice;
 
 use poddurance::{raw, Edition, Question, Refusal, Type};
-use reference::writer::{bitmap, deletion_file, BitmapForm};
+use reference::writer::{bin_64, bitmap, deletion_file, file_of_bins, BitmapForm};
 use support::say;
 
 fn root() -> PathBuf {
@@ -76,6 +77,8 @@ static const char *named(uint8_t answer) {
     case PODDURANCE_REFUSED_LITERAL: return "LITERAL";
     case PODDURANCE_REFUSED_ROOM: return "ROOM";
     case PODDURANCE_REFUSED_LIMIT: return "LIMIT";
+    case PODDURANCE_REFUSED_CHECKSUM: return "CHECKSUM";
+    case PODDURANCE_REFUSED_NOBIN: return "NOBIN";
     default: return "?";
     }
 }
@@ -241,6 +244,16 @@ static void delete_rows(const uint8_t *deletions, size_t length, uint64_t rows) 
     printf("\n");
 }
 
+/* The rows from one on, of bin 0 or another, with so much room for the field. */
+static void delete_window(const uint8_t *deletions, size_t length, uint64_t bin, uint64_t first, uint64_t rows, size_t room) {
+    uint8_t field[3] = {0xAA, 0xAA, 0xAA};
+    uint64_t deleted = 99;
+    guarded at = other;
+    uint8_t answer = poddurance_read_window(deletions, length, bin, first, rows, field, room, &deleted, &at.fault);
+    say(answer, deleted, at);
+    printf(", %02X %02X %02X\n", field[0], field[1], field[2]);
+}
+
 /* Of 6 rows 1, 2, 4 and 5 without 0, 2 and 5, bits behind the rows set in both fields: twice, the record of the first call handed to the second. */
 static void subtract_record(uint64_t rows, size_t first_length, size_t second_length) {
     uint8_t first[2] = {0xF6, 0xAA};
@@ -265,6 +278,7 @@ int main(void) {
     static const char zeros[32768] = {0};
     const uint8_t seven[] = {7}, eight[] = {8}, nine[] = {9}, six[] = {6};
     const size_t too_long = 2147483648u;
+    const uint64_t second_bitmap = (uint64_t)1 << 32, end_of_rows = (uint64_t)1 << 63;
     /* No call touches it, so that it takes no room. */
     uint8_t *const untouched = (uint8_t *)calloc(too_long, 1);
     if (!untouched) {
@@ -318,6 +332,7 @@ int main(void) {
     look_up(untouched, too_long, PODDURANCE_EDITION_2, seven, sizeof seven, 2);
     look_up(second_version, 0, PODDURANCE_EDITION_2, seven, sizeof seven, 2);
     look_up(file + 47, 24, PODDURANCE_EDITION_2, seven, sizeof seven, 2);
+    delete_window(untouched, too_long, 0, 0, 12, 3);
     free(untouched);
     ask_lent(file + 47, 23, file, 11, seven, sizeof seven, 1);
     ask_lent(file + 47, 0, file, 0, seven, sizeof seven, 1);
@@ -331,6 +346,26 @@ int main(void) {
     delete_rows(whole, sizeof whole, 65543);
     delete_rows(whole, sizeof whole, 65542);
     delete_rows(cut, sizeof cut, 65543);
+    delete_rows(wide, sizeof wide, 65543);
+    delete_rows(wide_cut, sizeof wide_cut, 65543);
+    delete_window(wide, sizeof wide, 0, 0, 12, 3);
+    delete_window(wide, sizeof wide, 0, second_bitmap + 1, 12, 3);
+    delete_window(wide, sizeof wide, 0, end_of_rows - 12, 12, 3);
+    delete_window(wide, sizeof wide, 0, 5, 0, 0);
+    delete_window(wide, sizeof wide, 0, end_of_rows, 0, 0);
+    delete_window(wide, sizeof wide, 0, end_of_rows - 11, 12, 3);
+    delete_window(wide, sizeof wide, 0, UINT64_MAX, 12, 3);
+    delete_window(wide, sizeof wide, 0, 0, too_long, 3);
+    delete_window(wide, sizeof wide, 0, 0, 12, 1);
+    delete_window(wide, 0, 0, 0, 12, 3);
+    delete_window(wide + 4, 1, 0, 0, 12, 3);
+    delete_window(wide, sizeof wide - 1, 0, 0, 12, 3);
+    delete_window(wide, sizeof wide, 1, 0, 12, 3);
+    delete_window(big_endian, sizeof big_endian, 0, 0, 12, 3);
+    delete_window(wrong_sum, sizeof wrong_sum, 0, 0, 12, 3);
+    delete_window(wide_cut, sizeof wide_cut, 0, 0, 12, 3);
+    delete_window(whole, sizeof whole, 0, 65537, 12, 3);
+    delete_window(cut, sizeof cut, 0, 65537, 12, 3);
     subtract_record(6, 2, 2);
     subtract_record(6, 0, 2);
     subtract_record(6, 2, 0);
@@ -407,6 +442,7 @@ ROOM, 0 of 0 rows, 0 null, 0 deleted, entry 0, container 0, row 0, 0 compared, A
 LIMIT, 0 of 0 rows, 0 null, 0 deleted, entry 0, container 0, row 0, 0 compared, AA AA
 SHORT, 0 of 0 rows, 0 null, 0 deleted, entry 0, container 0, row 0, 0 compared, AA AA; SHORT, 0 of 0 rows, 0 null, 0 deleted, entry 0, container 0, row 0, AA AA
 VERSION, 0 of 0 rows, 0 null, 0 deleted, entry 0, container 0, row 0, 0 compared, AA AA
+LIMIT, 0, entry 0, container 0, row 0, AA AA AA
 SHORT, 0 of 0 rows, 0 null, 0 deleted, entry 0, container 0, row 0, AA; SHORT, 0 of 0 rows, 0 null, 0 deleted, entry 0, container 0, row 0, AA
 SHORT, 0 of 0 rows, 0 null, 0 deleted, entry 0, container 0, row 0, AA; SHORT, 0 of 0 rows, 0 null, 0 deleted, entry 0, container 0, row 0, AA
 ROOM, 0 of 0 rows, 0 null, 0 deleted, entry 0, container 0, row 0, AA; ROOM, 0 of 0 rows, 0 null, 0 deleted, entry 0, container 0, row 0, AA
@@ -419,6 +455,26 @@ LITERAL, 0 of 0 rows, 0 null, 0 deleted, entry 0, container 0, row 0, AA AA
 accepted, 2, entry 0, container 0, row 0
 RANGE, 0, entry 0, container 0, row 0
 BITMAP, 0, entry 0, container 1, row 0
+MAGIC, 0, entry 0, container 0, row 0
+MAGIC, 0, entry 0, container 0, row 0
+accepted, 1, entry 0, container 0, row 0, 20 00 AA
+accepted, 2, entry 0, container 0, row 0, 04 02 AA
+accepted, 1, entry 0, container 0, row 0, 00 08 AA
+accepted, 0, entry 0, container 0, row 0, AA AA AA
+accepted, 0, entry 0, container 0, row 0, AA AA AA
+LIMIT, 0, entry 0, container 0, row 0, AA AA AA
+LIMIT, 0, entry 0, container 0, row 0, AA AA AA
+LIMIT, 0, entry 0, container 0, row 0, AA AA AA
+ROOM, 0, entry 0, container 0, row 0, AA AA AA
+SHORT, 0, entry 0, container 0, row 0, 00 00 AA
+VERSION, 0, entry 0, container 0, row 0, 00 00 AA
+SHORT, 0, entry 0, container 0, row 0, 00 00 AA
+NOBIN, 0, entry 0, container 0, row 0, 00 00 AA
+MAGIC, 0, entry 0, container 0, row 0, 00 00 AA
+CHECKSUM, 0, entry 0, container 0, row 0, 00 00 AA
+BITMAP, 0, entry 0, container 0, row 0, 00 00 AA
+accepted, 1, entry 0, container 0, row 0, 20 00 AA
+BITMAP, 0, entry 0, container 1, row 0, 00 00 AA
 accepted, 2 of 6 rows, 1 null, 3 deleted, 2 removed, D2 AA
 accepted, 2 of 6 rows, 1 null, 3 deleted, 0 removed, D2 AA
 ROOM, 0 of 0 rows, 0 null, 0 deleted, 0 removed, F6 AA
@@ -427,16 +483,31 @@ ROOM, 0 of 0 rows, 0 null, 0 deleted, 0 removed, F6 AA
 LIMIT, 0 of 0 rows, 0 null, 0 deleted, 0 removed, F6 AA
 ";
 
-/// Rows 5 and 65,542 as two arrays in a deletion file, and the same without the last byte, as arrays in C.
+/// Deletion files as arrays in C. Of one 32-bit bin: rows 5 and 65,542 as two arrays, and the same without the last byte. Of one 64-bit bin: row 5,
+/// rows 3 and 10 of the second bitmap, and the last row of all; the same without the last byte; with the magic's bytes turned round; and with
+/// a wrong checksum.
 fn deletions() -> String {
     let whole = bitmap(&[5, 65_542], &BitmapForm::WithRuns(Vec::new()));
     let cut = whole[..whole.len() - 1].to_vec();
-    [("whole", whole), ("cut", cut)]
-        .map(|(name, bitmap)| {
-            let bytes: Vec<String> = deletion_file(&[bitmap]).iter().map(u8::to_string).collect();
-            format!("static const uint8_t {name}[] = {{{}}};\n", bytes.join(", "))
-        })
-        .concat()
+    let wide = bin_64(&[5, (1 << 32) + 3, (1 << 32) + 10, (1 << 63) - 1], &BitmapForm::Smallest);
+    let (magic, behind) = wide.split_at(4);
+    let big_endian: Vec<u8> = magic.iter().rev().chain(behind).copied().collect();
+    let sound = file_of_bins(slice::from_ref(&wide));
+    let mut wrong_sum = sound.clone();
+    *wrong_sum.last_mut().unwrap() ^= 1;
+    [
+        ("whole", deletion_file(&[whole])),
+        ("cut", deletion_file(&[cut])),
+        ("wide", sound),
+        ("wide_cut", file_of_bins(&[wide[..wide.len() - 1].to_vec()])),
+        ("big_endian", file_of_bins(&[big_endian])),
+        ("wrong_sum", wrong_sum),
+    ]
+    .map(|(name, file)| {
+        let bytes: Vec<String> = file.iter().map(u8::to_string).collect();
+        format!("static const uint8_t {name}[] = {{{}}};\n", bytes.join(", "))
+    })
+    .concat()
 }
 
 #[test]

@@ -1,11 +1,11 @@
 //! The functions at the top of the crate: what a field holds after each call, and what they don't let happen.
 
-use poddurance::{ask, ask_file, audit, locate, open, raw, read_deletions, subtract, subtract_record};
+use poddurance::{ask, ask_file, audit, locate, open, raw, read_deletions, read_window, subtract, subtract_record};
 use poddurance::{
     Answer, Edition, Error, Literals, LookedUp, OpenedBody, Question, Record, Refusal, RowField, Subtracted, Type, Value,
 };
 use reference::types;
-use reference::writer::{body_of, Column, Layout};
+use reference::writer::{bin_32, bin_64, body_of, file_of_bins, BitmapForm, Column, ContainerForm, Layout};
 
 /// TINYINT 7, 9, null.
 const SMALL: [u8; 24] = [1, 0, 0, 0, 3, 0, 0, 0, 2, 1, 255, 255, 255, 253, 7, 255, 255, 255, 255, 9, 255, 255, 255, 254];
@@ -762,6 +762,193 @@ fn deletions_are_subtracted_from_what_is_looked_up() {
         assert!(field_left.iter().eq(left.iter().copied()), "{state}");
         field = field_left;
     }
+}
+
+/// The first row of a 64-bit bin's second bitmap.
+const SECOND_BITMAP: u64 = 1 << 32;
+
+/// Where rows end.
+const END_OF_ROWS: u64 = 1 << 63;
+
+/// A deletion file with one bin, a 64-bit one.
+fn wide_file(rows: &[u64], form: &BitmapForm) -> Vec<u8> {
+    file_of_bins(&[bin_64(rows, form)])
+}
+
+/// The forms that every container of a bitmap may have.
+fn forms() -> [BitmapForm; 4] {
+    let runs = ContainerForm::Runs { cuts: Vec::new() };
+    [BitmapForm::Smallest, BitmapForm::WithoutRuns, BitmapForm::WithRuns(Vec::new()), BitmapForm::WithRuns(vec![runs; 4])]
+}
+
+/// Row r of the field is row first + r of the bin, wherever the window begins and ends: inside bytes, containers and bitmaps.
+#[test]
+fn a_window_has_the_rows_from_its_first_one_on() {
+    let run = SECOND_BITMAP - 20..SECOND_BITMAP + 5_000;
+    let rows: Vec<u64> = [5, 65_535, 65_536].into_iter().chain(run).chain([END_OF_ROWS - 9, END_OF_ROWS - 1]).collect();
+    for form in forms() {
+        let file = wide_file(&rows, &form);
+        for first in [0, 3, 65_530, SECOND_BITMAP - 30, SECOND_BITMAP - 3, SECOND_BITMAP, SECOND_BITMAP + 4_999, END_OF_ROWS - 17]
+        {
+            for length in [0, 1, 7, 8, 17] {
+                let deleted = read_window(&file, 0, first, used(length)).unwrap();
+                let expected: Vec<u64> = rows.iter().copied().filter(|row| (first..first + length).contains(row)).collect();
+                assert!(deleted.field().iter().map(|row| first + row).eq(expected.iter().copied()), "{first} {length} {form:?}");
+                assert_eq!((deleted.count(), deleted.field().rows()), (expected.len() as u64, length));
+            }
+        }
+        // All rows that fit below the end.
+        let all = read_window(&file, 0, 0, used(70_000)).unwrap();
+        assert!(all.field().iter().eq([5, 65_535, 65_536]));
+    }
+}
+
+/// A data file is read in parts: two windows side by side have the rows of one over both.
+#[test]
+fn windows_side_by_side() {
+    let rows: Vec<u64> = (0..200).filter(|row| row % 3 == 0).map(|row| SECOND_BITMAP - 100 + row).collect();
+    let file = wide_file(&rows, &BitmapForm::Smallest);
+    let first = SECOND_BITMAP - 101;
+    let all = read_window(&file, 0, first, used(203)).unwrap();
+    assert_eq!(all.count(), rows.len() as u64);
+    for cut in 0..=203 {
+        let left = read_window(&file, 0, first, used(cut)).unwrap();
+        let right = read_window(&file, 0, first + cut, used(203 - cut)).unwrap();
+        assert_eq!(left.count() + right.count(), all.count(), "{cut}");
+        let joined = left.field().iter().chain(right.field().iter().map(|row| cut + row));
+        assert!(joined.eq(all.field()), "{cut}");
+    }
+}
+
+/// Of a 32-bit bin a window from 0 answers as the call without one, but that it has no RANGE: it gives the rows that there are.
+#[test]
+fn a_window_of_a_32_bit_bin() {
+    let file = file_of_bins(&[bin_32(&[0, 2, 5, 65_542], &BitmapForm::Smallest)]);
+    assert_eq!(read_window(&file, 0, 0, used(65_543)), read_deletions(&file, 0, used(65_543)));
+    for (rows, below) in [(0, 0), (1, 1), (5, 2), (6, 3), (65_542, 3)] {
+        assert_eq!(read_deletions(&file, 0, used(rows)), Err(Refusal::Range { entry: 0 }));
+        let deleted = read_window(&file, 0, 0, used(rows)).unwrap();
+        assert!(deleted.field().iter().eq([0, 2, 5].into_iter().take(below)), "{rows}");
+        assert_eq!(deleted.count(), below as u64);
+    }
+    assert!(read_window(&file, 0, 65_539, used(9)).unwrap().field().iter().eq([3]));
+    // No row of a 32-bit bin is at or above 2^32.
+    assert_eq!(read_window(&file, 0, SECOND_BITMAP, used(65_543)).map(|deleted| deleted.count()), Ok(0));
+
+    // Other refusals are the same, and name the container.
+    let mut cut = bin_32(&[5, 65_542], &BitmapForm::WithRuns(Vec::new()));
+    cut.pop();
+    let cut = file_of_bins(&[cut]);
+    for first in [0, 7, 65_540, END_OF_ROWS - 8] {
+        assert_eq!(read_window(&cut, 0, first, used(8)), Err(Refusal::Bitmap { entry: 0, container: 1 }));
+    }
+}
+
+/// A 64-bit bin is MAGIC without a window, and any fault behind its magic BITMAP of container 0 with one, wherever the window is.
+#[test]
+fn a_64_bit_bin_is_read_through_a_window_alone() {
+    // Where the number of bitmaps stands, the first bitmap, which has two containers and 32 bytes, and the index behind it.
+    const NUMBER: usize = 4;
+    const FIRST_BITMAP: usize = 16;
+    const SECOND_INDEX: usize = 48;
+    let rows = [0, 2, 5, 65_542, SECOND_BITMAP, END_OF_ROWS - 1];
+    let sound = bin_64(&rows, &BitmapForm::WithoutRuns);
+    assert_eq!((sound[NUMBER], sound[FIRST_BITMAP], sound[FIRST_BITMAP + 12], sound[SECOND_INDEX]), (3, 0x3A, 1, 1));
+    let broken = |at: usize, byte: u8| {
+        let mut bin = sound.clone();
+        bin[at] = byte;
+        bin
+    };
+    // A number of bitmaps too high and too low, an index that doesn't rise, a cookie, the key of the second container, the last byte cut off and
+    // one left over, and no number of bitmaps.
+    let cases = [
+        broken(NUMBER, 4),
+        broken(NUMBER, 2),
+        broken(SECOND_INDEX, 0),
+        broken(FIRST_BITMAP, 0),
+        broken(FIRST_BITMAP + 12, 0),
+        sound[..sound.len() - 1].to_vec(),
+        [&sound[..], &[0]].concat(),
+        sound[..4].to_vec(),
+        sound[..11].to_vec(),
+    ];
+    for bin in cases {
+        assert_ne!(bin, sound);
+        let file = file_of_bins(&[bin]);
+        assert_eq!(read_deletions(&file, 0, used(6)), Err(Refusal::Magic));
+        for first in [0, 3, SECOND_BITMAP, END_OF_ROWS - 6] {
+            assert_eq!(read_window(&file, 0, first, used(6)), Err(Refusal::Bitmap { entry: 0, container: 0 }), "{file:?}");
+        }
+    }
+    let mut file = file_of_bins(&[sound]);
+    assert_eq!(read_window(&file, 0, 0, used(70_000)).map(|deleted| deleted.count()), Ok(4));
+    assert_eq!(read_deletions(&file, 0, used(70_000)), Err(Refusal::Magic));
+    *file.last_mut().unwrap() ^= 1;
+    assert_eq!(read_window(&file, 0, 0, used(6)), Err(Refusal::Checksum));
+    assert_eq!(read_deletions(&file, 0, used(6)), Err(Refusal::Magic));
+}
+
+/// The window's rows are taken away from an answer of as many rows.
+#[test]
+fn a_window_is_subtracted() {
+    let file = wide_file(&[SECOND_BITMAP + 1, SECOND_BITMAP + 2], &BitmapForm::Smallest);
+    let (mut rows, record) = not_null(6, 1).into_parts(); // all but row 5
+    let deleted = read_window(&file, 0, SECOND_BITMAP, used(6)).unwrap();
+    let subtracted = subtract_record(&mut rows, deleted.field(), record).unwrap();
+    assert!(rows.iter().eq([0, 3, 4]));
+    assert_eq!((counts(&subtracted.record), subtracted.removed), ([6, 1, 2, 3], 2));
+}
+
+/// Up to ROOM the buffer is as it was; behind it the field's bytes are zero, and accepted they hold the window's rows; what lies behind stays.
+#[test]
+fn the_raw_window_leaves_what_it_may_not_write() {
+    let file = wide_file(&[3, SECOND_BITMAP + 3], &BitmapForm::Smallest);
+    let none = raw::Fault::NONE;
+    let read = |file: &[u8], bin, first, rows, room: usize| {
+        let mut buffer = [0xAA; 4];
+        let answer = raw::read_window(file, bin, first, rows, &mut buffer[..room]);
+        (answer, buffer)
+    };
+    let (untouched, zeroed) = ([0xAA; 4], [0, 0, 0xAA, 0xAA]);
+    for (first, rows) in [
+        (0, poddurance::LIMIT + 1),
+        (END_OF_ROWS - 11, 12),
+        (END_OF_ROWS + 1, 0),
+        (u64::MAX, 12),
+        (u64::MAX - 11, 12),
+        (u64::MAX, u64::MAX),
+    ] {
+        // Neither the room nor the file is looked at.
+        for (file, room) in [(&file[..], 4), (&file, 0), (&[], 0)] {
+            assert_eq!(read(file, 0, first, rows, room), ((Refusal::Limit.number(), 0, none), untouched), "{first} {rows}");
+        }
+    }
+    for file in [&file[..], &[]] {
+        assert_eq!(read(file, 0, 0, 12, 1), ((Refusal::Room.number(), 0, none), untouched));
+    }
+    let (mut version, mut magic, mut sum) = (file.clone(), file.clone(), file.clone());
+    (version[0], magic[5]) = (2, 0);
+    *sum.last_mut().unwrap() ^= 1;
+    let mut broken = bin_64(&[3], &BitmapForm::Smallest);
+    broken.pop();
+    for (file, bin, refusal) in [
+        (vec![], 0, Refusal::Short),
+        (version, 0, Refusal::Version),
+        (file[..file.len() - 1].to_vec(), 0, Refusal::Short),
+        (file.clone(), 1, Refusal::NoBin),
+        (file.clone(), u64::MAX, Refusal::NoBin),
+        (magic, 0, Refusal::Magic),
+        (sum, 0, Refusal::Checksum),
+        (file_of_bins(&[broken]), 0, Refusal::Bitmap { entry: 0, container: 0 }),
+    ] {
+        for first in [0, 3, SECOND_BITMAP, END_OF_ROWS - 12] {
+            assert_eq!(read(&file, bin, first, 12, 4), ((refusal.number(), 0, refusal.fault()), zeroed), "{refusal}");
+        }
+    }
+    assert_eq!(read(&file, 0, 0, 12, 4), ((raw::ACCEPTED, 1, none), [0b1000, 0, 0xAA, 0xAA]));
+    assert_eq!(read(&file, 0, SECOND_BITMAP - 8, 12, 2), ((raw::ACCEPTED, 1, none), [0, 0b1000, 0xAA, 0xAA]));
+    assert_eq!(read(&file, 0, END_OF_ROWS - 12, 12, 4), ((raw::ACCEPTED, 0, none), zeroed));
+    assert_eq!(read(&file, 0, END_OF_ROWS, 0, 0), ((raw::ACCEPTED, 0, none), untouched));
 }
 
 /// Field and table are as they were up to ROOM, and behind it the field's bytes are zero and the table still as it was; accepted, the table has a

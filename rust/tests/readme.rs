@@ -47,6 +47,11 @@ fn commands_answer_as_shown() {
         shown.iter().any(|one| one.output.starts_with("keep: ")) && shown.iter().any(|one| one.output.starts_with("refused: "))
     );
     assert!(shown.iter().any(|one| one.words[0] == "open") && shown.iter().any(|one| one.words[0] == "lookup"));
+    // A 64-bit bin with a first row and without.
+    let of_64_bit_bins = || shown.iter().filter(|one| one.words.iter().any(|word| word == "demo/pumps-64.deletions"));
+    for with_first in [true, false] {
+        assert!(of_64_bit_bins().any(|one| one.words.iter().any(|word| word == "--first") == with_first));
+    }
     // And one question on the column with null rows in both editions, with different answers.
     let in_edition = |number: &str| {
         let asked = shown.iter().find(|one| one.words.windows(2).any(|pair| pair == ["--edition", number]));
@@ -91,9 +96,11 @@ fn usage_is_that_of_the_help() {
 fn rust_examples() {
     let (first, behind) = block(&section("## From Rust"), "rust");
     let (second, behind) = block(&behind, "rust");
-    assert!(!behind.iter().any(|line| line == "```rust"), "a third example in Rust");
+    let (third, behind) = block(&behind, "rust");
+    assert!(!behind.iter().any(|line| line == "```rust"), "a fourth example in Rust");
     rust_example(&first, "readme");
     rust_example(&second, "readme_lookup");
+    rust_example(&third, "readme_window");
 }
 
 /// The example of that name is the block, what stands behind its first blank line in a main function, and prints what the block says.
@@ -131,7 +138,9 @@ fn c_examples() {
     c_example(&first, &behind, "example");
     let (second, behind) = block(&behind, "c");
     c_example(&second, &behind, "lookup");
-    assert!(!behind.iter().any(|line| line == "```c"), "a third example in C");
+    let (third, behind) = block(&behind, "c");
+    c_example(&third, &behind, "window");
+    assert!(!behind.iter().any(|line| line == "```c"), "a fourth example in C");
 }
 
 /// The block is the program of that name, and prints what is shown behind it.

@@ -1,10 +1,10 @@
-//! The files of `demo/`, made from the telemetry of three data files: three pumps for eight minutes, one pump for a day, and a burner. The
-//! example `make_demo` writes them, and the test `demo` compares them with those in the repository.
+//! The files of `demo/`, made from the telemetry of four data files: three pumps for eight minutes, one pump for a day, a burner, and the
+//! pressure at a pump. The example `make_demo` writes them, and the test `demo` compares them with those in the repository.
 
 use std::ops::Range;
 
 use reference::types;
-use reference::writer::{bitmap, body, body_of, body_traced, deletion_file, index_file};
+use reference::writer::{bin_64, bitmap, body, body_of, body_traced, deletion_file, file_of_bins, index_file};
 use reference::writer::{BitmapForm, Column, Groups, Layout, Traced};
 
 /// State and alarm of a pump at one time; an alarm that the pump didn't report is null.
@@ -25,11 +25,26 @@ pub const SAMPLES: [[Sample; 3]; 8] = [
     [("running", None), ("idle", OFF), ("running", ON)],
 ];
 
-/// The rows that bin 0 of the deletion file lists, those of the data file of the samples.
+/// The rows that bin 0 of both deletion files lists, those of the data file of the samples.
 pub const DELETED: [u32; 3] = [3, 13, 20];
 
-/// The rows of bin 1, which is of another data file, with 40 rows.
+/// The rows of bin 1 of the file with 32-bit bins, which is of another data file, with 40 rows.
 pub const DELETED_ELSEWHERE: [u32; 2] = [7, 31];
+
+/// How often in a second the pressure at a pump is sampled.
+pub const PRESSURE_RATE: u64 = 1_000;
+
+/// For how many days. The samples are more than 32 bits can number.
+pub const PRESSURE_DAYS: u64 = 58;
+
+/// The seconds in which the gauge was calibrated. Their samples are the rows of bin 1 of the file with 64-bit bins. In the second one the rows
+/// pass 2^32, the last one is the last of all.
+pub const CALIBRATED: [u64; 3] = [0, 4_294_967, PRESSURE_DAYS * DAY as u64 - 1];
+
+/// The rows of that bin.
+pub fn calibrated_rows() -> Vec<u64> {
+    CALIBRATED.iter().flat_map(|second| PRESSURE_RATE * second..PRESSURE_RATE * (second + 1)).collect()
+}
 
 /// A sample of the state `fault`, which the damaged files have lost or doubled.
 const FAULT_ROW: u32 = 16;
@@ -73,6 +88,7 @@ pub fn burner() -> Column {
 pub fn files() -> Vec<(&'static str, Vec<u8>)> {
     let (states, alarms) = (state().groups(), alarm().groups());
     let deletions = [bitmap(&DELETED, &BitmapForm::Smallest), bitmap(&DELETED_ELSEWHERE, &BitmapForm::Smallest)];
+    let wide_bins = [&DELETED.map(u64::from)[..], &calibrated_rows()].map(|rows| bin_64(rows, &BitmapForm::Smallest));
     vec![
         ("pumps-v1.index", pumps(&states, &alarms, 1)),
         ("pumps-v2.index", pumps(&states, &alarms, 2)),
@@ -81,6 +97,7 @@ pub fn files() -> Vec<(&'static str, Vec<u8>)> {
         ("day-broken.index", index_file(&[("state", "bitmap", &broken(day()))])),
         ("burner.index", index_file(&[("🔥", "bitmap", &body_of(&burner(), &smallest(2)))])),
         ("pumps.deletions", deletion_file(&deletions)),
+        ("pumps-64.deletions", file_of_bins(&wide_bins)),
     ]
 }
 

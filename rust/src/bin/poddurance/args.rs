@@ -103,6 +103,8 @@ pub struct Word {
 pub struct Deletions {
     pub file: Source,
     pub bin: u64,
+    /// The first row of the window that it is read through, if it is.
+    pub first: Option<u64>,
 }
 
 /// Reads the words behind the program's name. The error says what is wrong with them.
@@ -124,8 +126,9 @@ fn command(mut places: Places, options: Options) -> Result<Command, String> {
     let name = places.next(&format!("a command: {}", in_words(&COMMANDS, "or")))?;
     let name = name.to_string_lossy().into_owned();
     options.fit(&name)?;
-    let Options { edition, millis, micros, stored, embedded, deletions, bin, row_count, .. } = options;
+    let Options { edition, millis, micros, stored, embedded, deletions, bin, first, row_count, .. } = options;
     let data_rows = row_count.map(|rows| number(&rows, "--row-count")).transpose()?;
+    let first = first.map(|row| number(&row, "--first")).transpose()?;
 
     let command = match name.as_str() {
         "columns" => Command::Columns { file: places.source()? },
@@ -145,7 +148,7 @@ fn command(mut places: Places, options: Options) -> Result<Command, String> {
             while !places.is_empty() {
                 literals.push(places.literal(index.ty, form)?.literal);
             }
-            Command::Ask { index, edition, question, literals, deletions: deletions_of(deletions, bin)? }
+            Command::Ask { index, edition, question, literals, deletions: deletions_of(deletions, bin, first)? }
         }
         "open" => Command::Open { index: places.index(embedded, data_rows)? },
         "lookup" => {
@@ -156,13 +159,13 @@ fn command(mut places: Places, options: Options) -> Result<Command, String> {
             while !places.is_empty() {
                 literals.push(places.literal(index.ty, form)?);
             }
-            Command::LookUp { index, edition, literals, deletions: deletions_of(deletions, bin)? }
+            Command::LookUp { index, edition, literals, deletions: deletions_of(deletions, bin, first)? }
         }
         "deletions" => {
             let file = places.source()?;
             let bin = number(&places.next("BIN")?, "BIN")?;
             let rows = number(&places.next("ROWS")?, "ROWS")?;
-            Command::Deletions { deletions: Deletions { file, bin }, rows }
+            Command::Deletions { deletions: Deletions { file, bin, first }, rows }
         }
         "help" => return Ok(Command::Help),
         other => return Err(format!("{other:?} is no command: {} are", in_words(&COMMANDS, "and"))),
@@ -172,13 +175,15 @@ fn command(mut places: Places, options: Options) -> Result<Command, String> {
 }
 
 /// The bin whose rows are taken away, if there is one.
-fn deletions_of(file: Option<OsString>, bin: Option<OsString>) -> Result<Option<Deletions>, String> {
-    match (file, bin) {
-        (None, None) => Ok(None),
-        (Some(file), Some(bin)) => Ok(Some(Deletions { file: file.into(), bin: number(&bin, "--bin")? })),
+fn deletions_of(file: Option<OsString>, bin: Option<OsString>, first: Option<u64>) -> Result<Option<Deletions>, String> {
+    match (file, bin, first) {
+        (None, None, None) => Ok(None),
+        (Some(file), Some(bin), first) => Ok(Some(Deletions { file: file.into(), bin: number(&bin, "--bin")?, first })),
         // A bin is of one data file, and the wrong one would take away the wrong rows, so none is assumed.
-        (Some(_), None) => Err("--deletions needs --bin N, the number of the data file's bin".to_string()),
-        (None, Some(_)) => Err("--bin goes with --deletions FILE".to_string()),
+        (Some(_), None, _) => Err("--deletions needs --bin N, the number of the data file's bin".to_string()),
+        (None, Some(_), _) => Err("--bin goes with --deletions FILE".to_string()),
+        // Without deletions no row is read from a first one on, and the rows would be listed as if they were.
+        (None, None, Some(_)) => Err("--first goes with --deletions FILE".to_string()),
     }
 }
 
@@ -230,6 +235,7 @@ struct Options {
     embedded: Option<OsString>,
     deletions: Option<OsString>,
     bin: Option<OsString>,
+    first: Option<OsString>,
     row_count: Option<OsString>,
 }
 
@@ -247,6 +253,7 @@ impl Options {
             (self.stored, "--stored", questions),
             (self.deletions.is_some(), "--deletions", questions),
             (self.bin.is_some(), "--bin", questions),
+            (self.first.is_some(), "--first", &["ask", "lookup", "deletions"]),
         ] {
             if given && COMMANDS.contains(&command) && !commands.contains(&command) {
                 return Err(format!("{option} goes with {} alone", in_words(commands, "and")));
@@ -304,6 +311,7 @@ fn split(words: impl IntoIterator<Item = OsString>) -> Result<Words, String> {
             b"--embedded" => valued(&mut options.embedded, value, &mut words, "--embedded", "FILE")?,
             b"--deletions" => valued(&mut options.deletions, value, &mut words, "--deletions", "FILE")?,
             b"--bin" => valued(&mut options.bin, value, &mut words, "--bin", "N")?,
+            b"--first" => valued(&mut options.first, value, &mut words, "--first", "ROW")?,
             b"--row-count" => valued(&mut options.row_count, value, &mut words, "--row-count", "ROWS")?,
             _ => return Err(format!("{word:?} is no option; a literal that begins with -- goes behind the word --")),
         }
@@ -441,8 +449,12 @@ mod tests {
         assert_eq!(command(&["audit", "f", "s", "int"]), Command::Audit { index: index(Type::Int, None) });
         let of_24 = Command::Audit { index: index(Type::Int, Some(24)) };
         assert_eq!(command(&["audit", "--row-count", "24", "f", "s", "int"]), of_24);
-        let deletions = Deletions { file: file("f"), bin: 2 };
-        assert_eq!(command(&["deletions", "f", "2", "60"]), Command::Deletions { deletions, rows: 60 });
+        let deletions = |first| Command::Deletions { deletions: Deletions { file: file("f"), bin: 2, first }, rows: 60 };
+        assert_eq!(command(&["deletions", "f", "2", "60"]), deletions(None));
+        // From row 0 on is another call than without a first row.
+        assert_eq!(command(&["deletions", "f", "2", "60", "--first", "0"]), deletions(Some(0)));
+        assert_eq!(command(&["deletions", "f", "--first=4294967296", "2", "60"]), deletions(Some(1 << 32)));
+        assert_eq!(command(&["deletions", "f", "2", "60", "--first", "18446744073709551615"]), deletions(Some(u64::MAX)));
         assert_eq!(command(&["ask", "f", "s", "TINYINT", "IN"]), ask(vec![], None));
         assert_eq!(command(&["open", "f", "s", "int"]), Command::Open { index: index(Type::Int, None) });
         let of_24 = Command::Open { index: index(Type::Int, Some(24)) };
@@ -506,8 +518,10 @@ mod tests {
         for edition in Edition::ALL {
             let number = edition.to_string();
             let line = ["lookup", "f", "s", "TINYINT", "-3", "--edition", &number, "+7", "7", "--deletions", "d", "--bin=3"];
-            let deletions = Some(Deletions { file: file("d"), bin: 3 });
-            assert_eq!(command(&line), look_up(Type::TinyInt, edition, three(), deletions));
+            let deletions = |first| Some(Deletions { file: file("d"), bin: 3, first });
+            assert_eq!(command(&line), look_up(Type::TinyInt, edition, three(), deletions(None)));
+            let line = [&line[..], &["--first", "7"]].concat();
+            assert_eq!(command(&line), look_up(Type::TinyInt, edition, three(), deletions(Some(7))));
         }
         // A word that names a question is a literal here.
         let strings = ["equal", "", "--rows"].map(|text| word(text, Literal::Text(text.to_string())));
@@ -539,14 +553,15 @@ mod tests {
 
     #[test]
     fn options_stand_anywhere() {
-        let deletions = || Some(Deletions { file: file("d"), bin: 3 });
-        let expected = ask(vec![Literal::Number(7)], deletions());
-        for line in [
-            &["ask", "f", "s", "TINYINT", "IN", "7", "--deletions", "d", "--bin", "3"][..],
-            &["--bin", "3", "ask", "f", "--deletions", "d", "s", "TINYINT", "IN", "7"],
-            &["ask", "f", "s", "TINYINT", "--deletions=d", "IN", "--bin=3", "7"],
+        let expected = |first| ask(vec![Literal::Number(7)], Some(Deletions { file: file("d"), bin: 3, first }));
+        for (line, first) in [
+            (&["ask", "f", "s", "TINYINT", "IN", "7", "--deletions", "d", "--bin", "3"][..], None),
+            (&["--bin", "3", "ask", "f", "--deletions", "d", "s", "TINYINT", "IN", "7"], None),
+            (&["ask", "f", "s", "TINYINT", "--deletions=d", "IN", "--bin=3", "7"], None),
+            (&["--first", "9", "ask", "f", "s", "TINYINT", "--deletions=d", "IN", "--bin=3", "7"], Some(9)),
+            (&["ask", "f", "s", "TINYINT", "--deletions=d", "IN", "--first=0", "--bin=3", "7"], Some(0)),
         ] {
-            assert_eq!(command(line), expected);
+            assert_eq!(command(line), expected(first));
         }
     }
 
@@ -571,7 +586,7 @@ mod tests {
     fn a_dash_is_standard_input_once() {
         assert_eq!(command(&["columns", "-"]), Command::Columns { file: Source::Input });
         assert_eq!(command(&["columns", "./-"]), Command::Columns { file: file("./-") });
-        let deletions = Deletions { file: Source::Input, bin: 0 };
+        let deletions = Deletions { file: Source::Input, bin: 0, first: None };
         assert_eq!(command(&["deletions", "-", "0", "6"]), Command::Deletions { deletions, rows: 6 });
         for line in [
             &["locate", "-", "s", "--embedded", "-"][..],
@@ -691,6 +706,23 @@ mod tests {
             (&["deletions", "f", "0", "+6"], "ROWS \"+6\" is no whole number from 0 to 18446744073709551615"),
             (&["deletions", "f", "0"], "ROWS is missing"),
             (&["deletions", "f", "0", "6", "--bin", "1"], "--bin goes with ask and lookup alone"),
+            (&["deletions", "f", "0", "6", "--first"], "--first needs ROW"),
+            (&["deletions", "f", "0", "6", "--first", "1", "--first", "1"], "--first is there twice"),
+            (&["deletions", "f", "0", "6", "--first", "-1"], "--first \"-1\" is no whole number from 0 to 18446744073709551615"),
+            (
+                &["deletions", "f", "0", "6", "--first", "18446744073709551616"],
+                "--first \"18446744073709551616\" is no whole number from 0 to 18446744073709551615",
+            ),
+            (&["ask", "f", "s", "int", "in", "--first", "0"], "--first goes with --deletions FILE"),
+            (&["lookup", "f", "s", "int", "7", "--first", "0"], "--first goes with --deletions FILE"),
+            (&["ask", "f", "s", "int", "in", "--first", "0", "--bin", "0"], "--bin goes with --deletions FILE"),
+            (
+                &["ask", "f", "s", "int", "in", "--first", "0", "--deletions", "d"],
+                "--deletions needs --bin N, the number of the data file's bin",
+            ),
+            (&["columns", "f", "--first", "0"], "--first goes with ask, lookup and deletions alone"),
+            (&["audit", "f", "s", "int", "--first", "0"], "--first goes with ask, lookup and deletions alone"),
+            (&["open", "f", "s", "int", "--first", "0"], "--first goes with ask, lookup and deletions alone"),
         ] {
             assert_eq!(read(line), Err(message.to_string()), "{line:?}");
         }

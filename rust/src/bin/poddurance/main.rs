@@ -17,8 +17,10 @@ use std::io::{self, BufWriter, Read, Write};
 use std::process::ExitCode;
 
 use poddurance::raw::{self, Fault};
-use poddurance::{ask, ask_file, audit, locate, open, read_deletions, subtract_record};
-use poddurance::{Deleted, Edition, Error, Literals, LookedUp, OpenedBody, Question, Record, Refusal, RowField, LIMIT};
+use poddurance::{ask, ask_file, audit, locate, open, read_deletions, read_window, subtract_record};
+use poddurance::{
+    Deleted, Edition, Error, Literals, LookedUp, OpenedBody, Question, Record, RecordSubtracted, Refusal, RowField, LIMIT,
+};
 
 use args::{Command, Deletions, IndexBytes, IndexOf, Job, Source, Word, BITMAP};
 use literal::Literal;
@@ -82,18 +84,10 @@ fn carry_out(command: Command, list: bool) -> Result<Outcome, String> {
             Err(outcome) => outcome,
         },
         Command::Deletions { deletions, rows } => {
-            let bytes = read(&deletions.file)?;
-            let deleted = match RowField::for_rows(rows) {
-                Ok(field) => read_deletions(&bytes, deletions.bin, field),
-                // There is no field for so many rows. The library says so as well, and needs no room for it.
-                Err(_) => {
-                    let (answer, _, fault) = raw::read_deletions(&bytes, deletions.bin, rows, &mut []);
-                    Err(refusal_from(answer, fault))
-                }
-            };
-            match deleted {
-                Ok(deleted) => Outcome::Deleted { count: deleted.count(), rows, field: deleted.into_field() },
-                Err(refusal) => Outcome::Refused { refusal, part: Part::Deletions },
+            let bin = Bin::read(&deletions)?;
+            match bin.rows(rows) {
+                Ok(deleted) => Outcome::Deleted { count: deleted.count(), rows, first: bin.first, field: deleted.into_field() },
+                Err(refusal) => bin.refused(refusal, false),
             }
         }
     })
@@ -184,7 +178,7 @@ fn asked(buffers: &Buffers, index: &IndexOf, edition: Edition, question: Questio
     match ask_file(&buffers.embedded, &buffers.file, &index.column, BITMAP, edition, question, &literals, field) {
         Ok(Some(answer)) => {
             let (field, record) = answer.into_parts();
-            differing(record.rows(), index.data_rows).unwrap_or(Outcome::Answered { record, removed: None, field })
+            differing(record.rows(), index.data_rows).unwrap_or(Outcome::Answered { record, removed: None, first: None, field })
         }
         Ok(None) => absent(index),
         Err(error) => match (located, refusal_of(error)) {
@@ -236,7 +230,8 @@ fn looked_up(
 ) -> Result<Vec<Lookup>, Outcome> {
     // The index was accepted, and so a refusal is of the literal or of the deletions.
     let of_literal = |error| Outcome::Refused { refusal: refusal_of(error), part: Part::Literals };
-    let deleted = bin.map(|bin| bin.rows(opened.rows())).transpose().map_err(beside_index)?;
+    let deleted = bin.map(|bin| bin.rows(opened.rows()).map_err(|refusal| bin.refused(refusal, true))).transpose()?;
+    let first = bin.and_then(|bin| bin.first);
     let mut lookups = Vec::new();
     for Word { text, literal } in literals {
         let literal = Literals::of(opened.ty(), [literal]).map_err(|refusal| of_literal(refusal.into()))?;
@@ -244,11 +239,11 @@ fn looked_up(
         let (mut rows, mut record) = answer.into_parts();
         let mut removed = None;
         if let Some(deleted) = &deleted {
-            let subtracted = subtract_record(&mut rows, deleted.field(), record).map_err(beside_index)?;
+            let subtracted = take_away(&mut rows, deleted, record);
             (record, removed) = (subtracted.record, Some(subtracted.removed));
         }
         // Only rows that will be listed are kept: the field goes on to the next literal.
-        lookups.push(Lookup { literal: text.clone(), record, removed, compared, rows: list.then(|| rows.clone()) });
+        lookups.push(Lookup { literal: text.clone(), record, removed, first, compared, rows: list.then(|| rows.clone()) });
         field = rows;
     }
     Ok(lookups)
@@ -265,34 +260,62 @@ fn differing(index_rows: u64, data_rows: Option<u64>) -> Option<Outcome> {
     Some(Outcome::RowsDiffer { index_rows, data_rows })
 }
 
-/// A deletion file beside an index, and which of its bins is the data file's.
+/// A deletion file, which of its bins is the data file's, and the first row of the window that it is read through, if it is.
 struct Bin {
     file: Vec<u8>,
     number: u64,
+    first: Option<u64>,
 }
 
 impl Bin {
     fn read(deletions: &Deletions) -> Result<Bin, String> {
-        Ok(Bin { file: read(&deletions.file)?, number: deletions.bin })
+        Ok(Bin { file: read(&deletions.file)?, number: deletions.bin, first: deletions.first })
     }
 
-    /// The rows that it lists of a data file with so many. It is read where no row is chosen too: a refused one is never an answer.
-    fn rows(&self, rows: u64) -> Result<Deleted, Error> {
-        Ok(read_deletions(&self.file, self.number, RowField::for_rows(rows)?)?)
+    /// The rows that it lists of a data file with so many, or of so many from the first one on. Beside an index it is read where no row is
+    /// chosen too: a refused one is never an answer.
+    fn rows(&self, rows: u64) -> Result<Deleted, Refusal> {
+        let Bin { file, number, first } = self;
+        match (RowField::for_rows(rows), first) {
+            (Ok(field), None) => read_deletions(file, *number, field),
+            (Ok(field), Some(first)) => read_window(file, *number, *first, field),
+            // There is no field for so many rows. The library says so as well, and needs no room for it.
+            (Err(_), first) => {
+                let (answer, _, fault) = match first {
+                    None => raw::read_deletions(file, *number, rows, &mut []),
+                    Some(first) => raw::read_window(file, *number, *first, rows, &mut []),
+                };
+                Err(refusal_from(answer, fault))
+            }
+        }
+    }
+
+    /// It is refused, beside an index that was accepted or by itself.
+    fn refused(&self, refusal: Refusal, beside_index: bool) -> Outcome {
+        let needs_window = refusal == Refusal::Magic && self.first.is_none() && self.is_64_bit();
+        Outcome::Refused { refusal, part: Part::Deletions { beside_index, needs_window } }
+    }
+
+    /// Whether a bin whose magic is refused without a window is a 64-bit one: the library says so when it is to read no row through one.
+    fn is_64_bit(&self) -> bool {
+        raw::read_window(&self.file, self.number, 0, 0, &mut []).0 != Refusal::Magic.number()
     }
 }
 
 /// The rows that are left of an answer when those of the bin are taken away.
 fn left(mut field: RowField, record: Record, bin: &Bin) -> Outcome {
-    match bin.rows(record.rows()).and_then(|deleted| subtract_record(&mut field, deleted.field(), record)) {
-        Ok(subtracted) => Outcome::Answered { record: subtracted.record, removed: Some(subtracted.removed), field },
-        Err(error) => beside_index(error),
+    match bin.rows(record.rows()) {
+        Ok(deleted) => {
+            let RecordSubtracted { record, removed } = take_away(&mut field, &deleted, record);
+            Outcome::Answered { record, removed: Some(removed), first: bin.first, field }
+        }
+        Err(refusal) => bin.refused(refusal, true),
     }
 }
 
-/// The deletions are refused, and the index was accepted.
-fn beside_index(error: Error) -> Outcome {
-    Outcome::Refused { refusal: refusal_of(error), part: Part::DeletionsBesideIndex }
+/// Takes the deleted rows, read for as many rows as the answer has, away from the answer's.
+fn take_away(rows: &mut RowField, deleted: &Deleted, record: Record) -> RecordSubtracted {
+    subtract_record(rows, deleted.field(), record).unwrap_or_else(|error| unreachable!("all are of one row count: {error}"))
 }
 
 fn refusal_of(error: Error) -> Refusal {

@@ -9,7 +9,7 @@ use crate::commas::with_commas;
 use crate::modified::{decoded, pieces, Piece};
 
 /// What came out. Its numbers are the library's answers or the user's own, but for those of `columns`; a field is for the list of its
-/// rows alone.
+/// rows alone, to which the first row of a window is added.
 #[derive(Debug)]
 pub enum Outcome {
     /// What the head of an index file lists.
@@ -23,27 +23,28 @@ pub enum Outcome {
     /// Audit accepted.
     Accepted { rows: u64 },
     /// Ask answered, and Subtract removed so many rows if there was a deletion file. Without one the record's deleted rows are 0 and say
-    /// nothing of the data file's.
-    Answered { record: Record, removed: Option<u64>, field: RowField },
+    /// nothing of the data file's. The field's row 0 is the first row of the window that the deletions were read through, if they were.
+    Answered { record: Record, removed: Option<u64>, first: Option<u64>, field: RowField },
     /// Open accepted: how many rows and blocks, and the bytes of the table that it filled.
     Opened { rows: u64, blocks: u64, table_bytes: usize },
     /// Every literal was looked up in an index that was opened once.
     LookedUp { lookups: Vec<Lookup> },
-    /// The deletions were read: how many rows, of how many.
-    Deleted { count: u64, rows: u64, field: RowField },
+    /// The deletions were read: how many rows, of how many, and from which row on if through a window.
+    Deleted { count: u64, rows: u64, first: Option<u64>, field: RowField },
     /// The library refused something.
     Refused { refusal: Refusal, part: Part },
     /// The index is accepted, but it is not of the data file's row count.
     RowsDiffer { index_rows: u64, data_rows: u64 },
 }
 
-/// What one literal of a lookup was answered. Record and removed rows are as in an answer to a question.
+/// What one literal of a lookup was answered. Record, removed rows and first row are as in an answer to a question.
 #[derive(Debug)]
 pub struct Lookup {
     /// As the user wrote it.
     pub literal: String,
     pub record: Record,
     pub removed: Option<u64>,
+    pub first: Option<u64>,
     /// How many values it was compared with.
     pub compared: u64,
     /// Where they are to be listed.
@@ -62,13 +63,16 @@ pub enum Part {
     Index,
     /// The index that was to be opened. VERSION is then of its body, since its head was read before.
     IndexToOpen,
-    Deletions,
-    /// The deletion file beside an index that was accepted; the line says so, since the user named two files.
-    DeletionsBesideIndex,
+    /// The deletion file. Beside an index that was accepted the line says so, since the user named two files. `needs_window` tells of a 64-bit bin
+    /// that was read without a window.
+    Deletions {
+        beside_index: bool,
+        needs_window: bool,
+    },
 }
 
 impl Part {
-    /// What a refusal says of it: the library's words, but for LITERAL and VERSION, which have several causes, the one that it was.
+    /// What a refusal says of it: the library's words, but for LITERAL, VERSION and MAGIC, which have several causes, the one that it was.
     fn meaning(self, refusal: Refusal) -> &'static str {
         match self {
             Part::Column => "the column's name takes more than 65535 bytes in modified UTF-8",
@@ -78,7 +82,9 @@ impl Part {
             Part::IndexToOpen if refusal == Refusal::Version => {
                 "only an index of version 2 can be opened; ask takes version 1 too"
             }
-            Part::Literals | Part::Index | Part::IndexToOpen | Part::Deletions | Part::DeletionsBesideIndex => refusal.meaning(),
+            // And who has a 64-bit bin.
+            Part::Deletions { needs_window: true, .. } => "the bin is a 64-bit one, to be read with --first ROW",
+            Part::Literals | Part::Index | Part::IndexToOpen | Part::Deletions { .. } => refusal.meaning(),
         }
     }
 }
@@ -110,34 +116,34 @@ impl Outcome {
                 writeln!(out, "absent: no {} index on column {column:?}", kind.escape_debug())
             }
             Outcome::Accepted { rows } => writeln!(out, "accepted: {}, each in exactly one place", counted(*rows, "row")),
-            Outcome::Answered { record, removed, field } => {
-                writeln!(out, "{}: {}", answer(record), claim(record, *removed))?;
-                list_rows(field, list, out)
+            Outcome::Answered { record, removed, first, field } => {
+                writeln!(out, "{}: {}", answer(record), claim(record, *removed, *first))?;
+                list_rows(field, *first, list, out)
             }
             Outcome::Opened { rows, blocks, table_bytes } => {
                 let (rows, blocks) = (counted(*rows, "row"), counted(*blocks, "block"));
                 writeln!(out, "opened: {rows}, each in exactly one place; {blocks}, table of {table_bytes} bytes")
             }
             Outcome::LookedUp { lookups } => {
-                for Lookup { literal, record, removed, compared, rows } in lookups {
-                    let (claim, values) = (claim(record, *removed), counted(*compared, "value"));
+                for Lookup { literal, record, removed, first, compared, rows } in lookups {
+                    let (claim, values) = (claim(record, *removed, *first), counted(*compared, "value"));
                     writeln!(out, "{} {literal:?}: {claim}, compared with {values}", answer(record))?;
                     if let Some(rows) = rows {
-                        list_rows(rows, list, out)?;
+                        list_rows(rows, *first, list, out)?;
                     }
                 }
                 Ok(())
             }
-            Outcome::Deleted { count, rows, field } => {
-                writeln!(out, "deleted: {} of {}", with_commas(*count), counted(*rows, "row"))?;
-                list_rows(field, list, out)
+            Outcome::Deleted { count, rows, first, field } => {
+                writeln!(out, "deleted: {} of {}{}", with_commas(*count), counted(*rows, "row"), from_row(*first))?;
+                list_rows(field, *first, list, out)
             }
             Outcome::Refused { refusal, part } => {
                 write!(out, "refused: {} ({}), {}", refusal.name(), refusal.number(), part.meaning(*refusal))?;
-                if *part == Part::DeletionsBesideIndex {
+                if let Part::Deletions { beside_index: true, .. } = part {
                     write!(out, ", in the deletion file")?;
                 }
-                let in_bin = matches!(part, Part::Deletions | Part::DeletionsBesideIndex);
+                let in_bin = matches!(part, Part::Deletions { .. });
                 // A bin has no entries, and the 0 in their place would be taken for null's.
                 let carried = refusal.carried().filter(|(name, _)| !in_bin || *name != "entry");
                 let carried: Vec<String> = carried.map(|(name, number)| format!("{name} {number}")).collect();
@@ -149,7 +155,8 @@ impl Outcome {
         }
     }
 
-    /// One object on one line. Its keys go by `answer`, those of a refusal by its `name` too, and don't change with the other values.
+    /// One object on one line. Its keys go by `answer` and the options that were given, those of a refusal by its `name` too, and don't change
+    /// with the other values.
     pub fn write_json(&self, list: bool, out: &mut impl Write) -> io::Result<()> {
         match self {
             Outcome::Listed { columns } => json_columns(columns, out)?,
@@ -163,9 +170,9 @@ impl Outcome {
                 write!(out, r#"{{"answer":"absent","column":{},"kind":{}"#, quoted(column), quoted(kind))?;
             }
             Outcome::Accepted { rows } => write!(out, r#"{{"answer":"accepted","rows":{rows}"#)?,
-            Outcome::Answered { record, removed, field } => {
-                write!(out, "{{{}", json_answer(record, *removed))?;
-                json_rows(field, list, out)?;
+            Outcome::Answered { record, removed, first, field } => {
+                write!(out, "{{{}{}", json_answer(record, *removed), json_first(*first))?;
+                json_rows(field, *first, list, out)?;
             }
             Outcome::Opened { rows, blocks, table_bytes } => {
                 write!(out, r#"{{"answer":"opened","rows":{rows},"blocks":{blocks},"table_bytes":{table_bytes}"#)?;
@@ -173,26 +180,26 @@ impl Outcome {
             Outcome::LookedUp { lookups } => {
                 write!(out, r#"{{"answer":"looked-up","lookups":["#)?;
                 let mut between = "";
-                for Lookup { literal, record, removed, compared, rows } in lookups {
+                for Lookup { literal, record, removed, first, compared, rows } in lookups {
                     let (literal, answer) = (quoted(literal), json_answer(record, *removed));
-                    write!(out, r#"{between}{{"literal":{literal},{answer},"compared":{compared}"#)?;
+                    write!(out, r#"{between}{{"literal":{literal},{answer},"compared":{compared}{}"#, json_first(*first))?;
                     if let Some(rows) = rows {
-                        json_rows(rows, list, out)?;
+                        json_rows(rows, *first, list, out)?;
                     }
                     write!(out, "}}")?;
                     between = ",";
                 }
                 write!(out, "]")?;
             }
-            Outcome::Deleted { count, rows, field } => {
-                write!(out, r#"{{"answer":"deleted","count":{count},"rows":{rows}"#)?;
-                json_rows(field, list, out)?;
+            Outcome::Deleted { count, rows, first, field } => {
+                write!(out, r#"{{"answer":"deleted","count":{count},"rows":{rows}{}"#, json_first(*first))?;
+                json_rows(field, *first, list, out)?;
             }
             Outcome::Refused { refusal, part } => {
                 let file = match part {
                     Part::Column | Part::Kind | Part::Literals => "null",
                     Part::Index | Part::IndexToOpen => r#""index""#,
-                    Part::Deletions | Part::DeletionsBesideIndex => r#""deletions""#,
+                    Part::Deletions { .. } => r#""deletions""#,
                 };
                 let (name, number, meaning) = (refusal.name(), refusal.number(), quoted(part.meaning(*refusal)));
                 write!(out, r#"{{"answer":"refused","file":{file},"name":"{name}","number":{number},"meaning":{meaning}"#)?;
@@ -218,12 +225,21 @@ fn answer(record: &Record) -> &'static str {
 }
 
 /// What a graph may claim of an answer. Without deletions it doesn't say how many rows are deleted.
-fn claim(record: &Record, removed: Option<u64>) -> String {
+fn claim(record: &Record, removed: Option<u64>, first: Option<u64>) -> String {
     let deleted = match removed {
         Some(_) => format!("{} deleted", with_commas(record.deleted())),
         None => "deletions not applied".to_string(),
     };
-    format!("{record} ({deleted}, {} null)", with_commas(record.nulls()))
+    format!("{record}{} ({deleted}, {} null)", from_row(first), with_commas(record.nulls()))
+}
+
+/// Which rows those of a window are, behind their number.
+fn from_row(first: Option<u64>) -> String {
+    first.map_or(String::new(), |first| format!(" from row {first} on"))
+}
+
+fn json_first(first: Option<u64>) -> String {
+    first.map_or(String::new(), |first| format!(r#","first":{first}"#))
 }
 
 /// The same, as the keys of an object.
@@ -252,14 +268,20 @@ fn plural(number: u64, thing: &str) -> String {
     format!("{thing}{}", if number == 1 { "" } else { "s" })
 }
 
-fn list_rows(field: &RowField, list: bool, out: &mut impl Write) -> io::Result<()> {
+/// The rows that are set, of a window as the rows that they stand for.
+fn ranges(field: &RowField, first: Option<u64>) -> impl Iterator<Item = (u64, u64)> + '_ {
+    // An accepted window ends by 2^63, and so no row is too large for a number.
+    let shift = first.unwrap_or(0);
+    field.ranges().map(move |range| (shift + range.start(), shift + range.end()))
+}
+
+fn list_rows(field: &RowField, first: Option<u64>, list: bool, out: &mut impl Write) -> io::Result<()> {
     if !list {
         return Ok(());
     }
     write!(out, "rows: ")?;
     let mut between = "";
-    for range in field.ranges() {
-        let (first, last) = range.into_inner();
+    for (first, last) in ranges(field, first) {
         write!(out, "{between}{first}")?;
         if last > first {
             write!(out, "-{last}")?;
@@ -269,14 +291,14 @@ fn list_rows(field: &RowField, list: bool, out: &mut impl Write) -> io::Result<(
     writeln!(out, "{}", if between.is_empty() { "none" } else { "" })
 }
 
-fn json_rows(field: &RowField, list: bool, out: &mut impl Write) -> io::Result<()> {
+fn json_rows(field: &RowField, first: Option<u64>, list: bool, out: &mut impl Write) -> io::Result<()> {
     if !list {
         return Ok(());
     }
     write!(out, r#","ranges":["#)?;
     let mut between = "";
-    for range in field.ranges() {
-        write!(out, "{between}[{},{}]", range.start(), range.end())?;
+    for (first, last) in ranges(field, first) {
+        write!(out, "{between}[{first},{last}]")?;
         between = ",";
     }
     write!(out, "]")
@@ -441,10 +463,20 @@ mod tests {
         match deleted {
             Some(deleted) => {
                 let subtracted = subtract_record(&mut field, &deleted, record).unwrap();
-                Outcome::Answered { record: subtracted.record, removed: Some(subtracted.removed), field }
+                Outcome::Answered { record: subtracted.record, removed: Some(subtracted.removed), first: None, field }
             }
-            None => Outcome::Answered { record, removed: None, field },
+            None => Outcome::Answered { record, removed: None, first: None, field },
         }
+    }
+
+    /// The same answer where the deletions were read from this row on.
+    fn from_on(mut outcome: Outcome, row: u64) -> Outcome {
+        match &mut outcome {
+            Outcome::Answered { first, .. } | Outcome::Deleted { first, .. } => *first = Some(row),
+            Outcome::LookedUp { lookups } => lookups.iter_mut().for_each(|lookup| lookup.first = Some(row)),
+            other => panic!("{other:?}"),
+        }
+        outcome
     }
 
     #[test]
@@ -514,7 +546,8 @@ mod tests {
                 (record, removed) = (subtracted.record, Some(subtracted.removed));
             }
             let listed = list.then(|| rows.clone());
-            lookups.push(Lookup { literal: value.to_string(), record, removed, compared: found.compared, rows: listed });
+            let (literal, compared) = (value.to_string(), found.compared);
+            lookups.push(Lookup { literal, record, removed, first: None, compared, rows: listed });
             field = rows;
         }
         Outcome::LookedUp { lookups }
@@ -598,13 +631,85 @@ mod tests {
 
     #[test]
     fn deletions() {
-        let some = Outcome::Deleted { count: 3, rows: 6, field: three() };
+        let some = Outcome::Deleted { count: 3, rows: 6, first: None, field: three() };
         assert_eq!(some.exit_status(), 0);
         assert_eq!(text(&some, true), "deleted: 3 of 6 rows\nrows: 0, 2, 5\n");
         assert_eq!(json(&some, true), "{\"answer\":\"deleted\",\"count\":3,\"rows\":6,\"ranges\":[[0,0],[2,2],[5,5]]}\n");
-        let none = Outcome::Deleted { count: 0, rows: 1, field: RowField::for_rows(1).unwrap() };
+        let none = Outcome::Deleted { count: 0, rows: 1, first: None, field: RowField::for_rows(1).unwrap() };
         assert_eq!(none.exit_status(), 0);
         assert_eq!(text(&none, true), "deleted: 0 of 1 row\nrows: none\n");
+    }
+
+    /// The line says from which row on, and rows are listed as those of the data file. Nothing else changes.
+    #[test]
+    fn windows() {
+        let deleted = |rows, field, first| Outcome::Deleted { count: 3, rows, first: Some(first), field };
+        let some = deleted(6, three(), 4_294_967_295);
+        assert_eq!(some.exit_status(), 0);
+        assert_eq!(text(&some, false), "deleted: 3 of 6 rows from row 4294967295 on\n");
+        assert_eq!(text(&some, true), "deleted: 3 of 6 rows from row 4294967295 on\nrows: 4294967295, 4294967297, 4294967300\n");
+        assert_eq!(json(&some, false), "{\"answer\":\"deleted\",\"count\":3,\"rows\":6,\"first\":4294967295}\n");
+        assert_eq!(
+            json(&some, true),
+            "{\"answer\":\"deleted\",\"count\":3,\"rows\":6,\"first\":4294967295,\
+             \"ranges\":[[4294967295,4294967295],[4294967297,4294967297],[4294967300,4294967300]]}\n"
+        );
+        // From 0 on is said too.
+        assert_eq!(text(&deleted(6, three(), 0), true), "deleted: 3 of 6 rows from row 0 on\nrows: 0, 2, 5\n");
+        // Up to the last row of all.
+        let last = deleted(3, RowField::all_of(3).unwrap(), (1 << 63) - 3);
+        assert!(text(&last, true).ends_with("\nrows: 9223372036854775805-9223372036854775807\n"));
+        let none = Outcome::Deleted { count: 0, rows: 0, first: Some(1 << 63), field: RowField::for_rows(0).unwrap() };
+        assert_eq!(text(&none, true), "deleted: 0 of 0 rows from row 9223372036854775808 on\nrows: none\n");
+
+        let keep = from_on(answered(&[0, 1, 3, 4], Some(three())), 1_000);
+        assert_eq!(keep.exit_status(), 0);
+        assert_eq!(
+            text(&keep, true),
+            "keep: drawn from 3 of 6 rows from row 1000 on (3 deleted, 1 null)\nrows: 1001, 1003-1004\n"
+        );
+        assert_eq!(
+            json(&keep, true),
+            "{\"answer\":\"keep\",\"rows\":6,\"nulls\":1,\"deleted\":3,\"matched\":3,\"removed\":1,\"first\":1000,\
+             \"ranges\":[[1001,1001],[1003,1004]]}\n"
+        );
+        let skip = from_on(answered(&[0, 2], Some(three())), 1_000);
+        assert_eq!(skip.exit_status(), 1);
+        assert_eq!(text(&skip, true), "skip: drawn from 0 of 6 rows from row 1000 on (3 deleted, 1 null)\nrows: none\n");
+
+        let both = from_on(looked_up(&[0, 1], Some(three()), true), 1_000);
+        assert_eq!(
+            text(&both, true),
+            "skip \"0\": drawn from 0 of 6 rows from row 1000 on (3 deleted, 1 null), compared with 2 values\nrows: none\n\
+             keep \"1\": drawn from 1 of 6 rows from row 1000 on (3 deleted, 1 null), compared with 3 values\nrows: 1001\n"
+        );
+        assert_eq!(
+            json(&both, true),
+            "{\"answer\":\"looked-up\",\"lookups\":[\
+             {\"literal\":\"0\",\"answer\":\"skip\",\"rows\":6,\"nulls\":1,\"deleted\":3,\"matched\":0,\"removed\":1,\"compared\":2,\
+             \"first\":1000,\"ranges\":[]},\
+             {\"literal\":\"1\",\"answer\":\"keep\",\"rows\":6,\"nulls\":1,\"deleted\":3,\"matched\":1,\"removed\":0,\"compared\":3,\
+             \"first\":1000,\"ranges\":[[1001,1001]]}]}\n"
+        );
+    }
+
+    /// A 64-bit bin without a window says what reads it; all else is as of other deletions.
+    #[test]
+    fn bins_that_need_a_window() {
+        let refused = |refusal, beside_index, needs_window| Outcome::Refused {
+            refusal,
+            part: Part::Deletions { beside_index, needs_window },
+        };
+        let meaning = "the bin is a 64-bit one, to be read with --first ROW";
+        for (beside_index, behind) in [(false, ""), (true, ", in the deletion file")] {
+            let outcome = refused(Refusal::Magic, beside_index, true);
+            assert_eq!(outcome.exit_status(), 3);
+            assert_eq!(text(&outcome, true), format!("refused: MAGIC (2), {meaning}{behind}\n"));
+            let rest = format!(r#""file":"deletions","name":"MAGIC","number":2,"meaning":"{meaning}""#);
+            assert_eq!(json(&outcome, true), format!("{{\"answer\":\"refused\",{rest}}}\n"));
+            let other = refused(Refusal::Magic, beside_index, false);
+            assert_eq!(text(&other, true), format!("refused: MAGIC (2), index file or bin magic differs{behind}\n"));
+        }
     }
 
     #[test]
@@ -777,8 +882,8 @@ mod tests {
         for (part, behind, file) in [
             (Part::Literals, "", "null"),
             (Part::Index, "", "\"index\""),
-            (Part::Deletions, "", "\"deletions\""),
-            (Part::DeletionsBesideIndex, ", in the deletion file", "\"deletions\""),
+            (DELETIONS, "", "\"deletions\""),
+            (DELETIONS_BESIDE_INDEX, ", in the deletion file", "\"deletions\""),
         ] {
             assert_eq!(refused(part).exit_status(), 3);
             assert_eq!(text(&refused(part), true), format!("refused: LIMIT (12), a limit is passed{behind}\n"));
@@ -817,19 +922,19 @@ mod tests {
                 "place, length or form of a bitmap is wrong: entry 3, container 1",
                 r#","entry":3,"container":1"#,
             ),
-            (of_a_bin, Part::Deletions, "place, length or form of a bitmap is wrong: container 1", r#","entry":0,"container":1"#),
+            (of_a_bin, DELETIONS, "place, length or form of a bitmap is wrong: container 1", r#","entry":0,"container":1"#),
             (
                 of_a_bin,
-                Part::DeletionsBesideIndex,
+                DELETIONS_BESIDE_INDEX,
                 "place, length or form of a bitmap is wrong, in the deletion file: container 1",
                 r#","entry":0,"container":1"#,
             ),
             (Refusal::Range { entry: 2 }, Part::Index, "a row at or above the row count: entry 2", r#","entry":2"#),
             (Refusal::Range { entry: 0 }, Part::Index, "a row at or above the row count: entry 0", r#","entry":0"#),
-            (Refusal::Range { entry: 0 }, Part::Deletions, "a row at or above the row count", r#","entry":0"#),
+            (Refusal::Range { entry: 0 }, DELETIONS, "a row at or above the row count", r#","entry":0"#),
             (
                 Refusal::Range { entry: 0 },
-                Part::DeletionsBesideIndex,
+                DELETIONS_BESIDE_INDEX,
                 "a row at or above the row count, in the deletion file",
                 r#","entry":0"#,
             ),
@@ -866,9 +971,11 @@ mod tests {
         assert_eq!(text(&accepted, false), "accepted: 86,400 rows, each in exactly one place\n");
         assert_eq!(json(&accepted, false), "{\"answer\":\"accepted\",\"rows\":86400}\n");
 
-        let deleted = Outcome::Deleted { count: 1_000, rows: 1_000_000, field: RowField::all_of(1_001).unwrap() };
+        let deleted = Outcome::Deleted { count: 1_000, rows: 1_000_000, first: None, field: RowField::all_of(1_001).unwrap() };
         assert_eq!(text(&deleted, true), "deleted: 1,000 of 1,000,000 rows\nrows: 0-1000\n");
         assert_eq!(json(&deleted, true), "{\"answer\":\"deleted\",\"count\":1000,\"rows\":1000000,\"ranges\":[[0,1000]]}\n");
+        let deleted = from_on(deleted, 1_000);
+        assert_eq!(text(&deleted, true), "deleted: 1,000 of 1,000,000 rows from row 1000 on\nrows: 1000-2000\n");
 
         let differ = Outcome::RowsDiffer { index_rows: 65_536, data_rows: u64::MAX };
         assert_eq!(text(&differ, false), "refused: the index is of 65,536 rows, the data file has 18,446,744,073,709,551,615\n");
@@ -885,6 +992,9 @@ mod tests {
         let found = Outcome::Found { column: "s".to_string(), kind: "bitmap".to_string(), start: 1_000, length: 65_536 };
         assert_eq!(text(&found, false), "found: bitmap index on column \"s\", 65536 bytes at 1000\n");
     }
+
+    const DELETIONS: Part = Part::Deletions { beside_index: false, needs_window: false };
+    const DELETIONS_BESIDE_INDEX: Part = Part::Deletions { beside_index: true, needs_window: false };
 
     /// The keys of an object without text values that hold `":`.
     fn keys(line: &str) -> Vec<&str> {
@@ -909,7 +1019,7 @@ mod tests {
             looked_up(&[1], Some(three()), false),
             Outcome::Listed { columns: vec![Column { name: b"s".to_vec(), indexes: vec![] }] },
             Outcome::NotListed { reason: "no".to_string() },
-            Outcome::Deleted { count: 3, rows: 6, field: three() },
+            Outcome::Deleted { count: 3, rows: 6, first: None, field: three() },
             refused(Part::Index),
             refused(Part::Literals),
             refused(Part::Column),
@@ -921,8 +1031,16 @@ mod tests {
             let object = format!("{start}{}", behind.split_once("}\n").expect("it ends with a line").0);
             assert_eq!(keys(&object), keys(&json), "{start}");
         }
-        // The keys that a refusal has besides stand behind its name, in a sentence of their own.
+        // Those that an option adds stand in a sentence of their own, in their order.
         let help = include_str!("help.txt").split_whitespace().collect::<Vec<_>>().join(" ");
+        let sentence = help.split(". ").find(|sentence| sentence.starts_with("With --first keep, skip and deleted"));
+        let added = keys(sentence.expect("the help has the sentence"));
+        for outcome in [answered(&[1], Some(three())), Outcome::Deleted { count: 3, rows: 6, first: None, field: three() }] {
+            let without = json(&outcome, false);
+            let with = json(&from_on(outcome, 7), true);
+            assert_eq!(keys(&with), [&keys(&without)[..], &added].concat());
+        }
+        // The keys that a refusal has besides stand behind its name, in a sentence of their own.
         let sentence = help.split(". ").find(|sentence| sentence.starts_with("A refusal that says where its cause is"));
         let (_, listed) = sentence.and_then(|sentence| sentence.split_once(": ")).expect("the help has the sentence");
         let listed: Vec<(&str, Vec<&str>)> = listed
