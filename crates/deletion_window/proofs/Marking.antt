@@ -1,5 +1,5 @@
 -- Marking through a window: one bitmap, the bitmaps behind a 64-bit magic in turn, and a field that is cleared again.
-use Prim.Native.Nat.{ℕ, zero, suc, _+_, _-_, _*_, _/_, _^_, _<_, _≤_}
+use Prim.Native.Nat.{ℕ, zero, suc, _+_, _-_, _*_, _/_, _<_, _≤_}
 use mathlib.Core.Path.{_≡_, refl, sym, ap, _∙_}
 use mathlib.Core.Bool.{Bool, true, false}
 use mathlib.Core.List.{List, [], _∷_, _++_, append-nil, append-assoc}
@@ -37,7 +37,7 @@ use Rattle.deletion_file.specs.Reading.{binEntry, leftBy, deletionsBy}
 use Rattle.deletion_file.specs.Promises.{MarksRows}
 use Rattle.deletion_file.proofs.WalkSteps.{then-then}
 use Rattle.deletion_window.specs.Layout.{indexRows, rowsEnd}
-use Rattle.deletion_window.specs.Reading.{wrong, IndexedRows, nextBitmap, bitmapsIn, rows64, rows32, markedIn}
+use Rattle.deletion_window.specs.Reading.{wrong, nextBitmap, bitmapsIn, rows64, rows32, markedIn}
 use Rattle.deletion_window.specs.Promises.{FoundBitmap, MarksEach, IsClear}
 
 -- ---- one bitmap

@@ -3,7 +3,7 @@ use Prim.Native.Nat.{ℕ, _+_, _-_, _*_, _<_, _≤_}
 use mathlib.Core.Path.{_≡_, refl, sym, ap, _∙_}
 use mathlib.Core.Logic.{_≢_}
 use mathlib.Core.Bool.{Bool, true, false}
-use mathlib.Core.List.{List, _++_}
+use mathlib.Core.List.{List}
 use native.Mathlib.Decide.{decLt}
 use native.Mathlib.Omega.{arith}
 use lib.Dec.{leb, ltb}
@@ -15,18 +15,18 @@ use Rattle.numbers.proofs.ByteLists.{bytes-drop}
 use Rattle.numbers.proofs.Laws.{number-at, number-short}
 use Rattle.refusal.specs.declared.Refusal.{Refusal}
 use Rattle.refusal.specs.declared.Refusal.the-variants.{Magic, Checksum, Limit}
-use Rattle.refusal.specs.Reading.{Out, refuse, ok, check, andThen, refusedAs, numbersOf, faultIn}
+use Rattle.refusal.specs.Reading.{Out, refuse, ok, check, andThen, refusedAs}
 use Rattle.roaring.specs.declared.Extent.the-variants.{AsLong}
 use Rattle.roaring.specs.declared.Measured.{Measured}
 use Rattle.roaring.specs.Reading.{Parsed, read, measured}
 use Rattle.roaring.specs.Promises.{MeasurePromise}
 use Rattle.roaring.proofs.Measuring.{not-sound, is-sound}
 use Rattle.roaring.proofs.Theorems.{read-was-laid-out}
-use Rattle.row_field.specs.Meaning.{above, cleared}
+use Rattle.row_field.specs.Meaning.{above}
 use Rattle.deletion_file.specs.declared.Deletions.{Deletions}
 use Rattle.deletion_file.specs.declared.Prepared.{Prepared}
 use Rattle.deletion_file.specs.Layout.{Bin}
-use Rattle.deletion_file.specs.Reading.{askedBin, hasMagic, checksumHolds, deletionsReady, leftBy, deletionsBy, deletionsOut, deletionsFault, deletionsNumbers}
+use Rattle.deletion_file.specs.Reading.{askedBin, hasMagic, checksumHolds, deletionsReady, leftBy, deletionsBy, deletionsOut, deletionsFault}
 use Rattle.deletion_file.specs.Promises.{part, binFrom, MarksRows, Prepares}
 use Rattle.deletion_file.proofs.BinSteps.{drop-take}
 use Rattle.deletion_file.proofs.CallSteps.{numbers-so, fault-so}

@@ -155,7 +155,7 @@ module _ (file : List ℕ) (b first n m : ℕ) (whole left right : List ℕ)
       }
 
 pub two-windows : TwoWindows
-two-windows file b first n m whole left right t a l r =
+two-windows file b first n m whole left right a l r =
     side-by-side file b first n m whole left right a
     record { file-in-limit = a .file-in-limit; count-in-limit = omega arith; end-in-limit = omega arith; room = l }
     record { file-in-limit = a .file-in-limit; count-in-limit = omega arith; end-in-limit = omega arith; room = r }

@@ -15,7 +15,6 @@ use Rattle.refusal.specs.declared.Refusal.the-variants.{Short, Magic, Version, 
 use Rattle.row_field.specs.Meaning.{size, bit, fieldOf, Rising}
 use Rattle.window.specs.Meaning.{inWindow}
 use Rattle.roaring.specs.declared.Extent.the-variants.{Exactly}
-use Rattle.roaring.specs.Layout as roaring
 use Rattle.roaring.specs.Faults.{Broken}
 use Rattle.deletion_file.specs.declared.Deletions.the-variants.{Deleted}
 use Rattle.crc32.specs.Meaning.{checksum}
@@ -172,5 +171,5 @@ pub record SideBySide (file : List ℕ) (b first n m : ℕ) (whole left right : 
 
 abbrev pub TwoWindows : Type 0
 TwoWindows =
-    (file : List ℕ) (b first n m : ℕ) (whole left right : List ℕ) → Bytes file → Allowed file first (n + m) whole → size n ≤ length left → size m ≤ length right
+    (file : List ℕ) (b first n m : ℕ) (whole left right : List ℕ) → Allowed file first (n + m) whole → size n ≤ length left → size m ≤ length right
     → SideBySide file b first n m whole left right

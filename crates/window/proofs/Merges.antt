@@ -23,6 +23,10 @@ use Rattle.window.proofs.ByteShifts.{within-byte}
 -- ---- within a byte
 
 module _ (f g : List ℕ) (at v c s : ℕ) where
+  pub within-none : c ≡ 0 → MarkedInTurn f f (moved g v (at * 8 + s) c) false
+  unfolding moved
+  within-none z = marks-done (marks-first (moved g v (at * 8 + s) c) f) (rw z)
+
   pub within-past : length f ≤ at → MarkedInTurn f f (moved g v (at * 8 + s) c) false
   within-past h = marks-past (marks-first (moved g v (at * 8 + s) c) f) (moved-past f g v (at * 8 + s) c (omega arith))
 
