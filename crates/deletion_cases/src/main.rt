@@ -2,8 +2,11 @@
 //   append  appends the given bytes as a bin: size, bytes and checksum; a number behind it has its bits turned in the checksum
 //   read    BIN ROWS ROOM: reads a bin in a buffer of ROOM bytes AA
 //   cuts    BIN ROWS ROOM: reads it in each proper prefix of the file
+//   through BIN ROWS ROOM FIRST: reads a bin through the window of ROWS rows from FIRST on
+//   ends    BIN ROWS ROOM FIRST: reads it so in each proper prefix of the file
 use deletion_file::Deletions;
 use numbers::Position;
+use numbers::Row;
 
 fn say_answer(answer: Deletions) {
     match answer {
@@ -25,16 +28,35 @@ fn cuts(buffer: &mut [u8], file: &[u8], bin: u64, rows: u64) {
     }
 }
 
+fn read_window(buffer: &mut [u8], file: &[u8], bin: u64, first: u64, rows: u64) {
+    case_lines::fill(buffer, 0xAA);
+    say_answer(deletion_window::read_window(file, bin, Row(first), rows, buffer));
+    case_lines::say_field(buffer, rows, 0xAA);
+}
+
+fn ends(buffer: &mut [u8], file: &[u8], bin: u64, first: u64, rows: u64) {
+    for n in 0..file.len() {
+        case_lines::say_number(b"cut ", n as u64);
+        read_window(buffer, &file[0..n], bin, first, rows);
+    }
+}
+
 // Does the call that a line says.
 fn call(buffer: &mut [u8], file: &[u8], line: &[u8]) {
     let bin = case_lines::number(line, 1);
     let rows = case_lines::number(line, 2);
+    let first = case_lines::number(line, 4);
     match case_lines::letter(line) {
         b'r' => {
             case_lines::say(line);
             read(buffer, file, bin, rows);
         }
         b'c' => cuts(buffer, file, bin, rows),
+        b't' => {
+            case_lines::say(line);
+            read_window(buffer, file, bin, first, rows);
+        }
+        b'e' => ends(buffer, file, bin, first, rows),
         _ => {}
     }
 }
