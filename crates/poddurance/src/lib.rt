@@ -5,6 +5,7 @@
 ghost use mathlib.Core.Path.{_≡_};
 ghost use Rattle.subtract.specs.Meaning.{recordNumbers};
 ghost use Rattle.subtract.specs.Reading.{recordSubtractOut};
+ghost use Rattle.deletion_file.specs.Reading.{deletionsOut, deletionsFault};
 ghost use Rattle.bitmap_index.specs.Meaning.{question};
 ghost use Rattle.bitmap_index.specs.Reading.{askOut, askFault};
 ghost use Rattle.file_to_answers.specs.Reading.{lookedAt};
@@ -23,18 +24,10 @@ use subtract::Subtracted;
 
 const ACCEPTED: u8 = 0;
 
-#[no_mangle]
-pub extern "C" fn poddurance_read_deletions(
-    file: &[u8],
-    bin: u64,
-    rows: u64,
-    field: &mut [u8],
-    deleted: &mut u64,
-    fault: &mut [u64; 3],
-) -> u8
-    ensures { λ r. ⌜ ReadDeletions (now (file .entry)) bin rows (now (field .entry)) (now (field .exit)) r (now (deleted .exit)) (now (fault .exit)) ⌝ }
+// The number of an answer about a bin, and through pointers how many rows are deleted and where its fault is.
+fn deletions_said(answer: Deletions, deleted: &mut u64, fault: &mut [u64; 3]) -> u8
+    ensures { λ r. ⌜ ((r, now (deleted .exit)) ≡ deletionsOut answer) × (now (fault .exit) ≡ deletionsFault answer) ⌝ }
 {
-    let answer = deletion_file::read_deletions(file, bin, rows, field);
     match answer {
         Deletions::Refused(r) => {
             *deleted = 0;
@@ -50,6 +43,21 @@ pub extern "C" fn poddurance_read_deletions(
 }
 
 #[no_mangle]
+pub extern "C" fn poddurance_read_deletions(
+    file: &[u8],
+    bin: u64,
+    rows: u64,
+    field: &mut [u8],
+    deleted: &mut u64,
+    fault: &mut [u64; 3],
+) -> u8
+    ensures { λ r. ⌜ ReadDeletions (now (file .entry)) bin rows (now (field .entry)) (now (field .exit)) r (now (deleted .exit)) (now (fault .exit)) ⌝ }
+{
+    let answer = deletion_file::read_deletions(file, bin, rows, field);
+    deletions_said(answer, deleted, fault)
+}
+
+#[no_mangle]
 pub extern "C" fn poddurance_read_window(
     file: &[u8],
     bin: u64,
@@ -62,18 +70,7 @@ pub extern "C" fn poddurance_read_window(
     ensures { λ r. ⌜ ReadWindow (now (file .entry)) bin first rows (now (field .entry)) (now (field .exit)) r (now (deleted .exit)) (now (fault .exit)) ⌝ }
 {
     let answer = deletion_window::read_window(file, bin, Row(first), rows, field);
-    match answer {
-        Deletions::Refused(r) => {
-            *deleted = 0;
-            *fault = refusal::fault(r);
-            refusal::number(r)
-        }
-        Deletions::Deleted(n) => {
-            *deleted = n;
-            *fault = refusal::NO_FAULT;
-            ACCEPTED
-        }
-    }
+    deletions_said(answer, deleted, fault)
 }
 
 #[no_mangle]

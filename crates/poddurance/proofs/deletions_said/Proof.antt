@@ -1,0 +1,16 @@
+-- `deletions_said` meets its contract: by cases of the answer.
+use Rattle.deletion_file.specs.Reading.{deletionsOut, deletionsFault}
+use borrow.Author.Needs.{needs}
+use Rattle.poddurance.proofs.deletions_said.Statement.{statement}
+use Rattle.poddurance.proofs.deletions_said.Tie as tie
+
+returns : tie.Need-returns
+unfolding deletionsOut deletionsFault
+returns c = let e = c .before .before .before .answer .given .1 in (rw (e, c .number .ensures), rw (e, c .before .fault .ensures))
+
+returns-2 : tie.Need-returns-2
+unfolding deletionsOut deletionsFault
+returns-2 c = let e = c .before .answer2 .given .1 in (rw e, rw e)
+
+pub deletions-said-spec : {M : Type 1} → statement M
+deletions-said-spec = tie.close (tie.spec (λ c. search needs) (λ c κs. search needs) (λ c κs. search needs) (λ c. search needs) returns returns-2)
