@@ -38,7 +38,7 @@ use Rattle.bitmap_index.specs.declared.Outcome.{Outcome}
 use Rattle.bitmap_index.specs.declared.Outcome.the-variants.{Done}
 use Rattle.bitmap_index.specs.Promises.{AskPromise, ForDictionary, Prepares, Asked, TestsQuestion, Lookup, AuditComesTo, AuditsField, Answers, AnswersField}
 use Rattle.bitmap_index.proofs.AcceptedStages.{asked-back}
-use Rattle.bitmap_index.proofs.Auditing.{zeroed-again}
+use Rattle.row_field.proofs.Counts.{zeroed-again}
 
 -- ---- the question
 

@@ -13,7 +13,7 @@ use Rattle.refusal.specs.Meaning.{limit}
 use Rattle.refusal.specs.declared.Refusal.{Refusal}
 use Rattle.refusal.specs.declared.Refusal.the-variants.{Missing, Room, Limit}
 use Rattle.row_field.specs.Meaning.{zeroed, cleared, size, count, firstClear}
-use Rattle.row_field.proofs.Counts.{none-counted, count-le, length-zeroed, bit-zeroed}
+use Rattle.row_field.proofs.Counts.{none-counted, count-le, length-zeroed, zeroed-again, bit-zeroed}
 use Rattle.refusal.specs.Reading.{Out, refuse, ok, check, andThen, numbersOf, faultIn}
 use Rattle.dictionary.specs.declared.Checked.{Checked}
 use Rattle.dictionary.specs.declared.Checked.the-variants.{Found}
@@ -73,12 +73,6 @@ module _ (h : Summary) (body f : List ℕ) {r : Placing} {mid : List ℕ} (p : P
           record { outcome = (rw (w .outcome .0, so-many, eq-eqb (n + m) (h .rows) i), nulls-counted k body h es b s f z (rw e at p)); behind = w .behind }
 
 -- ---- the field is clear before, and again after
-
-pub zeroed-again : (k : ℕ) (f : List ℕ) → zeroed k (zeroed k f) ≡ zeroed k f
-unfolding zeroed
-zeroed-again zero f = refl
-zeroed-again (suc k) [] = refl
-zeroed-again (suc k) (x ∷ f) = ap (λ (t : List ℕ). 0 ∷ t) (zeroed-again k f)
 
 pub zero-ready : (t : ℕ) (body : List ℕ) (h : Summary) (f : List ℕ) {zero : List ℕ} → zero ≡ cleared (h .rows) f → Ready t body h f
     → Ready t body h zero × (count zero (h .rows) ≡ 0)

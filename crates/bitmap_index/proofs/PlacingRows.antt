@@ -1,12 +1,12 @@
 -- Placing rows: what measuring and marking answer, put into the reading, and that no byte behind a field of n rows changes.
-use Prim.Native.Nat.{ℕ, zero, suc, _+_, _-_, _/_, _<_, _≤_}
+use Prim.Native.Nat.{ℕ, _+_, _-_, _<_, _≤_}
 use mathlib.Core.Path.{_≡_, refl, sym, ap, _∙_}
 use mathlib.Core.Bool.{Bool, true, false}
-use mathlib.Core.List.{List, [], _∷_}
+use mathlib.Core.List.{List, []}
 use native.Mathlib.Omega.{arith}
 use lib.Dec.{leb}
 use lib.IntN.{ℤ, pos, negsuc, _-ℤ_, natAbs}
-use lib.ListN.{length, take, drop, set, length-drop, drop-of-length-le}
+use lib.ListN.{length, take, drop, length-drop, drop-of-length-le}
 use lib.Seq.{take-all, take-nil}
 use lib.Signed.{ltZ}
 use mir.Syntax.{w32}
@@ -16,10 +16,11 @@ use Rattle.numbers.specs.Meaning.{Bytes, number, minusOne}
 use Rattle.numbers.proofs.ByteLists.{bytes-drop}
 use Rattle.refusal.specs.declared.Refusal.the-variants.{Bitmap, Range, Twice}
 use Rattle.refusal.specs.Reading.{Out, refuse, ok, check, andThen, refusedAs}
-use Rattle.row_field.specs.Meaning.{bit, mark, markAll, anySet, Below, zeroed, cleared, size, count}
+use Rattle.row_field.specs.Meaning.{bit, mark, anySet, cleared, size, count}
 use Rattle.row_field.specs.Promises.{MarkedRows}
 use Rattle.row_field.proofs.RowLists.{rising-below}
 use Rattle.row_field.proofs.Counts.{count-mark}
+use Rattle.row_field.proofs.Fronts.{cleared-mark, cleared-marks}
 use Rattle.roaring.specs.declared.Extent.{Extent}
 use Rattle.roaring.specs.declared.Extent.the-variants.{AsLong, Exactly}
 use Rattle.roaring.specs.declared.Measured.{Measured}
@@ -32,24 +33,6 @@ use Rattle.bitmap_index.specs.declared.Placing.the-variants.{Placed}
 use Rattle.bitmap_index.specs.Promises.{Places}
 use Rattle.bitmap_index.proofs.Offsets.{of, row-is, at, place-is}
 use Rattle.bitmap_index.proofs.PlacedRows.{count-besides, measured-rise}
-
--- ---- no byte behind the field changes
-
-zeroed-set : (k : ℕ) (f : List ℕ) (i v : ℕ) → i < k → zeroed k (set f i v) ≡ zeroed k f
-unfolding zeroed
-zeroed-set zero f i v h = absurd (omega arith)
-zeroed-set (suc k) [] i v h = refl
-zeroed-set (suc k) (x ∷ f) zero v h = refl
-zeroed-set (suc k) (x ∷ f) (suc i) v h = ap (λ (t : List ℕ). 0 ∷ t) (zeroed-set k f i v (omega arith))
-
-pub cleared-mark : (n : ℕ) (f : List ℕ) (r : ℕ) → r < n → cleared n (mark f r) ≡ cleared n f
-unfolding mark
-cleared-mark n f r h = zeroed-set (size n) f (r / 8) _ (omega arith)
-
-pub cleared-marks : (n : ℕ) (f rs : List ℕ) → Below n rs → cleared n (markAll f rs) ≡ cleared n f
-unfolding markAll
-cleared-marks n f [] b = refl
-cleared-marks n f (r ∷ rs) b = cleared-marks n (mark f r) rs (b .1) ∙ cleared-mark n f r (b .0)
 
 -- ---- a single row
 

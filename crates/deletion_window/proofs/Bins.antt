@@ -33,7 +33,7 @@ use Rattle.deletion_window.specs.declared.Kind.the-variants.{Unknown, Bi
 use Rattle.deletion_window.specs.Layout.{magic64, rowsEnd, binBytes64, EitherBin, bits-32, bits-64, summed}
 use Rattle.deletion_window.specs.Reading.{rows32, rows64, hasMagic64, kindOf, known, rowsBehind, rowsOfBin}
 use Rattle.deletion_window.specs.Claims.{WithMagic}
-use Rattle.deletion_window.proofs.Refusals.{Only, check-only, then-only}
+use Rattle.refusal.proofs.Only.{Only, check-only, then-only}
 use Rattle.deletion_window.proofs.Bitmaps64.{bitmaps-rise, bytes-bitmaps, bitmaps-read, rows-back, rows-only}
 
 -- ---- a bin that is laid out

@@ -24,7 +24,7 @@ use Rattle.deletion_file.proofs.Frames.{nothing}
 use Rattle.deletion_file.proofs.Accepted.{bytes-right}
 use Rattle.deletion_window.specs.Layout.{indexEnd, indexRows, rowsEnd, Indexed, indexedBytes, listed, IndexesRise, Bitmaps, bitmaps}
 use Rattle.deletion_window.specs.Reading.{wrong, IndexedRows, nextBitmap, bitmapsIn, rows64}
-use Rattle.deletion_window.proofs.Refusals.{Only, check-only, then-only, number-only}
+use Rattle.refusal.proofs.Only.{Only, check-only, then-only, number-only}
 
 -- ---- what is laid out
 

@@ -26,7 +26,7 @@ use Rattle.deletion_window.specs.Claims.{Allowed, AnswersRows, BitmapOrB
 use Rattle.deletion_window.proofs.InWindows.{bit-cleared, bit-marked, field-in, count-in}
 use Rattle.deletion_window.proofs.Bins.{bin-rises, bin-only}
 use Rattle.deletion_window.proofs.Files.{laid-rows}
-use Rattle.deletion_window.proofs.Refusals.{Only, check-only, then-only}
+use Rattle.refusal.proofs.Only.{Only, check-only, then-only}
 
 marked-refused : (first n : ℕ) (field : List ℕ) (r : Refusal) (o : Out Refusal (List ℕ)) → (markedIn first n o field ≡ refuse r) ↔ (o ≡ refuse r)
 unfolding markedIn andThen

@@ -1,7 +1,6 @@
 -- Laws of marking through a window, and of the call's stages; then of what is claimed.
 pub mod Steps
 pub mod Marking
-pub mod Refusals
 pub mod Bitmaps64
 pub mod Bins
 pub mod Files

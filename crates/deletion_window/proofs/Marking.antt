@@ -1,13 +1,13 @@
 -- Marking through a window: one bitmap, the bitmaps behind a 64-bit magic in turn, and a field that is cleared again.
-use Prim.Native.Nat.{ℕ, zero, suc, _+_, _-_, _*_, _/_, _<_, _≤_}
+use Prim.Native.Nat.{ℕ, suc, _+_, _-_, _*_, _<_, _≤_}
 use mathlib.Core.Path.{_≡_, refl, sym, ap, _∙_}
 use mathlib.Core.Bool.{Bool, true, false}
-use mathlib.Core.List.{List, [], _∷_, _++_, append-nil, append-assoc}
+use mathlib.Core.List.{List, [], _++_, append-nil, append-assoc}
 use native.Mathlib.Decide.{ℕ-discrete}
 use native.Mathlib.Nat.{zero-mul}
 use native.Mathlib.Omega.{arith}
 use lib.Dec.{eqb}
-use lib.ListN.{length, drop, set, length-drop}
+use lib.ListN.{length, drop, length-drop}
 use borrow.Author.Tests.{eq-eqb, ne-eqb}
 use Rattle.numbers.specs.Meaning.{leAt, little, Bytes, fourBytes}
 use Rattle.numbers.proofs.Laws.{number-at, number-short}
@@ -15,10 +15,12 @@ use Rattle.refusal.specs.declared.Refusal.{Refusal}
 use Rattle.refusal.specs.declared.Refusal.the-variants.{Bitmap}
 use Rattle.refusal.specs.Reading.{Out, refuse, ok, check, andThen, refusedAs}
 use Rattle.refusal.proofs.Laws.{then-same}
-use Rattle.row_field.specs.Meaning.{size, mark, markAll, zeroed, cleared, above, count, Below}
+use Rattle.row_field.specs.Meaning.{size, markAll, cleared, above, count, Below}
 use Rattle.row_field.specs.Promises.{MarkedRows}
 use Rattle.row_field.proofs.RowLists.{rising-below, above-zero}
 use Rattle.row_field.proofs.Marks.{markAll-append}
+use Rattle.row_field.proofs.Counts.{zeroed-again}
+use Rattle.row_field.proofs.Fronts.{cleared-marks}
 use Rattle.window.specs.declared.Window.{Window}
 use Rattle.window.specs.Meaning.{windowed, rowWindow, inWindow}
 use Rattle.window.specs.Promises.{WindowFits, clipped}
@@ -171,24 +173,6 @@ module _ (first n : ℕ) (bytes : List ℕ) where
 
 -- ---- a field that is cleared again
 
-zeroed-set : (k : ℕ) (f : List ℕ) (i v : ℕ) → i < k → zeroed k (set f i v) ≡ zeroed k f
-unfolding zeroed
-zeroed-set zero f i v h = absurd (omega arith)
-zeroed-set (suc k) [] i v h = refl
-zeroed-set (suc k) (x ∷ f) zero v h = refl
-zeroed-set (suc k) (x ∷ f) (suc i) v h = ap (λ (g : List ℕ). 0 ∷ g) (zeroed-set k f i v (omega arith))
-
-cleared-marked : (n : ℕ) (f rows : List ℕ) → Below n rows → cleared n (markAll f rows) ≡ cleared n f
-unfolding markAll mark
-cleared-marked n f [] b = refl
-cleared-marked n f (r ∷ rows) b = cleared-marked n (mark f r) rows (b .1) ∙ zeroed-set (size n) f (r / 8) _ (omega arith)
-
-zeroed-again : (k : ℕ) (f : List ℕ) → zeroed k (zeroed k f) ≡ zeroed k f
-unfolding zeroed
-zeroed-again zero f = refl
-zeroed-again (suc k) [] = refl
-zeroed-again (suc k) (x ∷ f) = ap (λ (g : List ℕ). 0 ∷ g) (zeroed-again k f)
-
 pub is-clear : (n : ℕ) (f : List ℕ) {clear : List ℕ} → clear ≡ cleared n f → IsClear n clear
 is-clear n f e = rw e (zeroed-again (size n) f)
 
@@ -198,7 +182,7 @@ module _ (first n : ℕ) (bytes before after : List ℕ) (all : Bool) (w : Marks
   unfolding markedIn andThen deletionsBy leftBy
   taken-back t clear e =
       let v = rw t at w in
-      let back = e ∙ ap (cleared n) (v .1 .2) ∙ cleared-marked n before (v .1 .0) (v .1 .1) ∙ clear in
+      let back = e ∙ ap (cleared n) (v .1 .2) ∙ cleared-marks n before (v .1 .0) (v .1 .1) ∙ clear in
       record { answer = rw (v .0); field = rw (v .0) back }
 
   pub all-marked : all ≡ true → {ones : ℕ} → ones ≡ count after n → MarksRows n (markedIn first n (rows64 bytes)) before after (Deleted ones)

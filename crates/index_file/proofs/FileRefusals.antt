@@ -5,52 +5,31 @@ use mathlib.Core.Path.{_≡_, refl}
 use mathlib.Core.Bool.{Bool, true, false, cond}
 use mathlib.Core.List.{List}
 use native.Mathlib.Omega.{arith}
-use lib.Dec.{leb}
-use lib.ListN.{length, drop}
-use Rattle.numbers.specs.Meaning.{Order, number, numberAt}
 use Rattle.refusal.specs.declared.Refusal.{Refusal}
 use Rattle.refusal.specs.declared.Refusal.the-variants.{Short, Magic, Version, Head, Literal}
 use Rattle.refusal.specs.Reading.{Out, refuse, ok, check}
 use Rattle.refusal.specs.Claims.{Bare, CarriesNothing}
 use Rattle.refusal.proofs.CarriesNothing.{bare}
+use Rattle.refusal.proofs.Only.{Only, check-only, number-only}
 use Rattle.index_file.specs.declared.Place.{Place}
 use Rattle.index_file.specs.declared.Place.the-variants.{Nowhere, At, Repeated}
 use Rattle.index_file.specs.Reading.{count, name, entries, columns, placed, head, file, withinLimits, find}
 
--- if it is a refusal, it has the property
-abbrev Only : (Refusal → Type 0) → {A : Type 0} → Out Refusal A → Type 0
-Only P (refuse r) = P r
-Only P (ok a) = Unit {0}
-
 module _ (P : Refusal → Type 0) (short : P Short) (magic : P Magic) (version : P Version) (of-head : P Head) where
   module _ {A : Type 0} where
-    check-only : (b : Bool) (r : Refusal) (o : Out Refusal A) → P r → Only P o → Only P (check b r o)
-    unfolding check
-    check-only true r o f g = g
-    check-only false r o f g = f
-
-    number-only : (o : Order) (w : ℕ) (r : Refusal) (s : List ℕ) (k : ℕ → List ℕ → Out Refusal A) → P r → ((v : ℕ) (t : List ℕ) → Only P (k v t))
-        → Only P (number o w (refuse r) s k)
-    unfolding number
-    number-only o w r s k f g = by (leb w (length s))
-      where
-        by : (b : Bool) → Only P (cond b (k (numberAt o w s 0) (drop w s)) (refuse r))
-        by true = g (numberAt o w s 0) (drop w s)
-        by false = f
-
     count-only : (s : List ℕ) (k : ℕ → List ℕ → Out Refusal A) → ((v : ℕ) (t : List ℕ) → Only P (k v t)) → Only P (count s k)
     unfolding count
-    count-only s k f = search (check-only, number-only, of-head)
+    count-only s k f = search (check-only P, number-only P, of-head)
 
     name-only : (s : List ℕ) (k : List ℕ → List ℕ → Out Refusal A) → ((n t : List ℕ) → Only P (k n t)) → Only P (name s k)
     unfolding name
-    name-only s k f = search (check-only, number-only, of-head)
+    name-only s k f = search (check-only P, number-only P, of-head)
 
     module _ (isKind : List ℕ → Bool) where
       entries-only : (m : ℕ) (p : Place) (s : List ℕ) (k : Place → List ℕ → Out Refusal A) → ((q : Place) (t : List ℕ) → Only P (k q t)) → Only P (entries isKind m p s k)
       unfolding entries
       entries-only zero p s k f = f p s
-      entries-only (suc m) p s k f = search (number-only, name-only, entries-only m, of-head)
+      entries-only (suc m) p s k f = search (number-only P, name-only, entries-only m, of-head)
 
       columns-only : (isColumn : List ℕ → Bool) (n : ℕ) (seen : Bool) (p : Place) (s : List ℕ) (k : Place → List ℕ → Out Refusal A)
           → ((q : Place) (t : List ℕ) → Only P (k q t)) → Only P (columns isColumn isKind n seen p s k)
@@ -61,16 +40,16 @@ module _ (P : Refusal → Type 0) (short : P Short) (magic : P Magic) (version :
   placed-only : (headLength fileLength : ℕ) (p : Place) → Only P (placed headLength fileLength p)
   unfolding placed
   placed-only headLength fileLength Nowhere = tt
-  placed-only headLength fileLength (At start size) = search (check-only, of-head)
+  placed-only headLength fileLength (At start size) = search (check-only P, of-head)
   placed-only headLength fileLength Repeated = of-head
 
   head-only : (isColumn isKind : List ℕ → Bool) (headLength fileLength : ℕ) (s : List ℕ) → Only P (head isColumn isKind headLength fileLength s)
   unfolding head
-  head-only isColumn isKind headLength fileLength s = search (check-only, count-only, columns-only, placed-only, of-head)
+  head-only isColumn isKind headLength fileLength s = search (check-only P, count-only, columns-only, placed-only, of-head)
 
   file-only : (isColumn isKind : List ℕ → Bool) (bytes : List ℕ) → Only P (file isColumn isKind bytes)
   unfolding file
-  file-only isColumn isKind bytes = search (check-only, number-only, count-only, head-only, short, magic, version, of-head) depth 12
+  file-only isColumn isKind bytes = search (check-only P, number-only P, count-only, head-only, short, magic, version, of-head) depth 12
 
 only-bare : {A : Type 0} (o : Out Refusal A) → Only Bare o → CarriesNothing o
 only-bare (refuse r) h = h

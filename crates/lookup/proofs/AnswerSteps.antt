@@ -20,7 +20,7 @@ use Rattle.bitmap_index.specs.declared.Placing.{Placing}
 use Rattle.bitmap_index.specs.declared.Placing.the-variants.{Placed}
 use Rattle.bitmap_index.specs.Reading.{firstNumber, entryNumber, placeAt, placeEntries, answeredBy}
 use Rattle.bitmap_index.specs.Promises.{Places, placeIn, PlacesNull}
-use Rattle.bitmap_index.proofs.Auditing.{zeroed-again}
+use Rattle.row_field.proofs.Counts.{zeroed-again}
 use Rattle.bitmap_index.proofs.PlacingEntries.{place-one}
 use Rattle.lookup.specs.declared.Found.{Found}
 use Rattle.lookup.specs.declared.Place.{Place}

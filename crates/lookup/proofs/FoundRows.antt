@@ -16,13 +16,12 @@ use Rattle.refusal.proofs.Laws.{not-ok, ok-same, then-ok}
 use Rattle.row_field.specs.Meaning.{size, bit, mark, markAll, count, cleared, Below}
 use Rattle.row_field.proofs.Laws.{tick, length-mark, bit-mark-same, bit-mark-other}
 use Rattle.row_field.proofs.Marks.{member-past, bit-markAll}
-use Rattle.row_field.proofs.Counts.{count-mark, none-counted, length-zeroed, bit-zeroed}
+use Rattle.row_field.proofs.Counts.{count-mark, none-counted, length-zeroed, zeroed-again, bit-zeroed}
+use Rattle.row_field.proofs.Fronts.{cleared-marks}
 use Rattle.stored_value.specs.Meaning.{null, value}
 use Rattle.dictionary.specs.Layout.{Entry, NullOnly, Patterns}
 use Rattle.bitmap_index.specs.Reading.{extentOf, entryNumber, firstNumber, placeEntries}
 use Rattle.bitmap_index.specs.Claims.{times, valuesIn}
-use Rattle.bitmap_index.proofs.Auditing.{zeroed-again}
-use Rattle.bitmap_index.proofs.PlacingRows.{cleared-marks}
 use Rattle.bitmap_index.proofs.EntryFaults as placed
 use Rattle.bitmap_index.proofs.EntryFaults.{Stopped, Steps, stopped, through, entries-step}
 use Rattle.bitmap_index.proofs.Faults.{times-within, extent-said}

@@ -227,6 +227,12 @@ length-zeroed zero f = refl
 length-zeroed (suc k) [] = refl
 length-zeroed (suc k) (x ∷ f) = ap suc (length-zeroed k f)
 
+pub zeroed-again : (k : ℕ) (f : List ℕ) → zeroed k (zeroed k f) ≡ zeroed k f
+unfolding zeroed
+zeroed-again zero f = refl
+zeroed-again (suc k) [] = refl
+zeroed-again (suc k) (x ∷ f) = ap (λ (t : List ℕ). 0 ∷ t) (zeroed-again k f)
+
 pub bytes-zeroed : (k : ℕ) (f : List ℕ) → Bytes f → Bytes (zeroed k f)
 unfolding zeroed
 bytes-zeroed zero f b i = b i

@@ -5,9 +5,9 @@ use mathlib.Core.Logic.{inl}
 use mathlib.Core.List.{List, [], _∷_, _++_}
 use native.Mathlib.Nat.{sub-zero}
 use native.Mathlib.Omega.{arith}
-use lib.ListN.{length, take, drop, replicate, length-replicate, List·getD-append}
+use lib.ListN.{length, take, drop, set, replicate, length-replicate, List·getD-append}
 use lib.Seq.{drop-set-lt}
-use Rattle.row_field.specs.Meaning.{size, bit, mark, markAll, anySet, fieldOf, cleared, Rising, Below, rowsFrom, count}
+use Rattle.row_field.specs.Meaning.{size, bit, mark, markAll, anySet, fieldOf, zeroed, cleared, Rising, Below, rowsFrom, count}
 use Rattle.row_field.proofs.RowLists.{below-more, rising-below, above-zero}
 use Rattle.row_field.proofs.Marks.{length-markAll, markAll-part, part-marked, part-set}
 use Rattle.row_field.proofs.Counts.{count-field, zeroed-front}
@@ -58,3 +58,21 @@ marked-count n field rs h s =
     let l = length-field n rs in
     rw (marked-field n field rs h (rising-below 0 n rs s))
     (ap length (rows-front (fieldOf n rs) (drop (size n) field) 0 n (omega arith)) ∙ count-field n rs s)
+
+-- ---- rows below n, marked in a field that is cleared afterwards
+
+zeroed-set : (k : ℕ) (f : List ℕ) (i v : ℕ) → i < k → zeroed k (set f i v) ≡ zeroed k f
+unfolding zeroed
+zeroed-set zero f i v h = absurd (omega arith)
+zeroed-set (suc k) [] i v h = refl
+zeroed-set (suc k) (x ∷ f) zero v h = refl
+zeroed-set (suc k) (x ∷ f) (suc i) v h = ap (λ (t : List ℕ). 0 ∷ t) (zeroed-set k f i v (omega arith))
+
+pub cleared-mark : (n : ℕ) (f : List ℕ) (r : ℕ) → r < n → cleared n (mark f r) ≡ cleared n f
+unfolding mark
+cleared-mark n f r h = zeroed-set (size n) f (r / 8) _ (omega arith)
+
+pub cleared-marks : (n : ℕ) (f rs : List ℕ) → Below n rs → cleared n (markAll f rs) ≡ cleared n f
+unfolding markAll
+cleared-marks n f [] b = refl
+cleared-marks n f (r ∷ rs) b = cleared-marks n (mark f r) rs (b .1) ∙ cleared-mark n f r (b .0)
