@@ -45,7 +45,7 @@ FindsNext at s (NextBin.Bin start end) =
     (nextBin (drop at s) ≡ ok (bin (binFrom (start .0) (end .0) s) (drop (end .0 + numberSize) s)))
     × (start .0 ≡ at + numberSize) × BinFits (start .0) (end .0) (length s)
 
--- the refusal of a reading, or where the bin stands that it reads
+-- the refusal of a reading, or where the bin stands that it reads. Of bins that are the same, bytes and checksum, the place of any will do
 abbrev pub BinAt : Out Refusal Bin → List ℕ → Place → Type 0
 BinAt o s (Refused r) = o ≡ refuse r
 BinAt o s (At start end) = (o ≡ ok (binFrom (start .0) (end .0) s)) × BinFits (start .0) (end .0) (length s)

@@ -141,7 +141,7 @@ fn mark_each(bytes: &[u8], first: Row, rows: u64, field: &mut [u8]) -> bool
 }
 
 // Marks the window's rows behind a 64-bit magic in a field for `rows` rows that is clear, and counts them.
-fn mark_bitmaps(bytes: &[u8], first: Row, rows: u64, field: &mut [u8]) -> Deletions
+fn mark_64(bytes: &[u8], first: Row, rows: u64, field: &mut [u8]) -> Deletions
     requires { ⌜ (first .0 + rows ≤ rowsEnd) × IsClear rows (now field) ⌝ }
     ensures { λ r. ⌜ MarksRows rows (markedIn (first .0) rows (rows64 (now (bytes .entry)))) (now (field .entry)) (now (field .exit)) r ⌝ }
 {
@@ -156,7 +156,7 @@ fn mark_bitmaps(bytes: &[u8], first: Row, rows: u64, field: &mut [u8]) -> Deleti
 }
 
 // The same for the one bitmap behind 01's magic, which fills the bytes. It has the rows of index 0.
-fn mark_bitmap(bytes: &[u8], first: Row, rows: u64, field: &mut [u8]) -> Deletions
+fn mark_32(bytes: &[u8], first: Row, rows: u64, field: &mut [u8]) -> Deletions
     requires { ⌜ first .0 + rows ≤ rowsEnd ⌝ }
     ensures { λ r. ⌜ MarksRows rows (markedIn (first .0) rows (rows32 (now (bytes .entry)))) (now (field .entry)) (now (field .exit)) r ⌝ }
 {
@@ -177,6 +177,7 @@ fn mark_bitmap(bytes: &[u8], first: Row, rows: u64, field: &mut [u8]) -> Deletio
     }
 }
 
+// What a bin is: the two magics differ in their first byte, so that no bin has both.
 fn kind_of(bin: &[u8]) -> Kind
     requires { ⌜ numberSize ≤ length (now bin) ⌝ }
     ensures { λ r. ⌜ r ≡ kindOf (now (bin .entry)) ⌝ }
@@ -190,6 +191,7 @@ fn kind_of(bin: &[u8]) -> Kind
     Kind::Unknown
 }
 
+// Whether a bin's magic is one of the two.
 fn known(kind: Kind) -> bool
     ensures { λ r. ⌜ r ≡ reading.known kind ⌝ }
 {
@@ -200,6 +202,7 @@ fn known(kind: Kind) -> bool
     }
 }
 
+// Marks the window's rows of what stands behind a magic of this kind, and counts them.
 fn mark_behind(kind: Kind, bytes: &[u8], first: Row, rows: u64, field: &mut [u8]) -> Deletions
     requires { ⌜ (first .0 + rows ≤ rowsEnd) × IsClear rows (now field) ⌝ }
     ensures { λ r.
@@ -207,8 +210,8 @@ fn mark_behind(kind: Kind, bytes: &[u8], first: Row, rows: u64, field: &mut [u8]
 {
     match kind {
         Kind::Unknown => Deletions::Refused(Refusal::Magic),
-        Kind::Bits32 => mark_bitmap(bytes, first, rows, field),
-        Kind::Bits64 => mark_bitmaps(bytes, first, rows, field),
+        Kind::Bits32 => mark_32(bytes, first, rows, field),
+        Kind::Bits64 => mark_64(bytes, first, rows, field),
     }
 }
 

@@ -10,12 +10,12 @@ returns c = marks-refused _ _ _ (behind-unknown _ (c .enum-told .given .1))
 returns-2 : tie.Need-returns-2
 returns-2 c =
     let marked = c .before .before in
-    marks-same _ _ _ _ (behind-32 _ (marked .before .before .enum-told2 .given .1)) (marked .mark-bitmap .ensures)
+    marks-same _ _ _ _ (behind-32 _ (marked .before .before .enum-told2 .given .1)) (marked .mark-32 .ensures)
 
 returns-3 : tie.Need-returns-3
 returns-3 c =
     let marked = c .before .before in
-    marks-same _ _ _ _ (behind-64 _ (marked .before .before .enum-told3 .given .1)) (marked .mark-bitmaps .ensures)
+    marks-same _ _ _ _ (behind-64 _ (marked .before .before .enum-told3 .given .1)) (marked .mark-64 .ensures)
 
 pub mark-behind-spec : {M : Type 1} → statement M
 mark-behind-spec =

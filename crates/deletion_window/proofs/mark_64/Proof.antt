@@ -1,9 +1,9 @@
--- `mark_bitmaps` meets its contract: what was marked before a fault is taken away again.
+-- `mark_64` meets its contract: what was marked before a fault is taken away again.
 use borrow.Author.Needs.{needs}
 use borrow.Author.Tests.{not-true, not-false}
 use Rattle.deletion_window.proofs.Marking.{taken-back, all-marked}
-use Rattle.deletion_window.proofs.mark_bitmaps.Statement.{statement}
-use Rattle.deletion_window.proofs.mark_bitmaps.Tie as tie
+use Rattle.deletion_window.proofs.mark_64.Statement.{statement}
+use Rattle.deletion_window.proofs.mark_64.Tie as tie
 
 returns : tie.Need-returns
 returns c =
@@ -20,8 +20,8 @@ returns-2 c =
     let a = each .before .before .before .before .args in
     all-marked (a .first .0) (a .rows) (a .bytes .now) (a .field .now) _ (each .mark-each .result) (each .mark-each .ensures) (not-false _ (test .if1 .left)) (c .count .ensures)
 
-pub mark-bitmaps-spec : {M : Type 1} → statement M
-mark-bitmaps-spec =
+pub mark-64-spec : {M : Type 1} → statement M
+mark-64-spec =
     tie.close
     (tie.spec
     (λ c κs. search needs) (λ c κs. search needs) (λ c. search needs) returns (λ c κs. search needs) (λ c. search needs) returns-2)
