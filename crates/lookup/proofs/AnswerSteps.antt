@@ -2,7 +2,7 @@
 use Prim.Native.Nat.{ℕ, _≤_}
 use mathlib.Core.Path.{_≡_, refl, sym, _∙_}
 use mathlib.Core.Bool.{true, false}
-use mathlib.Core.List.{List}
+use mathlib.Core.List.{List, []}
 use native.Mathlib.Nat.{add-zero}
 use native.Mathlib.Omega.{arith}
 use lib.ListN.{length, drop}
@@ -10,6 +10,7 @@ use mir.Syntax.{w32}
 use mir.Val.{toZ}
 use Rattle.refusal.specs.declared.Refusal.{Refusal}
 use Rattle.refusal.specs.Reading.{Out, refuse, ok, andThen}
+use Rattle.refusal.proofs.Laws.{ok-same}
 use Rattle.row_field.specs.Meaning.{size, count, cleared}
 use Rattle.row_field.proofs.Counts.{none-counted, length-zeroed, bit-zeroed}
 use Rattle.stored_value.specs.Meaning.{value}
@@ -120,6 +121,14 @@ module _ (s : List ℕ) (p : Place) (before : List ℕ) {zero : List ℕ} (z : z
             compared = rw (q, looked v f w, i, o);
             buffer = b ∙ d v .behind ∙ y ∙ rw (looked v f w, i, o) (sym (rest v f w));
           }
+
+      -- without an entry the field is as clear as it was
+      pub found-nothing : size n ≤ length before → p .found .hit ≡ false → {j : ℕ} → r′ ≡ Placed j → count last n ≡ 0
+      unfolding placeEntries
+      found-nothing room h g =
+          let o : ok after ≡ ok last = (rw (h, g) at (d [])) .outcome .0 in
+          let y = cleared-clear n before z room in
+          rw (← ok-same after last o, c .kept) (none-set n zero (y .0) (y .1))
 
       pub found-answers : {j : ℕ} → r′ ≡ Placed j → {m : ℕ} → m ≡ count last n → {x : LookedUp} → x ≡ answeredWith n k m (p .compared) → AnswersIn s p before last x
       unfolding andThen

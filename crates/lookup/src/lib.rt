@@ -6,7 +6,8 @@ ghost use Prim.Native.Nat.{ℕ, _≤_, _<_};
 ghost use lib.ListN.{length};
 ghost use Rattle.numbers.specs.Meaning.{fourBytes};
 ghost use Rattle.refusal.specs.Meaning.{limit};
-ghost use Rattle.row_field.specs.Meaning.{size, cleared};
+ghost use Rattle.row_field.specs.Meaning.{size, count, cleared};
+ghost use mathlib.Core.Bool.{false};
 ghost use Rattle.stored_value.specs.Meaning.{less};
 ghost use Rattle.lookup.specs.Promises.{LookUpPromise, ListedAt, EndIs, BaseIs, HalvedIs, SearchedFrom, SearchedAt, BlockAt, SoughtIs};
 ghost use Rattle.lookup.specs.Promises.{CountsNull, PlacesFound, refusedBy, answeredWith, AnswersIn};
@@ -367,6 +368,17 @@ fn place_found(field: &mut [u8], body: &[u8], summary: Summary, found: Found) ->
     )
 }
 
+// How many rows match. Where no entry was found the field is clear, and no pass over it is made.
+fn matched_rows(field: &[u8], rows: u64, hit: bool) -> u64
+    requires { ⌜ (hit ≡ false → count (now field) rows ≡ 0) ⌝ }
+    ensures { λ r. ⌜ r ≡ count (now (field .entry)) rows ⌝ }
+{
+    if !hit {
+        return 0;
+    }
+    row_field::count(field, rows)
+}
+
 // A refusal has compared nothing.
 fn refused(r: Refusal) -> LookedUp
     ensures { λ a. ⌜ a ≡ refusedBy r ⌝ }
@@ -416,7 +428,7 @@ fn answer_in(field: &mut [u8], body: &[u8], place: Place) -> LookedUp
                 return refused(r);
             }
             Placing::Placed(_) => {
-                let matched = row_field::count(field, rows);
+                let matched = matched_rows(field, rows, place.found.hit);
                 return answered(rows, nulls, matched, place.compared);
             }
         },
