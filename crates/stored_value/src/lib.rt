@@ -22,7 +22,7 @@ pub const TYPES: u32 = 12;
 // Document 01, "Limits": how many literals there may be.
 pub const MOST_LITERALS: u64 = 1_024;
 
-// A string's length is four bytes, two halves of this many. Its limit, 65,535 bytes (01, "Limits"), is what the lower half holds.
+// A string's length is four bytes, two halves of this many. Its limit, 65,535 bytes (01, "Limits"), is the most that the lower half holds.
 const HALF_LENGTH: usize = 2;
 
 // The least upper half whose top bit is set, the length's sign.
