@@ -3,7 +3,7 @@ use Prim.Native.Nat.{ℕ, zero, suc, _+_, _-_, _*_, _/_, _%_, _^_, _<_, _≤_}
 use mathlib.Core.Path.{_≡_, refl, sym, ap, _∙_, subst}
 use mathlib.Core.Bool.{Bool, true, false, cond}
 use mathlib.Core.List.{List, [], _∷_, _++_, append-assoc}
-use native.Mathlib.Nat.{pow-suc, mul-le-mul-left, mul-assoc, mul-comm, zero-add}
+use native.Mathlib.Nat.{pow-suc, mul-le-mul-left, mul-assoc, mul-comm, zero-add, add-zero, add-suc}
 use native.Mathlib.Omega.{arith}
 use lib.Dec.{T, leb, leb→le}
 use lib.ListN.{length, getD, drop, length-append, length-drop}
@@ -46,6 +46,14 @@ le-drop (suc w) s p = simp (le-drop w s p, zero-add, getD-drop)
 pub numberAt-drop : (o : Order) (w : ℕ) (s : List ℕ) (p : ℕ) → numberAt o w (drop p s) 0 ≡ numberAt o w s p
 numberAt-drop big w s p = be-drop w s p
 numberAt-drop little w s p = le-drop w s p
+
+-- ---- a big-endian number, by its upper v bytes and its lower w
+
+pub beAt-split : (v w : ℕ) (s : List ℕ) (p : ℕ) → beAt (v + w) s p ≡ beAt v s p * 256 ^ w + beAt w s (p + v)
+beAt-split v zero s p = rw (add-zero v) (omega arith)
+beAt-split v (suc w) s p =
+    let e : p + (v + w) ≡ p + v + w = omega arith in
+    rw (add-suc v w, pow-suc, beAt-split v w s p, e) (omega arith)
 
 -- ---- the bytes that spell a number are read as it
 

@@ -78,7 +78,7 @@ unfolding same
 same-front [] s t = refl
 same-front (y ∷ x) s t = rw (eqb-same y) (same-front x s t)
 
-word-back : (w i : ℕ) (s : List ℕ) → Bytes s → i + w ≤ length s → drop i s ≡ le w (leAt w s i) ++ drop (i + w) s
+pub word-back : (w i : ℕ) (s : List ℕ) → Bytes s → i + w ≤ length s → drop i s ≡ le w (leAt w s i) ++ drop (i + w) s
 word-back w i s h l =
     let g : w ≤ length (drop i s) = simp length-drop (omega arith) in
     let e = numberAt-back little w (drop i s) (bytes-drop i s h) g in

@@ -1,6 +1,6 @@
 -- What the code's answers and the turns of its loops see of the definitions.
-use Prim.Native.Nat.{ℕ, suc, _+_, _-_, _<_, _≤_}
-use mathlib.Core.Path.{_≡_, ap, sym, _∙_}
+use Prim.Native.Nat.{ℕ, suc, _+_, _-_, _*_, _<_, _≤_}
+use mathlib.Core.Path.{_≡_, refl, ap, sym, _∙_}
 use mathlib.Core.Bool.{Bool, true, false, _&&_, _||_, or-false}
 use mathlib.Core.List.{List, [], _∷_, _++_}
 use mathlib.Core.Logic.{_⊎_, ⊎-elim}
@@ -17,8 +17,9 @@ use mir.Facts.{toZ-ofZ}
 use lib.ListN.{length, getD, take, drop, length-drop, drop-of-length-le}
 use lib.Seq.{drop-cons, drop-drop, getD-drop}
 use borrow.Author.Tests.{eq-eqb, ne-eqb, le-leb, lt-leb, lt-ltb, le-ltb, ltb-true}
-use Rattle.numbers.specs.Meaning.{beAt, big, signBit}
-use Rattle.numbers.proofs.Laws.{number-at, number-short}
+use Rattle.numbers.specs.Meaning.{Bytes, beAt, leAt, le, big, signBit, twoBytes}
+use Rattle.numbers.proofs.Laws.{beAt-lt, beAt-split, number-at, number-short}
+use Rattle.numbers.proofs.SameBytes.{word-back}
 use Rattle.refusal.specs.declared.Refusal.{Refusal}
 use Rattle.refusal.specs.declared.Refusal.the-variants.{Literal, Limit}
 use Rattle.stored_value.specs.declared.Sized.{Sized}
@@ -60,6 +61,17 @@ module _ (a b : List ℕ) (i : ℕ) where
     pub less-next : getD a i 0 ≡ getD b i 0 → bytesLess (drop i a) (drop i b) ≡ bytesLess (drop (i + 1) a) (drop (i + 1) b)
     less-next e = less-step ∙ rw (le-ltb (getD a i 0) (getD b i 0) (omega arith), eq-eqb (getD a i 0) (getD b i 0) e)
 
+less-same : (x s t : List ℕ) → bytesLess (x ++ s) (x ++ t) ≡ bytesLess s t
+unfolding bytesLess
+less-same [] s t = refl
+less-same (y ∷ x) s t = rw (le-ltb y y (omega arith), eq-eqb y y refl) (less-same x s t)
+
+-- w bytes that are the same in both
+pub less-word : (w : ℕ) (a b : List ℕ) → Bytes a → Bytes b → (i : ℕ) → i + w ≤ length a → i + w ≤ length b → leAt w a i ≡ leAt w b i
+    → bytesLess (drop i a) (drop i b) ≡ bytesLess (drop (i + w) a) (drop (i + w) b)
+less-word w a b p q i h g e =
+    rw (word-back w i a p h, word-back w i b q g, e) (less-same (le w (leAt w b i)) (drop (i + w) a) (drop (i + w) b))
+
 -- ---- `less`, by the width w that the code found
 
 pub less-unknown : (t : ℕ) (a b : List ℕ) → types ≤ t → false ≡ less t a b
@@ -76,6 +88,51 @@ module _ (t : ℕ) (a b : List ℕ) (k : t < types) (w : ℕ) (e : w ≡ width t
   unfolding less isString
   less-number n x y f g = rw (lt-ltb t types k, toZ-ofZ (f .1), toZ-ofZ (g .1), ← e, ne-eqb w 0 n, ← f .0, ← g .0)
 
+-- ---- `string_size`: what each answer goes by, said of the two halves of the length at p
+
+-- from here on the upper half has the length's sign
+abbrev halfSign : ℕ
+halfSign = 32768
+
+module _ (short broken : Refusal) (s : List ℕ) (p : ℕ) where
+  halves : beAt 4 s p ≡ beAt 2 s p * twoBytes + beAt 2 s (p + 2)
+  halves = beAt-split 2 2 s p
+
+  pub string-negative : halfSign ≤ beAt 2 s p → stringSize short broken (beAt 4 s p) (drop (p + 4) s) ≡ refuse broken
+  unfolding check
+  string-negative g = let l : signBit ≤ beAt 4 s p = omega (arith, halves) in rw (le-ltb (beAt 4 s p) signBit l)
+
+  module _ (d : Bytes s) where
+    lower-lt : beAt 2 s (p + 2) < twoBytes
+    lower-lt = beAt-lt 2 s (p + 2) d
+
+    pub string-over : 0 < beAt 2 s p → beAt 2 s p < halfSign → stringSize short broken (beAt 4 s p) (drop (p + 4) s) ≡ refuse Limit
+    unfolding check
+    string-over o g =
+        let l : beAt 4 s p < signBit = omega (arith, halves, lower-lt) in
+        let h : longestString < beAt 4 s p = omega (arith, halves) in
+        rw (lt-ltb (beAt 4 s p) signBit l, lt-leb (beAt 4 s p) longestString h)
+
+    module _ (z : beAt 2 s p ≡ 0) where
+      lower : beAt 4 s p ≡ beAt 2 s (p + 2)
+      lower = omega (arith, halves)
+
+      by-bytes : stringSize short broken (beAt 4 s p) (drop (p + 4) s) ≡ check (leb (beAt 2 s (p + 2)) (length s - (p + 4))) short (ok (4 + beAt 2 s (p + 2)))
+      unfolding check
+      by-bytes =
+          let l : beAt 2 s (p + 2) < signBit = omega (arith, lower-lt) in
+          let h : beAt 2 s (p + 2) ≤ longestString = omega (arith, lower-lt) in
+          rw (lower, lt-ltb (beAt 2 s (p + 2)) signBit l, le-leb (beAt 2 s (p + 2)) longestString h, length-drop (p + 4) s)
+
+      pub string-cut : length s - (p + 4) < beAt 2 s (p + 2) → stringSize short broken (beAt 4 s p) (drop (p + 4) s) ≡ refuse short
+      unfolding check
+      string-cut l = by-bytes ∙ rw (lt-leb (beAt 2 s (p + 2)) (length s - (p + 4)) l)
+
+      pub string-whole : beAt 2 s (p + 2) ≤ length s - (p + 4)
+          → stringSize short broken (beAt 4 s p) (drop (p + 4) s) ≡ ok (4 + beAt 2 s (p + 2))
+      unfolding check
+      string-whole l = by-bytes ∙ rw (le-leb (beAt 2 s (p + 2)) (length s - (p + 4)) l)
+
 -- ---- `size`: what each answer goes by, said of the value at p
 
 module _ (short broken : Refusal) (t : ℕ) (s : List ℕ) (p : ℕ) (k : t < types) where
@@ -87,32 +144,8 @@ module _ (short broken : Refusal) (t : ℕ) (s : List ℕ) (p : ℕ) (k : t < ty
     pub string-short : length s - p < 4 → valueSize short broken t (drop p s) ≡ refuse short
     string-short h = size-string short broken t (drop p s) k is-string ∙ number-short big 4 (refuse short) s p (stringSize short broken) h
 
-    module _ (h : p + 4 ≤ length s) where
-      by-length : valueSize short broken t (drop p s) ≡ stringSize short broken (beAt 4 s p) (drop (p + 4) s)
-      by-length = size-string short broken t (drop p s) k is-string ∙ number-at big 4 (refuse short) s p (stringSize short broken) h
-
-      pub string-negative : signBit ≤ beAt 4 s p → valueSize short broken t (drop p s) ≡ refuse broken
-      unfolding check
-      string-negative g = by-length ∙ rw (le-ltb (beAt 4 s p) signBit g)
-
-      pub string-over : beAt 4 s p < signBit → longestString < beAt 4 s p → valueSize short broken t (drop p s) ≡ refuse Limit
-      unfolding check
-      string-over g o = by-length ∙ rw (lt-ltb (beAt 4 s p) signBit g, lt-leb (beAt 4 s p) longestString o)
-
-      module _ (o : beAt 4 s p ≤ longestString) where
-        by-bytes : valueSize short broken t (drop p s) ≡ check (leb (beAt 4 s p) (length s - (p + 4))) short (ok (4 + beAt 4 s p))
-        unfolding check
-        by-bytes =
-            let g : beAt 4 s p < signBit = omega arith in
-            by-length ∙ rw (lt-ltb (beAt 4 s p) signBit g, le-leb (beAt 4 s p) longestString o, length-drop (p + 4) s)
-
-        pub string-cut : length s - (p + 4) < beAt 4 s p → valueSize short broken t (drop p s) ≡ refuse short
-        unfolding check
-        string-cut b = by-bytes ∙ rw (lt-leb (beAt 4 s p) (length s - (p + 4)) b)
-
-        pub string-whole : beAt 4 s p ≤ length s - (p + 4) → valueSize short broken t (drop p s) ≡ ok (4 + beAt 4 s p)
-        unfolding check
-        string-whole b = by-bytes ∙ rw (le-leb (beAt 4 s p) (length s - (p + 4)) b)
+    pub by-length : p + 4 ≤ length s → valueSize short broken t (drop p s) ≡ stringSize short broken (beAt 4 s p) (drop (p + 4) s)
+    by-length h = size-string short broken t (drop p s) k is-string ∙ number-at big 4 (refuse short) s p (stringSize short broken) h
 
   module _ (w : 0 < width t) where
     is-number : isString t ≡ false

@@ -5,13 +5,13 @@ ghost use mathlib.Core.Logic.{_⊎_};
 ghost use Rattle.numbers.specs.Meaning.{beAt};
 ghost use mathlib.Core.Bool.{cond};
 ghost use mathlib.Core.List.{[]};
-ghost use lib.ListN.{getD, drop};
+ghost use lib.ListN.{length, getD, drop};
 ghost use mir.Syntax.{w64};
 ghost use mir.Val.{SFits};
 ghost use Rattle.stored_value.specs.Meaning.{width, signedNumber, bytesLess, mostLiterals};
 ghost use Rattle.stored_value.specs.Meaning as meaning;
 ghost use Rattle.stored_value.specs.Promises.{SizePromise, Stands, Takes, CountPromise, Enterable, Enters};
-ghost use Rattle.stored_value.specs.Reading.{valueSize};
+ghost use Rattle.stored_value.specs.Reading.{stringSize, valueSize};
 ghost use Rattle.stored_value.specs.Reading as reading;
 use numbers::Position;
 use refusal::Refusal;
@@ -19,10 +19,14 @@ use refusal::Refusal;
 // From here on a type is unknown.
 pub const TYPES: u32 = 12;
 
-// Document 01, "Limits": a stored string, in bytes, and how many literals there may be.
-const LONGEST_STRING: u64 = 65_535;
-
+// Document 01, "Limits": how many literals there may be.
 pub const MOST_LITERALS: u64 = 1_024;
+
+// A string's length is four bytes, two halves of this many. Its limit, 65,535 bytes (01, "Limits"), is the most that the lower half holds.
+const HALF_LENGTH: usize = 2;
+
+// The least upper half whose top bit is set, the length's sign.
+const HALF_SIGN: u64 = 32_768;
 
 // 01's table of widths over its twelve types, in its order; 0 stands for a string: a 4-byte length and the bytes. Stored values and literals go by it.
 const WIDTHS: [u8; 12] = [1, 1, 2, 4, 4, 4, 8, 8, 8, 0, 0, 0];
@@ -39,6 +43,9 @@ const LASTS: [u64; 9] = [
     72_057_594_037_927_935,
     18_446_744_073_709_551_615,
 ];
+
+// The bytes of strings that are compared at once.
+const WORD: usize = 8;
 
 // How many bytes a value takes, or why it is none.
 pub enum Sized {
@@ -68,7 +75,28 @@ fn width_of(t: u32) -> usize
     0
 }
 
-// The size of the value at `at`. An unknown type is LITERAL. A string's length is tested before its bytes.
+// The size of the string at `at`: its length is tested before its bytes. In a string that is accepted the upper half is 0, so where the next value begins
+// waits for the lower half alone.
+fn string_size(s: &[u8], at: Position, short: Refusal, broken: Refusal) -> Sized
+    requires { ⌜ at .0 + 4 ≤ length (now s) ⌝ }
+    ensures { λ r. ⌜ SizePromise (stringSize short broken (beAt 4 (now (s .entry)) (at .0)) (drop (at .0 + 4) (now (s .entry)))) r ⌝ }
+{
+    let p = at.0;
+    let high = numbers::be16(s, at);
+    if 0 < high {
+        if HALF_SIGN <= high {
+            return Sized::Refused(broken);
+        }
+        return Sized::Refused(Refusal::Limit);
+    }
+    let n = numbers::be16(s, Position(p + HALF_LENGTH));
+    if ((s.len() - p - 4) as u64) < n {
+        return Sized::Refused(short);
+    }
+    Sized::Bytes(4 + n as usize)
+}
+
+// The size of the value at `at`. An unknown type is LITERAL.
 pub fn size(s: &[u8], at: Position, t: u32, short: Refusal, broken: Refusal) -> Sized
     ensures { λ r. ⌜ SizePromise (valueSize short broken t (drop (at .0) (now (s .entry)))) r ⌝ }
 {
@@ -85,17 +113,7 @@ pub fn size(s: &[u8], at: Position, t: u32, short: Refusal, broken: Refusal) -> 
         if left < 4 {
             return Sized::Refused(short);
         }
-        let n = numbers::be32(s, at);
-        if numbers::SIGN_BIT <= n {
-            return Sized::Refused(broken);
-        }
-        if LONGEST_STRING < n {
-            return Sized::Refused(Refusal::Limit);
-        }
-        if ((left - 4) as u64) < n {
-            return Sized::Refused(short);
-        }
-        return Sized::Bytes(4 + n as usize);
+        return string_size(s, at, short, broken);
     }
     if left < w {
         return Sized::Refused(short);
@@ -196,12 +214,31 @@ fn least(x: usize, y: usize) -> usize
     y
 }
 
+// How far a and b are the same from a position on, in whole words: from there on they compare as from that position on.
+fn same_front(a: &[u8], b: &[u8], from: Position) -> usize
+    ensures { λ r. ⌜ bytesLess (drop r (now (a .entry))) (drop r (now (b .entry))) ≡ bytesLess (drop (from .0) (now (a .entry))) (drop (from .0) (now (b .entry))) ⌝ }
+{
+    let end = least(a.len(), b.len());
+    let mut i = from.0;
+    if end < WORD {
+        return i;
+    }
+    let last = end - WORD;
+    while i <= last {
+        if numbers::le64(a, Position(i)) != numbers::le64(b, Position(i)) {
+            return i;
+        }
+        i += WORD;
+    }
+    i
+}
+
 // Whether a comes before b from a position on: by unsigned bytes, a prefix first.
 fn bytes_less(a: &[u8], b: &[u8], from: Position) -> bool
     ensures { λ r. ⌜ r ≡ bytesLess (drop (from .0) (now (a .entry))) (drop (from .0) (now (b .entry))) ⌝ }
 {
     let end = least(a.len(), b.len());
-    let mut i = from.0;
+    let mut i = same_front(a, b, from);
     while i < end {
         if a[i] != b[i] {
             return a[i] < b[i];
