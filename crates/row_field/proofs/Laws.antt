@@ -2,7 +2,7 @@
 use Prim.Native.Nat.{ℕ, zero, suc, _+_, _-_, _*_, _/_, _%_, _^_, _<_, _≤_, max}
 use mathlib.Core.Path.{_≡_, refl, sym, ap, _∙_, subst}
 use mathlib.Core.Logic.{_≢_}
-use mathlib.Core.Bool.{Bool, true, false, not}
+use mathlib.Core.Bool.{Bool, true, false, not, _||_}
 use mathlib.Core.List.{List}
 use native.Mathlib.Nat.{pow-suc, div-eq-of-lt, mul-mod-left, div-self, zero-mul, one-mul, mod-eq-of-lt, zero-div}
 use native.Mathlib.Decide.{decLt, ℕ-discrete}
@@ -12,7 +12,7 @@ use lib.Dec.{eqb}
 use lib.ListN.{length, getD, set, replicate, length-set, List·getD-eq-default}
 use lib.Seq.{ext-getD, getD-set-same, getD-set-other, set-out}
 use lib.Pow.{pow-pos, pow-lt, pow-add, shl-shr, shr-shr}
-use lib.Bits.{bitOr, bitAnd, or-shr, or-step, or-lt, and-high}
+use lib.Bits.{bitOr, bitAnd, or-shr, or-step, or-lt, or-add-and, and-high, and-le-r}
 use borrow.Author.Tests.{ne-eqb}
 use Rattle.numbers.specs.Meaning.{Bytes}
 use Rattle.numbers.proofs.ByteLists.{bytes-set}
@@ -104,6 +104,11 @@ mark-answer s r = rw (weight r) (and-test (getD s (r / 8) 0) (r % 8))
 pub mark-store : (s : List ℕ) (r : ℕ) → set s (r / 8) (bitOr (getD s (r / 8) 0) (1 * 2 ^ (r % 8) % 256)) ≡ mark s r
 unfolding mark
 mark-store s r = rw (weight r)
+
+-- of answers that are gathered by `or` one is not 0 exactly if what they come to is not
+pub or-some : (a b : ℕ) → not (eqb (bitOr a b) 0) ≡ not (eqb a 0) || not (eqb b 0)
+or-some zero b = refl
+or-some (suc a) b = rw (ne-eqb (bitOr (suc a) b) 0 (omega (arith, or-add-and (suc a) b, and-le-r (suc a) b)), ne-eqb (suc a) 0 (omega arith))
 
 -- ---- a row by its byte and its bit
 

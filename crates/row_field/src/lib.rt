@@ -1,8 +1,8 @@
 // Row fields (document 01): a field for n rows is the first ceil(n/8) bytes of a lent buffer, row r the bit of weight 2^(r mod 8) in byte r/8.
 ghost use mathlib.Core.Path.{_≡_};
-ghost use Prim.Native.Nat.{ℕ, _+_, _-_, _*_, _%_, _^_, _<_, _≤_, min};
-ghost use mathlib.Core.Bool.{true};
-ghost use lib.Dec.{leb};
+ghost use Prim.Native.Nat.{ℕ, _+_, _-_, _*_, _/_, _%_, _^_, _<_, _≤_, min};
+ghost use mathlib.Core.Bool.{true, not};
+ghost use lib.Dec.{leb, eqb};
 ghost use lib.ListN.{length};
 ghost use Rattle.row_field.specs.Meaning.{size, bit, cleared, upTo, rowsOf, firstClear};
 ghost use Rattle.row_field.specs.Meaning as meaning;
@@ -68,16 +68,24 @@ pub fn test(field: &[u8], row: Row) -> bool
     bit_at(field, row.0)
 }
 
+// Sets a row whose byte is there, and answers its weight if it was set already, else 0: what many calls answer is gathered by `|`, without a test of each.
+pub fn mark_within(field: &mut [u8], row: Row) -> u8
+    requires { ⌜ row .0 / 8 < length (now field) ⌝ }
+    ensures { λ r. ⌜ (not (eqb r 0) ≡ bit (now (field .entry)) (row .0)) × (now (field .exit) ≡ meaning.mark (now (field .entry)) (row .0)) ⌝ }
+{
+    let at = (row.0 / 8) as usize;
+    let weight = 1u8 << (row.0 % 8);
+    let old = field[at];
+    field[at] = old | weight;
+    old & weight
+}
+
 // Sets a row, and answers whether it was set already. A row past the end is not, and stays so.
 pub fn mark(field: &mut [u8], row: Row) -> bool
     ensures { λ r. ⌜ (r ≡ bit (now (field .entry)) (row .0)) × (now (field .exit) ≡ meaning.mark (now (field .entry)) (row .0)) ⌝ }
 {
-    let at = (row.0 / 8) as usize;
-    let weight = 1u8 << (row.0 % 8);
-    if at < field.len() {
-        let old = field[at];
-        field[at] = old | weight;
-        return old & weight != 0;
+    if row.0 / 8 < field.len() as u64 {
+        return mark_within(field, row) != 0;
     }
     false
 }
