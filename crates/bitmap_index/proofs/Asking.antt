@@ -1,7 +1,6 @@
 -- Ask, stage by stage: the question, the audit, then the rows of the chosen entries and their count.
 use Prim.Native.Nat.{ℕ, zero, suc, _<_, _≤_}
 use mathlib.Core.Path.{_≡_, refl, sym, ap, _∙_}
-use mathlib.Core.Logic.{_⊎_, ⊎-elim}
 use mathlib.Core.Bool.{Bool, true, false, cond}
 use mathlib.Core.List.{List, []}
 use native.Mathlib.Omega.{arith}
@@ -15,7 +14,7 @@ use Rattle.refusal.specs.Reading.{Out, refuse, ok, check, andThen, numbersOf, f
 use Rattle.row_field.specs.Meaning.{cleared, count, size}
 use Rattle.subtract.specs.declared.Record.{Record}
 use Rattle.subtract.specs.Meaning.{recordNumbers, noRecord, keeps}
-use Rattle.hash_table.specs.Promises.{slot}
+use Rattle.hash_table.specs.Promises.{chains, slot}
 use Rattle.hash_table.proofs.Chaining.{holds-none}
 use Rattle.stored_value.specs.declared.Counted.{Counted}
 use Rattle.stored_value.specs.declared.Counted.the-variants.{Count}
@@ -28,7 +27,7 @@ use Rattle.dictionary.specs.declared.Checked.the-variants.{Found}
 use Rattle.dictionary.specs.declared.Summary.{Summary}
 use Rattle.dictionary.specs.Reading.{Dictionary}
 use Rattle.bitmap_index.specs.declared.Question.{Question}
-use Rattle.bitmap_index.specs.Meaning.{isIn, notIn, isNull, questions, firstEdition, secondEdition, knownEdition, takes, nullQuestion}
+use Rattle.bitmap_index.specs.Meaning.{isIn, isNull, questions, firstEdition, secondEdition, knownEdition, takes, nullQuestion}
 use Rattle.bitmap_index.specs.Reading.{prepared, audited, zeroedFrom, chosenOf, markEntries, markedFor, matchedFor, Answer, answered, auditedAnswer, wellFormed, ask, answerBuffer, askBuffer, answeredBy, askOut, askNumbers, askFault}
 use Rattle.bitmap_index.specs.declared.BitmapsAudited.{BitmapsAudited}
 use Rattle.bitmap_index.specs.declared.BitmapsAudited.the-variants.{Nulls}
@@ -131,20 +130,21 @@ module _ (t : ℕ) (q : Question) (s body : List ℕ) where
 -- ---- the literals as the code looks them up
 
 module _ (t : ℕ) (q : Question) (s body table : List ℕ) (ls : List (List ℕ)) (w : wellFormed t q s body ≡ ok ls) where
-  -- EQUAL and NOT EQUAL have one literal, which is the whole buffer; IS NULL and IS NOT NULL have none
-  pub no-table : (q .name < isIn) ⊎ (notIn < q .name) → Lookup q s table ls
+  -- EQUAL and NOT EQUAL have one literal, which is the whole buffer
+  with-table : (chains ≤ length table → Enters t s table) → Lookup t q s table ls
   unfolding takes
-  no-table h =
+  with-table e =
       let (short, short-literals, known, edition, name, is, fits) = asked-back t q s body ls w in
       record {
         one = λ l v. listed-alone t v s ls is (eqb-true (length ls) 1 (rw (lt-ltb (q .name) isIn l) at fits));
-        many = λ k l. absurd (⊎-elim (λ i. omega arith) (λ i. omega arith) h);
+        many = record { accepted = is; held = λ h. e h ls is };
       }
 
-  pub in-table : isIn ≤ q .name → Enters t s table → Lookup q s table ls
-  in-table h e =
-      let (short, short-literals, known, edition, name, is, fits) = asked-back t q s body ls w in
-      record { one = λ l. absurd (omega arith); many = λ k l. e ls is }
+  pub no-table : length table < chains → Lookup t q s table ls
+  no-table l = with-table (λ h. absurd (omega arith))
+
+  pub in-table : Enters t s table → Lookup t q s table ls
+  in-table e = with-table (λ h. e)
 
 -- the question's literals are accepted, and a table of zeros holds nothing
 pub may-enter : (t : ℕ) (q : Question) (s body : List ℕ) → Asked t q s body → Enterable t s (replicate (slot mostLiterals) 0)

@@ -133,7 +133,7 @@ null-inside t body h w =
 -- ---- the values' entries in turn: what is left of the chosen ones, marked in the field as it is, gives the whole
 
 pub record Marks (t : ℕ) (s : List ℕ) (h : Summary) (q : Question) (literal table before f : List ℕ) (c : Cursor) (i : ℕ) : Type 0 where
-  pub walk : Walk t s h (λ es rest. All (SoundEntry s h) rest × ForLookup q literal table (λ ls.
+  pub walk : Walk t s h (λ es rest. All (SoundEntry s h) rest × ForLookup t q literal table (λ ls.
       markEntries (drop (h .region .0) s) (chosenOf q ls rest) f ≡ markEntries (drop (h .region .0) s) (chosenOf q ls es) before)) c i
 
 pub marks-first : (t : ℕ) (s : List ℕ) (h : Summary) (q : Question) (literal table f : List ℕ) → AllSound t s h → Marks t s h q literal table f f (h .first) 0
@@ -142,7 +142,7 @@ marks-first t s h q literal table f w =
 
 module _ {t : ℕ} {s : List ℕ} {h : Summary} {q : Question} {literal table before f : List ℕ} {c : Cursor} {i : ℕ}
     (g : Marks t s h q literal table before f c i) where
-  pub marks-done : h .values ≤ i → ForEntries t s h (λ es. ForLookup q literal table (λ ls. MarksChosen s h q ls es before f))
+  pub marks-done : h .values ≤ i → ForEntries t s h (λ es. ForLookup t q literal table (λ ls. MarksChosen s h q ls es before f))
   unfolding chosenOf markEntries
   marks-done l es d ls k = at-end (g .walk) l es d .1 ls k
 
@@ -153,7 +153,7 @@ module _ {t : ℕ} {s : List ℕ} {h : Summary} {q : Question} {literal table be
         let w = here (g .walk) a n l (y .entries) (y .summary) in
         record { region = y .summary .region; start = w .start; end = w .end; sound = found (g .walk) a n l (y .entries) (y .summary) .0 .0 }
 
-    pub marks-next : {after : List ℕ} → ForLookup q literal table (λ ls. MarksChosen s h q ls (entryAt s a ∷ []) f after)
+    pub marks-next : {after : List ℕ} → ForLookup t q literal table (λ ls. MarksChosen s h q ls (entryAt s a ∷ []) f after)
         → Marks t s h q literal table before after (a .next) (i + 1)
     marks-next {after} m =
         record {

@@ -1,6 +1,7 @@
 -- What contracts say, in the reading's terms: of Audit and Ask, then of the functions that they are made of.
 use mathlib.Core.Path.{_≡_}
 use Prim.Native.Nat.{ℕ, _+_, _<_, _≤_}
+use mathlib.Core.Bool.{Bool}
 use mathlib.Core.List.{List, [], _++_}
 use lib.IntN.{ℤ, pos, negsuc}
 use lib.ListN.{length, drop}
@@ -10,7 +11,9 @@ use Rattle.refusal.specs.Reading.{Out, refuse, ok, numbersOf, faultIn}
 use Rattle.row_field.specs.Meaning.{size, count, cleared}
 use Rattle.subtract.specs.Meaning.{noRecord}
 use Rattle.roaring.specs.Promises.{SoundBelow}
-use Rattle.stored_value.specs.Meaning.{Cell, listed}
+use Rattle.hash_table.specs.Promises.{chains}
+use Rattle.stored_value.specs.Meaning.{Cell, listed, mostLiterals}
+use Rattle.stored_value.specs.Reading.{literals}
 use Rattle.stored_value.specs.Promises.{Entered}
 use Rattle.dictionary.specs.declared.Checked.{Checked}
 use Rattle.dictionary.specs.declared.Checked.the-variants.{Found}
@@ -28,7 +31,7 @@ use Rattle.bitmap_index.specs.declared.Outcome.{Outcome}
 use Rattle.bitmap_index.specs.declared.Outcome.the-variants.{Done}
 use Rattle.bitmap_index.specs.declared.Placing.{Placing}
 use Rattle.bitmap_index.specs.declared.Placing.the-variants.{Placed}
-use Rattle.bitmap_index.specs.Meaning.{isIn, isNull, scan, nullQuestion, scanRecord}
+use Rattle.bitmap_index.specs.Meaning.{isIn, scan, nullQuestion, scanRecord}
 use Rattle.bitmap_index.specs.Reading.{firstNumber, placeEntries, prepared, audited, audit, auditBuffer, chosenOf, markEntries, matchedFor, Answer, answered, auditedAnswer, wellFormed, ask, answerBuffer, askBuffer, auditedBy, auditOut, auditNumbers, auditFault, answeredBy, askOut, askNumbers, askFault}
 
 -- ---- Audit and Ask (01), for any bytes: the answer, what the lent buffer then holds, the answer's number with its count or record, and where its fault is
@@ -131,16 +134,28 @@ pub record AllSound (t : ℕ) (body : List ℕ) (h : Summary) : Type 0 where
   pub is-read : IsRead t body h
   pub sound : ForEntries t body h (λ es. All (SoundEntry body h) (nullsOf h ++ es))
 
--- how the code looks literals up: the one of EQUAL and NOT EQUAL is the whole buffer, and those of IN and NOT IN are held by a table
-pub record Lookup (q : Question) (literal table : List ℕ) (ls : List (List ℕ)) : Type 0 where
+-- how the code looks accepted literals up: in a table that holds them, or one by one, with a table too short to be one
+pub record Listing (t : ℕ) (literal table : List ℕ) (ls : List (List ℕ)) : Type 0 where
+  pub accepted : literals t mostLiterals [] literal ≡ ok ls
+  pub held : chains ≤ length table → Entered literal table ls
+
+abbrev pub SomeListing : ℕ → List ℕ → List ℕ → Type 0
+SomeListing t literal table = (ls : List (List ℕ)) × Listing t literal table ls
+
+-- `is_listed`
+abbrev pub FindsListed : ℕ → List ℕ → List ℕ → List ℕ → Bool → Type 0
+FindsListed t literal table v r = (ls : List (List ℕ)) → Listing t literal table ls → r ≡ listed v ls
+
+-- the same for any question: the one literal of EQUAL and NOT EQUAL is the whole buffer
+pub record Lookup (t : ℕ) (q : Question) (literal table : List ℕ) (ls : List (List ℕ)) : Type 0 where
   pub one : q .name < isIn → (v : List ℕ) → listed v ls ≡ same v literal
-  pub many : isIn ≤ q .name → q .name < isNull → Entered literal table ls
+  pub many : Listing t literal table ls
 
-abbrev pub SomeLookup : Question → List ℕ → List ℕ → Type 0
-SomeLookup q literal table = (ls : List (List ℕ)) × Lookup q literal table ls
+abbrev pub SomeLookup : ℕ → Question → List ℕ → List ℕ → Type 0
+SomeLookup t q literal table = (ls : List (List ℕ)) × Lookup t q literal table ls
 
-abbrev pub ForLookup : Question → List ℕ → List ℕ → (List (List ℕ) → Type 0) → Type 0
-ForLookup q literal table P = (ls : List (List ℕ)) → Lookup q literal table ls → P ls
+abbrev pub ForLookup : ℕ → Question → List ℕ → List ℕ → (List (List ℕ) → Type 0) → Type 0
+ForLookup t q literal table P = (ls : List (List ℕ)) → Lookup t q literal table ls → P ls
 
 -- the rows of those of the entries es that are chosen are marked
 abbrev pub MarksChosen : List ℕ → Summary → Question → List (List ℕ) → List Entry → List ℕ → List ℕ → Type 0

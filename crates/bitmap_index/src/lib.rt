@@ -11,7 +11,8 @@ ghost use Rattle.bitmap_index.specs.Meaning as meaning;
 ghost use Rattle.bitmap_index.specs.Reading.{extentOf, placeAt, rowsFor};
 ghost use Rattle.bitmap_index.specs.Promises.{AuditPromise, AskPromise, ForEntries, ForDictionary, Prepares, Ready, Asked, TestsQuestion};
 ghost use Rattle.bitmap_index.specs.Promises.{Places, PlacesNull, PlacesValues, AuditsZero, AuditsField};
-ghost use Rattle.bitmap_index.specs.Promises.{SoundAt, SoundEntryAt, SoundNull, AllSound, SomeLookup, ForLookup, MarksChosen, MarksAsked};
+ghost use Rattle.bitmap_index.specs.Promises.{SoundAt, SoundEntryAt, SoundNull, AllSound, MarksChosen, MarksAsked};
+ghost use Rattle.bitmap_index.specs.Promises.{SomeListing, FindsListed, SomeLookup, ForLookup};
 ghost use Rattle.bitmap_index.specs.Promises.{AuditAccepts, AnswersZero, AnswersField};
 use dictionary::Checked;
 use dictionary::EntryAt;
@@ -47,6 +48,12 @@ pub const SECOND_EDITION: u32 = 2;
 // The numbers of a hash table with room for as many literals as there may be.
 const TABLE: usize = hash_table::CHAINS
     + hash_table::NUMBERS * stored_value::MOST_LITERALS as usize;
+
+// IN and NOT IN take no table where literals have up to so many bytes and there are up to so many values: clearing it takes as long as comparing each of these
+// with each of those.
+const FEW_LITERAL_BYTES: usize = 256;
+
+const FEW_VALUES: u64 = 8;
 
 // The number of null's entry, and that of the first value's (document 02, Ticket 2).
 const NULL_NUMBER: u64 = 0;
@@ -383,18 +390,28 @@ pub fn test_question(body: &[u8], t: u32, question: Question, literals: &[u8]) -
     }
 }
 
-// Whether the question chooses the value v, which is the same in both editions. The one literal of EQUAL and NOT EQUAL is all of `literals`; those of IN
-// and NOT IN are held by the table.
-fn chosen(question: Question, v: &[u8], literals: &[u8], table: &[u32]) -> bool
-    requires { ⌜ SomeLookup question (now literals) (now table) ⌝ }
-    ensures { λ r. ⌜ ForLookup question (now (literals .entry)) (now (table .entry)) (λ ls. r ≡ meaning.chosen question ls (value (now (v .entry)))) ⌝ }
+// Whether v is one of the literals of type t: found in the table that holds them, or compared with each where the table is too short to be one.
+fn is_listed(v: &[u8], t: u32, literals: &[u8], table: &[u32]) -> bool
+    requires { ⌜ SomeListing t (now literals) (now table) ⌝ }
+    ensures { λ r. ⌜ FindsListed t (now (literals .entry)) (now (table .entry)) (now (v .entry)) r ⌝ }
+{
+    if table.len() < hash_table::CHAINS {
+        return stored_value::listed(literals, t, v);
+    }
+    hash_table::find(literals, table, v)
+}
+
+// Whether the question chooses the value v, which is the same in both editions. The one literal of EQUAL and NOT EQUAL is all of `literals`.
+fn chosen(question: Question, v: &[u8], t: u32, literals: &[u8], table: &[u32]) -> bool
+    requires { ⌜ SomeLookup t question (now literals) (now table) ⌝ }
+    ensures { λ r. ⌜ ForLookup t question (now (literals .entry)) (now (table .entry)) (λ ls. r ≡ meaning.chosen question ls (value (now (v .entry)))) ⌝ }
 {
     let name = question.name;
     match name {
         EQUAL => numbers::same(v, literals),
         NOT_EQUAL => !numbers::same(v, literals),
-        IN => hash_table::find(literals, table, v),
-        NOT_IN => !hash_table::find(literals, table, v),
+        IN => is_listed(v, t, literals, table),
+        NOT_IN => !is_listed(v, t, literals, table),
         _ => name == IS_NOT_NULL,
     }
 }
@@ -431,17 +448,18 @@ fn mark_entry(
     body: &[u8],
     summary: Summary,
     entry: EntryAt,
+    t: u32,
     question: Question,
     literals: &[u8],
     table: &[u32],
 )
-    requires { ⌜ SoundEntryAt (now body) summary entry × SomeLookup question (now literals) (now table) ⌝ }
-    ensures { λ _. ⌜ ForLookup question (now (literals .entry)) (now (table .entry))
+    requires { ⌜ SoundEntryAt (now body) summary entry × SomeLookup t question (now literals) (now table) ⌝ }
+    ensures { λ _. ⌜ ForLookup t question (now (literals .entry)) (now (table .entry))
         (λ ls. MarksChosen (now (body .entry)) summary question ls (entryAt (now (body .entry)) entry ∷ []) (now (field .entry)) (now (field .exit))) ⌝ }
 {
     let start = entry.start.0;
     let end = entry.end.0;
-    if !chosen(question, &body[start..end], literals, table) {
+    if !chosen(question, &body[start..end], t, literals, table) {
         return;
     }
     let region = summary.region.0;
@@ -474,15 +492,15 @@ fn mark_values(
     literals: &[u8],
     table: &[u32],
 )
-    requires { ⌜ AllSound t (now body) summary × SomeLookup question (now literals) (now table) ⌝ }
-    ensures { λ _. ⌜ ForEntries t (now (body .entry)) summary (λ es. ForLookup question (now (literals .entry)) (now (table .entry))
+    requires { ⌜ AllSound t (now body) summary × SomeLookup t question (now literals) (now table) ⌝ }
+    ensures { λ _. ⌜ ForEntries t (now (body .entry)) summary (λ es. ForLookup t question (now (literals .entry)) (now (table .entry))
         (λ ls. MarksChosen (now (body .entry)) summary question ls es (now (field .entry)) (now (field .exit)))) ⌝ }
 {
     let mut cursor = summary.first;
     let mut i: u64 = 0;
     while i < summary.values {
         let entry = dictionary::next(body, t, summary.version2, cursor);
-        mark_entry(field, body, summary, entry, question, literals, table);
+        mark_entry(field, body, summary, entry, t, question, literals, table);
         cursor = entry.next;
         i += 1;
     }
@@ -498,15 +516,15 @@ fn mark_chosen(
     literals: &[u8],
     table: &[u32],
 )
-    requires { ⌜ AllSound t (now body) summary × SomeLookup question (now literals) (now table) ⌝ }
-    ensures { λ _. ⌜ ForEntries t (now (body .entry)) summary (λ es. ForLookup question (now (literals .entry)) (now (table .entry))
+    requires { ⌜ AllSound t (now body) summary × SomeLookup t question (now literals) (now table) ⌝ }
+    ensures { λ _. ⌜ ForEntries t (now (body .entry)) summary (λ es. ForLookup t question (now (literals .entry)) (now (table .entry))
         (λ ls. MarksChosen (now (body .entry)) summary question ls (nullsOf summary ++ es) (now (field .entry)) (now (field .exit)))) ⌝ }
 {
     mark_null(field, body, summary, question);
     mark_values(field, body, summary, t, question, literals, table);
 }
 
-// The same for IN and NOT IN. Their literals are entered in a hash table once, and each value is looked up there.
+// The same by a hash table: the literals are entered there once, and each value is looked up.
 fn mark_listed(
     field: &mut [u8],
     body: &[u8],
@@ -515,7 +533,7 @@ fn mark_listed(
     question: Question,
     literals: &[u8],
 )
-    requires { ⌜ AllSound t (now body) summary × Asked t question (now literals) (now body) × (meaning.isIn ≤ question .name) ⌝ }
+    requires { ⌜ AllSound t (now body) summary × Asked t question (now literals) (now body) ⌝ }
     ensures { λ _. ⌜ MarksAsked t (now (body .entry)) summary question (now (literals .entry)) (now (field .entry)) (now (field .exit)) ⌝ }
 {
     let mut table = [0u32; TABLE];
@@ -523,7 +541,24 @@ fn mark_listed(
     mark_chosen(field, body, summary, t, question, literals, &table);
 }
 
-// The same for any question. Only IN and NOT IN have use for a table.
+// Whether values and literals are few.
+fn few(summary: Summary, literals: &[u8]) -> bool {
+    if FEW_VALUES < summary.values {
+        return false;
+    }
+    literals.len() <= FEW_LITERAL_BYTES
+}
+
+// Whether the question is worth a table: IN and NOT IN are, but for few values and literals. What is answered doesn't depend on it.
+fn worth_table(summary: Summary, question: Question, literals: &[u8]) -> bool {
+    let name = question.name;
+    match name {
+        IN | NOT_IN => !few(summary, literals),
+        _ => false,
+    }
+}
+
+// The same with a table only where it is worth one.
 fn mark_asked(
     field: &mut [u8],
     body: &[u8],
@@ -535,14 +570,12 @@ fn mark_asked(
     requires { ⌜ AllSound t (now body) summary × Asked t question (now literals) (now body) ⌝ }
     ensures { λ _. ⌜ MarksAsked t (now (body .entry)) summary question (now (literals .entry)) (now (field .entry)) (now (field .exit)) ⌝ }
 {
-    let name = question.name;
-    match name {
-        IN | NOT_IN => mark_listed(field, body, summary, t, question, literals),
-        _ => {
-            let none = [0u32; 1];
-            mark_chosen(field, body, summary, t, question, literals, &none);
-        }
+    if worth_table(summary, question, literals) {
+        mark_listed(field, body, summary, t, question, literals);
+        return;
     }
+    let none = [0u32; 1];
+    mark_chosen(field, body, summary, t, question, literals, &none);
 }
 
 // Marks the rows of each chosen entry in a field that is clear and was audited in, and counts them. The audit has counted null's.

@@ -227,6 +227,10 @@ back-from t (suc n) acc (b ∷ s) ls e = by (valueSize Literal Literal t (b ∷ 
           omega (arith, m .4),
         )
 
+-- what was read before stands in front
+pub literals-behind : (t n : ℕ) (acc : List (List ℕ)) (s : List ℕ) (ls : List (List ℕ)) → literals t n acc s ≡ ok ls → (ms : List (List ℕ)) × (ls ≡ acc ++ ms)
+literals-behind t n acc s ls e = let m = back-from t n acc s ls e in (m .0, m .1)
+
 pub literals-joined : (t : ℕ) (s : List ℕ) (ls : List (List ℕ)) → literals t mostLiterals [] s ≡ ok ls → s ≡ joined ls
 literals-joined t s ls e = let m = back-from t mostLiterals [] s ls e in subst (λ (x : List (List ℕ)). s ≡ joined x) (sym (m .1)) (m .2)
 

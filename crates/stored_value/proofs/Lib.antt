@@ -3,6 +3,8 @@ pub mod Widths
 pub mod TwosComplement
 pub mod Laws
 pub mod Steps
+pub mod LiteralWalk
 pub mod Entering
+pub mod Comparing
 pub mod Order
 pub mod CarriesNothing

@@ -1,6 +1,7 @@
 -- What the functions that serve other crates answer, in the reading's terms: as an enum, and in 01's numbers.
 use mathlib.Core.Path.{_≡_}
 use Prim.Native.Nat.{ℕ, _<_, _≤_}
+use mathlib.Core.Bool.{Bool}
 use mathlib.Core.List.{List, []}
 use lib.ListN.{length}
 use Rattle.refusal.specs.declared.Refusal.{Refusal}
@@ -58,6 +59,15 @@ countNumbers ls = (0, length ls)
 pub record CountPromise (o : Out Refusal (List (List ℕ))) (r : Counted) : Type 0 where
   pub answer : r ≡ countedBy o
   pub numbers : countOut r ≡ numbersOf 0 countNumbers o
+
+-- ---- `listed`: whether a value is one of the literals
+
+-- the literals are accepted
+abbrev pub Accepted : ℕ → List ℕ → Type 0
+Accepted t literal = (ls : List (List ℕ)) × (literals t mostLiterals [] literal ≡ ok ls)
+
+abbrev pub Lists : ℕ → List ℕ → List ℕ → Bool → Type 0
+Lists t literal v r = (ls : List (List ℕ)) → literals t mostLiterals [] literal ≡ ok ls → r ≡ listed v ls
 
 -- ---- `enter`: literals in a hash table
 

@@ -10,7 +10,7 @@ ghost use mir.Syntax.{w64};
 ghost use mir.Val.{SFits};
 ghost use Rattle.stored_value.specs.Meaning.{width, signedNumber, bytesLess, mostLiterals};
 ghost use Rattle.stored_value.specs.Meaning as meaning;
-ghost use Rattle.stored_value.specs.Promises.{SizePromise, Stands, Takes, CountPromise, Enterable, Enters};
+ghost use Rattle.stored_value.specs.Promises.{SizePromise, Stands, Takes, CountPromise, Accepted, Lists, Enterable, Enters};
 ghost use Rattle.stored_value.specs.Reading.{stringSize, valueSize};
 ghost use Rattle.stored_value.specs.Reading as reading;
 use numbers::Position;
@@ -283,6 +283,22 @@ pub fn literals(s: &[u8], t: u32) -> Counted
         i += 1;
     }
     Counted::Count(i)
+}
+
+// Whether v is one of the literals of type t, which were accepted: compared with each. Where there are few, that takes less than entering them in a table.
+pub fn listed(literals: &[u8], t: u32, v: &[u8]) -> bool
+    requires { ⌜ Accepted t (now literals) ⌝ }
+    ensures { λ r. ⌜ Lists t (now (literals .entry)) (now (v .entry)) r ⌝ }
+{
+    let mut p = 0;
+    while p < literals.len() {
+        let end = p + known_size(literals, Position(p), t);
+        if numbers::same(v, &literals[p..end]) {
+            return true;
+        }
+        p = end;
+    }
+    false
 }
 
 // How many values there are behind n, where one was inserted or was there already.

@@ -1,41 +1,34 @@
 -- `chosen` meets its contract by the cases on the name.
-use native.Mathlib.Omega.{arith}
-use Rattle.bitmap_index.proofs.Choosing.{is-one, not-one, is-in, not-in, holds-some, neither}
+use Rattle.bitmap_index.proofs.Choosing.{is-one, not-one, is-in, not-in, neither}
 use borrow.Author.Needs.{needs}
 use Rattle.bitmap_index.proofs.chosen.Statement.{statement}
 use Rattle.bitmap_index.proofs.chosen.Tie as tie
 
-find-requires : tie.Need-find-requires
-find-requires c κs =
-    let start = c .before .before .before .before in
-    holds-some (start .args .question) (start .args .literals .now) (start .args .table .now) (start .pre) (omega (arith, c .match .keys3))
-    (omega (arith, c .match .keys3))
+is-listed-requires : tie.Need-is-listed-requires
+is-listed-requires c κs = let w = c .before .before .before .before .pre in (w .0, w .1 .many)
 
-find-requires-2 : tie.Need-find-requires-2
-find-requires-2 c κs =
-    let start = c .before .before .before .before in
-    holds-some (start .args .question) (start .args .literals .now) (start .args .table .now) (start .pre) (omega (arith, c .match .keys4))
-    (omega (arith, c .match .keys4))
+is-listed-requires-2 : tie.Need-is-listed-requires-2
+is-listed-requires-2 c κs = let w = c .before .before .before .before .pre in (w .0, w .1 .many)
 
 returns : tie.Need-returns
 returns c =
     let a = c .before .before .before .before .before .args in
-    λ ls w. is-one (a .question) (a .v .now) (a .literals .now) (a .table .now) ls w (c .before .match .keys1) (c .same .ensures)
+    λ ls w. is-one (a .t) (a .question) (a .v .now) (a .literals .now) (a .table .now) ls w (c .before .match .keys1) (c .same .ensures)
 
 returns-2 : tie.Need-returns-2
 returns-2 c =
     let a = c .before .before .before .before .before .args in
-    λ ls w. not-one (a .question) (a .v .now) (a .literals .now) (a .table .now) ls w (c .before .match .keys2) (c .same2 .ensures)
+    λ ls w. not-one (a .t) (a .question) (a .v .now) (a .literals .now) (a .table .now) ls w (c .before .match .keys2) (c .same2 .ensures)
 
 returns-3 : tie.Need-returns-3
 returns-3 c =
     let a = c .before .before .before .before .before .args in
-    λ ls w. is-in (a .question) (a .v .now) (a .literals .now) (a .table .now) ls w (c .before .match .keys3) (c .find .ensures)
+    λ ls w. is-in (a .t) (a .question) (a .v .now) (a .literals .now) (a .table .now) ls w (c .before .match .keys3) (c .is-listed .ensures)
 
 returns-4 : tie.Need-returns-4
 returns-4 c =
     let a = c .before .before .before .before .before .args in
-    λ ls w. not-in (a .question) (a .v .now) (a .literals .now) (a .table .now) ls w (c .before .match .keys4) (c .find2 .ensures)
+    λ ls w. not-in (a .t) (a .question) (a .v .now) (a .literals .now) (a .table .now) ls w (c .before .match .keys4) (c .is-listed2 .ensures)
 
 returns-5 : tie.Need-returns-5
 returns-5 c =
@@ -47,4 +40,4 @@ pub chosen-spec : {M : Type 1} → statement M
 chosen-spec =
     tie.close
     (tie.spec
-    (λ c κs. search needs) (λ c κs. search needs) find-requires find-requires-2 returns returns-2 returns-3 returns-4 returns-5)
+    (λ c κs. search needs) (λ c κs. search needs) is-listed-requires is-listed-requires-2 returns returns-2 returns-3 returns-4 returns-5)

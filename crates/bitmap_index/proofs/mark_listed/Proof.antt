@@ -19,7 +19,7 @@ mark-chosen-requires c κs =
       start .pre .0,
       (
         asked .0,
-        in-table (a .t) (a .question) (a .literals .now) (a .body .now) _ (asked .0) (asked .1) (start .pre .2)
+        in-table (a .t) (a .question) (a .literals .now) (a .body .now) _ (asked .0) (asked .1)
             (entered .enter .ensures),
       ),
     )
@@ -30,7 +30,7 @@ returns c =
     let entered = marked .before .before .before .before in
     let start = entered .before .before .before .before .before in
     let a = start .args in
-    λ es d ls w. marked .mark-chosen .ensures es d ls (in-table (a .t) (a .question) (a .literals .now) (a .body .now) _ ls w (start .pre .2) (entered .enter .ensures))
+    λ es d ls w. marked .mark-chosen .ensures es d ls (in-table (a .t) (a .question) (a .literals .now) (a .body .now) _ ls w (entered .enter .ensures))
 
 pub mark-listed-spec : {M : Type 1} → statement M
 mark-listed-spec =

@@ -4,7 +4,8 @@ use mathlib.Core.Path.{_≡_, refl, _∙_}
 use native.Mathlib.Omega.{arith}
 use lib.ListN.{length}
 use Rattle.stored_value.specs.Meaning.{mostLiterals}
-use Rattle.stored_value.proofs.Entering.{Passed, passed-none, passed-all, passed-few, passed-stands, passed-within, passed-next}
+use Rattle.stored_value.proofs.LiteralWalk.{walk-stands, walk-within}
+use Rattle.stored_value.proofs.Entering.{Passed, passed-none, passed-all, passed-few, passed-next}
 use Rattle.stored_value.proofs.enter.Statement.{statement}
 use Rattle.stored_value.proofs.enter.Tie as tie
 
@@ -21,20 +22,15 @@ loop-holds c =
 
 known-size-requires : tie.Need-known-size-requires Inv-loop μ-loop
 known-size-requires c κs =
-    let l = c .before .loop in
-    let start = c .before .before .before .before in
-    let a = start .args in
-    passed-stands (a .t) (a .literals .now) (l .table) (l .n) (l .p) (l .inv .2) (omega arith) (start .pre .ls) (start .pre .accepted)
+    let pre = c .before .before .before .before .pre in
+    walk-stands (c .before .loop .inv .2 .walk) (pre .ls) (pre .accepted) (c .loop-test .taken)
 
 -- the literal's size, and that it is there
 within : (c : tie.After-known-size Inv-loop μ-loop)
     → (1 ≤ c .known-size .result) × (c .before .before .loop .p + c .known-size .result ≤ length (c .before .before .before .before .before .args .literals .now))
 within c =
-    let l = c .before .before .loop in
-    let start = c .before .before .before .before .before in
-    let a = start .args in
-    passed-within (a .t) (a .literals .now) (l .table) (l .n) (l .p) (l .inv .2) (omega arith) (start .pre .ls) (start .pre .accepted) (c .known-size .result)
-    (c .known-size .ensures)
+    let pre = c .before .before .before .before .before .pre in
+    walk-within (c .before .before .loop .inv .2 .walk) (pre .ls) (pre .accepted) (c .before .loop-test .taken) (c .known-size .result) (c .known-size .ensures)
 
 -- there may be one literal more
 few : (c : tie.After-known-size Inv-loop μ-loop) → c .before .before .loop .n < mostLiterals
@@ -42,7 +38,7 @@ few c =
     let l = c .before .before .loop in
     let start = c .before .before .before .before .before in
     let a = start .args in
-    passed-few (a .t) (a .literals .now) (l .table) (l .n) (l .p) (l .inv .2) (omega arith) (start .pre .ls) (start .pre .accepted)
+    passed-few (a .t) (a .literals .now) (l .table) (l .n) (l .p) (l .inv .2) (start .pre .ls) (start .pre .accepted) (omega arith)
 
 add-e : tie.Need-add-e Inv-loop μ-loop
 add-e c = omega (arith, within c)
@@ -79,7 +75,7 @@ loop-again c =
     let i = c .before .before .before .insert in (
       within f .1,
       i .kept .1 .0 ∙ l .inv .1,
-      rw (c .more .ensures .0) (passed-next (a .t) (a .literals .now) (l .table) (l .n) (l .p) (l .inv .2) (omega arith) (start .pre .ls) (start .pre .accepted)
+      rw (c .more .ensures .0) (passed-next (a .t) (a .literals .now) (l .table) (l .n) (l .p) (l .inv .2) (start .pre .ls) (start .pre .accepted) (omega arith)
           (f .known-size .result) (f .known-size .ensures) (i .last .1 .0) (i .result) (i .ensures)),
     )
 
