@@ -12,6 +12,7 @@
 //! Without cargo's `--bench`, as in `cargo test --benches`, or with PODDURANCE_QUICK set, inputs are smaller, each call is timed a few
 //! times only, in one run, and no plot is written, to see that everything runs.
 
+mod inputs;
 mod plot;
 #[path = "../examples/svg/mod.rs"]
 mod svg;
@@ -23,18 +24,20 @@ use std::path::Path;
 use std::slice;
 use std::time::{Duration, Instant};
 
+use inputs::{
+    at_random, bits, field_size, one_run, open_in_blocks, open_strings, pumps, scattered, shuffled_rows, Column, Opened,
+    COLUMNS_SEED, CONTAINER, EDITION, LITERALS, LOOK_UP_SEED,
+};
 use poddurance::raw;
 use reference::random::Random;
 use reference::reader;
 use reference::record::Record;
 use reference::types;
-use reference::writer::{bin_32, bin_64, body, file_of_bins, index_file, BitmapForm, ContainerForm, Groups, Layout};
+use reference::writer::{bin_32, bin_64, file_of_bins, index_file, BitmapForm, ContainerForm, Groups, Layout};
 use timing::{grouped, median_by, print_machine, shown, time, Effort, Patience};
 
-/// The rows of one Roaring container.
-const CONTAINER: u32 = 65_536;
-/// The most literals of a question.
-const LITERALS: usize = 1_024;
+/// How often the tables are measured unless PODDURANCE_RUNS says.
+const USUAL_RUNS: usize = 3;
 /// The entries of a block in version 2.
 const BLOCK: usize = 500;
 /// The kind of the indexes in a head.
@@ -69,7 +72,7 @@ const QUICK: Sizes =
     Sizes { one: 1_000, two: 1_000, numbers: 4_096, columns: 1_000, rows: 1_000_000, plotted: &[10_000, 100_000] };
 
 fn main() {
-    let Effort { quick, patience, runs } = Effort::asked();
+    let Effort { quick, patience, runs } = Effort::asked(USUAL_RUNS);
     let sizes = if quick { QUICK } else { FULL };
 
     print_machine(runs);
@@ -91,14 +94,14 @@ fn main() {
 
 /// Measures all lines in each run, and prints each in the last.
 fn table(sizes: &Sizes, patience: &Patience, runs: usize) {
-    let mut random = Random::new(1);
+    let mut random = Random::new(COLUMNS_SEED);
     let large = sizes.rows;
     let rows = format!("{} rows", grouped(large as usize));
     let of = |number: usize, what: &str| format!("{} {what}", grouped(number));
     let inputs = [
-        one_run().called("65,536 rows, one run"),
-        bits(&mut random).called("65,536 rows, bits"),
-        scattered(&mut random).called("65,536 rows, 4,000 scattered"),
+        Input::from(one_run()).called("65,536 rows, one run"),
+        Input::from(bits(&mut random)).called("65,536 rows, bits"),
+        Input::from(scattered(&mut random)).called("65,536 rows, 4,000 scattered"),
         spread(&mut random, types::STRING, pumps(sizes.two), 2).called(&of(sizes.two, "strings, version 2")),
         spread(&mut random, types::STRING, pumps(sizes.one), 1).called(&of(sizes.one, "strings, version 1")),
         spread(&mut random, types::INT, ints(sizes.one), 1).called(&of(sizes.one, "INT, version 1")),
@@ -166,28 +169,23 @@ fn against_rows(sizes: &Sizes, patience: &Patience) -> String {
 
 // Inputs
 
-/// A body, what it is to be read with, and what is asked of it.
+/// A column, and what else is asked of it.
 struct Input {
     name: String,
-    body: Vec<u8>,
-    ty: u32,
-    rows: u32,
-    /// The literal of EQUAL.
-    one: Vec<u8>,
+    column: Column,
     /// The literals of IN, if it is asked.
     many: Option<Vec<u8>>,
     /// Whether the body is so large that copying it takes a time worth comparing with.
     large: bool,
 }
 
-impl Input {
-    /// The body of these groups, in which value number `asked` is looked for.
-    fn new(groups: &Groups, layout: &Layout, asked: usize) -> Input {
-        let one = types::literals(groups.ty, &[&groups.values[asked].0]);
-        let (name, many, large) = (String::new(), None, false);
-        Input { name, body: body(groups, layout), ty: groups.ty, rows: groups.rows, one, many, large }
+impl From<Column> for Input {
+    fn from(column: Column) -> Input {
+        Input { name: String::new(), column, many: None, large: false }
     }
+}
 
+impl Input {
     fn called(self, name: &str) -> Input {
         Input { name: name.to_string(), ..self }
     }
@@ -199,69 +197,26 @@ impl Input {
     }
 
     fn audit(&self) -> Line<'_> {
-        self.line(Call::Audit { body: &self.body, ty: self.ty })
+        self.line(Call::Audit { body: &self.column.body, ty: self.column.ty })
     }
 
     fn ask_equal(&self) -> Line<'_> {
-        self.ask(types::EQUAL, &self.one)
+        self.ask(types::EQUAL, &self.column.one)
     }
 
     fn ask<'a>(&'a self, question: u32, literals: &'a [u8]) -> Line<'a> {
-        self.line(Call::Ask { body: &self.body, ty: self.ty, question, literals })
+        self.line(Call::Ask { body: &self.column.body, ty: self.column.ty, question, literals })
     }
 
     fn line<'a>(&self, call: Call<'a>) -> Line<'a> {
-        Line { what: self.name.clone(), call, rows: self.rows, copied: self.large.then_some(self.body.len()) }
+        let Column { body, rows, .. } = &self.column;
+        Line { what: self.name.clone(), call, rows: *rows, copied: self.large.then_some(body.len()) }
     }
-}
-
-fn one_run() -> Input {
-    let values = vec![(b"running".to_vec(), (0..CONTAINER).collect())];
-    let groups = Groups { ty: types::STRING, rows: CONTAINER, nulls: Vec::new(), values };
-    let as_runs = BitmapForm::WithRuns(vec![ContainerForm::Runs { cuts: Vec::new() }]);
-    Input::new(&groups, &Layout::version(1).with_form(as_runs), 0)
-}
-
-fn bits(random: &mut Random) -> Input {
-    let (running, idle) = (0..CONTAINER).partition(|_| random.percent(50));
-    let values = vec![(b"idle".to_vec(), idle), (b"running".to_vec(), running)];
-    let groups = Groups { ty: types::STRING, rows: CONTAINER, nulls: Vec::new(), values };
-    Input::new(&groups, &Layout::version(1), 1)
-}
-
-fn scattered(random: &mut Random) -> Input {
-    let mut rows = shuffled_rows(random);
-    let mut nulls = rows.split_off(4_000);
-    rows.sort_unstable();
-    nulls.sort_unstable();
-    let groups = Groups { ty: types::STRING, rows: CONTAINER, nulls, values: vec![(b"fault".to_vec(), rows)] };
-    Input::new(&groups, &Layout::version(1), 0)
-}
-
-fn shuffled_rows(random: &mut Random) -> Vec<u32> {
-    let mut rows: Vec<u32> = (0..CONTAINER).collect();
-    random.shuffle(&mut rows);
-    rows
-}
-
-/// Names of pumps, rising.
-fn pumps(number: usize) -> Vec<Vec<u8>> {
-    (0..number).map(|i| format!("pump-{i:05}").into_bytes()).collect()
 }
 
 /// Numbers of type INT, rising.
 fn ints(number: usize) -> Vec<Vec<u8>> {
     (0..number as i32).map(|i| i.to_be_bytes().to_vec()).collect()
-}
-
-/// The rows of each value if each row has one of them at random.
-fn at_random(random: &mut Random, values: Vec<Vec<u8>>, rows: u32) -> Vec<(Vec<u8>, Vec<u32>)> {
-    let mut values: Vec<(Vec<u8>, Vec<u32>)> = values.into_iter().map(|value| (value, Vec::new())).collect();
-    for row in 0..rows {
-        let which = random.below(values.len());
-        values[which].1.push(row);
-    }
-    values
 }
 
 /// Values with few rows each; one of a single row has no bitmap.
@@ -271,21 +226,21 @@ fn spread(random: &mut Random, ty: u32, values: Vec<Vec<u8>>, version: u8) -> In
     let many = types::literals(ty, &many);
     let values = at_random(random, values, CONTAINER);
     let groups = Groups { ty, rows: CONTAINER, nulls: Vec::new(), values };
-    let input = Input::new(&groups, &Layout::version(version).with_blocks_of(BLOCK), number / 2);
-    Input { many: Some(many), ..input }
+    let column = Column::new(&groups, &Layout::version(version).with_blocks_of(BLOCK), number / 2);
+    Input { many: Some(many), ..column.into() }
 }
 
 /// As many values as rows, none of which has a bitmap.
 fn one_each(random: &mut Random) -> Input {
     let values = (0i64..).zip(shuffled_rows(random)).map(|(number, row)| (number.to_be_bytes().to_vec(), vec![row]));
     let groups = Groups { ty: types::BIGINT, rows: CONTAINER, nulls: Vec::new(), values: values.collect() };
-    Input::new(&groups, &Layout::version(2).with_blocks_of(BLOCK), CONTAINER as usize / 2)
+    Column::new(&groups, &Layout::version(2).with_blocks_of(BLOCK), CONTAINER as usize / 2).into()
 }
 
 fn many_rows(random: &mut Random, rows: u32) -> Input {
     let values = at_random(random, ints(100), rows);
     let groups = Groups { ty: types::INT, rows, nulls: Vec::new(), values };
-    Input { large: true, ..Input::new(&groups, &Layout::version(2), 42) }
+    Input { large: true, ..Column::new(&groups, &Layout::version(2), 42).into() }
 }
 
 /// A deletion file with one bin, and its rows as a field.
@@ -326,14 +281,7 @@ fn head(columns: usize) -> Vec<u8> {
     index_file(&indexes)
 }
 
-fn field_size(rows: u32) -> usize {
-    rows.div_ceil(8) as usize
-}
-
 // Calls
-
-/// The edition of every question. EQUAL and IN, which are measured, choose the same rows in both.
-const EDITION: u32 = types::SECOND_EDITION;
 
 /// A call that both readers are given.
 enum Call<'a> {
@@ -450,38 +398,21 @@ impl Call<'_> {
 
 // Lookups
 
-/// The bytes of a block's entries where blocks are cut by bytes.
-const BLOCK_BYTES: usize = 16 * 1_024;
-/// How many literals are looked up in turn: an odd number, so that each comes first with each reader.
-const LOOKED_UP: usize = 101;
-
-/// A body of version 2 that was opened, and what is looked up in it.
-struct Opened {
-    name: String,
-    blocks: &'static str,
-    body: Vec<u8>,
-    ty: u32,
-    rows: u32,
-    table: Vec<u32>,
-    /// Literals that are values, evenly spread over all, and literals that are not, each between two of them.
-    literals: [(&'static str, Vec<Vec<u8>>); 2],
-}
-
 /// Measures all lookups in each run, and prints them in the last.
 fn look_up_table(sizes: &Sizes, patience: &Patience, runs: usize) {
-    let mut random = Random::new(3);
-    let of = |number: usize, what: &str| format!("{} {what}", grouped(number));
-    let strings = at_random(&mut random, pumps(sizes.two), CONTAINER);
+    let mut random = Random::new(LOOK_UP_SEED);
+    let strings = open_strings(&mut random, sizes.two);
     // Even numbers, between which there are others.
     let numbers = (0..sizes.numbers as i64).map(|i| (2 * i).to_be_bytes().to_vec()).collect();
     let mut rows = shuffled_rows(&mut random).into_iter();
     let numbers: Vec<(Vec<u8>, Vec<u32>)> = in_turn(numbers, &mut rows);
-    let mut opened = open_in_blocks(&of(sizes.two, "strings"), types::STRING, strings, |value| [value, b"!"].concat());
-    opened.extend(open_in_blocks(&of(sizes.numbers, "BIGINT"), types::BIGINT, numbers, |value| {
+    let name = format!("{} BIGINT", grouped(sizes.numbers));
+    let numbers = open_in_blocks(&name, types::BIGINT, numbers, |value| {
         // The number behind an even one.
         let (last, others) = value.split_last().expect("8 bytes");
         [others, &[last + 1]].concat()
-    }));
+    });
+    let opened: Vec<Opened> = strings.into_iter().chain(numbers).collect();
 
     opened.iter().for_each(Opened::compare);
     let measured: Vec<LookUpTimes> = (0..runs).flat_map(|_| opened.iter().flat_map(|opened| opened.measure(patience))).collect();
@@ -522,30 +453,6 @@ fn in_turn(values: Vec<Vec<u8>>, rows: &mut dyn Iterator<Item = u32>) -> Vec<(Ve
         rows.sort_unstable();
     }
     values
-}
-
-/// The values in bodies of one block, of blocks cut by bytes, and of a block for each entry. `behind` gives what stands between a value and
-/// the next.
-fn open_in_blocks(name: &str, ty: u32, values: Vec<(Vec<u8>, Vec<u32>)>, behind: fn(&[u8]) -> Vec<u8>) -> Vec<Opened> {
-    let groups = Groups { ty, rows: CONTAINER, nulls: Vec::new(), values };
-    let layouts = [
-        ("one", Layout::version(2)),
-        ("16 KiB", Layout::version(2).with_blocks_within(BLOCK_BYTES, &groups)),
-        ("one entry", Layout::version(2).with_blocks_of(1)),
-    ];
-    let number = groups.values.len();
-    let spread: Vec<&[u8]> = (0..LOOKED_UP).map(|i| &groups.values[i * number / LOOKED_UP].0[..]).collect();
-    let open = |(blocks, layout): (&'static str, Layout)| {
-        let present = spread.iter().map(|value| types::literals(ty, &[value])).collect();
-        let absent = spread.iter().map(|value| types::literals(ty, &[behind(value)])).collect();
-        let (body, mut table) = (body(&groups, &layout), vec![0; number]);
-        let (answer, _, words, _) = raw::open(&body, ty, &mut vec![0; field_size(CONTAINER)], &mut table);
-        assert_eq!(answer, raw::ACCEPTED, "Open: refused");
-        table.truncate(words as usize);
-        let literals = [("present", present), ("absent", absent)];
-        Opened { name: name.to_string(), blocks, body, ty, rows: CONTAINER, table, literals }
-    };
-    layouts.into_iter().map(open).collect()
 }
 
 impl Opened {
