@@ -1,0 +1,92 @@
+//! Stored values, and big-endian fields, each taken from the front of the bytes that are left.
+
+use std::hash::Hash;
+
+use crate::Refusal;
+
+/// The most bytes of a stored string.
+const MAX_STRING: u32 = 65_535;
+
+/// A value in the stored form of its type. Numbers are ordered signed, strings by unsigned bytes, a prefix first.
+pub trait Value<'a>: Copy + Ord + Hash + 'a {
+    /// Takes the value that stands first.
+    fn take(bytes: &mut &'a [u8]) -> Result<Self, Refusal>;
+
+    /// Whether the other is above this one.
+    fn rises_to(self, other: Self) -> bool {
+        self < other
+    }
+
+    /// Whether the two are the same.
+    fn is(self, other: Self) -> bool {
+        self == other
+    }
+}
+
+macro_rules! value_of_number {
+    ($($number:ty),*) => {$(
+        impl<'a> Value<'a> for $number {
+            #[inline]
+            fn take(bytes: &mut &'a [u8]) -> Result<$number, Refusal> {
+                take_bytes(bytes).map(<$number>::from_be_bytes)
+            }
+        }
+    )*};
+}
+
+value_of_number!(i8, i16, i32, i64);
+
+impl<'a> Value<'a> for bool {
+    #[inline]
+    fn take(bytes: &mut &'a [u8]) -> Result<bool, Refusal> {
+        match take_bytes(bytes)? {
+            [0] => Ok(false),
+            [1] => Ok(true),
+            _ => Err(Refusal::Dict),
+        }
+    }
+}
+
+impl<'a> Value<'a> for &'a [u8] {
+    #[inline]
+    fn take(bytes: &mut &'a [u8]) -> Result<&'a [u8], Refusal> {
+        let length = take_u32(bytes)?;
+        if length > MAX_STRING {
+            let is_negative = (length as i32) < 0;
+            return Err(if is_negative { Refusal::Dict } else { Refusal::Limit });
+        }
+        let (string, rest) = bytes.split_at_checked(length as usize).ok_or(Refusal::Short)?;
+        *bytes = rest;
+        Ok(string)
+    }
+}
+
+/// Takes a number of bytes.
+#[inline]
+pub fn take_bytes<const N: usize>(bytes: &mut &[u8]) -> Result<[u8; N], Refusal> {
+    let (first, rest) = bytes.split_first_chunk().ok_or(Refusal::Short)?;
+    *bytes = rest;
+    Ok(*first)
+}
+
+/// Takes a number of 4 bytes.
+#[inline]
+pub fn take_u32(bytes: &mut &[u8]) -> Result<u32, Refusal> {
+    take_bytes(bytes).map(u32::from_be_bytes)
+}
+
+/// Takes a signed number of 4 bytes.
+#[inline]
+pub fn take_i32(bytes: &mut &[u8]) -> Result<i32, Refusal> {
+    take_bytes(bytes).map(i32::from_be_bytes)
+}
+
+/// Takes a count of at most so many.
+#[inline]
+pub fn take_count(bytes: &mut &[u8], most: i32) -> Result<u32, Refusal> {
+    let count = take_i32(bytes)?;
+    if count > most {
+        return Err(Refusal::Limit);
+    }
+    u32::try_from(count).map_err(|_| Refusal::Dict)
+}
