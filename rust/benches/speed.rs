@@ -3,8 +3,8 @@
 //! Both are given the same bytes and a cleared field, one call at a time and in changing order, and the median of all times counts.
 //! Clearing the field is not timed. Before that, answers, counts and fields of both are compared.
 //!
-//! A second table has lookups in opened bodies, of many literals in turn, beside Ask's EQUAL of the same literals. A third has deletions read
-//! through windows.
+//! A second table has lookups in opened bodies, of many literals in turn, beside Ask's EQUAL of the same literals and beside the lookup of the
+//! plain Rust reader of `docs/src`, which the benchmark `plain` is about. A third has deletions read through windows.
 //!
 //! Each table is measured PODDURANCE_RUNS times, three unless that is set, and each line shows the run whose ratio is the median.
 //! Then calls on more and more rows are timed for the plot `docs/speed.svg`.
@@ -159,8 +159,8 @@ fn against_rows(sizes: &Sizes, patience: &Patience) -> String {
         let lines: Vec<Line> = inputs.iter().map(call).collect();
         let points = lines.iter().map(|line| {
             line.compare();
-            let Times { library, reference, .. } = line.measure(patience);
-            plot::Point { rows: line.rows, library, reference }
+            let Times { library, other, .. } = line.measure(patience);
+            plot::Point { rows: line.rows, library, reference: other }
         });
         plot::Series { call: lines[0].call.name(), points: points.collect() }
     });
@@ -352,6 +352,15 @@ impl Call<'_> {
             Call::Subtract { second, rows, .. } => two(reader::subtract(field, second, rows.into())),
         }
     }
+
+    /// The plain reader's call, of those that it is measured with.
+    fn plain(&self, field: &mut [u8]) -> Answer {
+        let Call::LookUp { body, ty, literals, table } = *self else { unreachable!("all of them are lookups") };
+        match plain_reader::look_up(body, ty, literals, table, field) {
+            Ok((record, compared)) => (raw::ACCEPTED, [record.matched, record.rows, record.nulls, record.deleted], compared),
+            Err(refusal) => (refusal.number(), [0; 4], 0),
+        }
+    }
 }
 
 /// A line of the table: a call, how many rows its field is for, and how many bytes memcpy is given, if it is timed too.
@@ -365,18 +374,19 @@ struct Line<'a> {
 impl Line<'_> {
     /// Both readers accept, with the same counts, of which the first isn't 0.
     fn compare(&self) {
-        let (answer, _) = self.call.compare(self.rows);
+        let (answer, _) = self.call.compare(Call::reference, self.rows);
         assert_ne!(answer.1[0], 0, "{}: no row to count", self.call.name());
     }
 
     fn measure(&self, patience: &Patience) -> Times {
-        measure(slice::from_ref(&self.call), self.rows, self.copied, patience)
+        measure(slice::from_ref(&self.call), Call::reference, self.rows, self.copied, patience)
     }
 }
 
 impl Call<'_> {
-    /// Both readers accept, with the same counts, the same field and nothing written behind it. Their answer and the field.
-    fn compare(&self, rows: u32) -> (Answer, Vec<u8>) {
+    /// The library and the other reader accept, with the same counts, the same field and nothing written behind it. Their answer and the
+    /// field.
+    fn compare(&self, other: impl Fn(&Self, &mut [u8]) -> Answer, rows: u32) -> (Answer, Vec<u8>) {
         let size = field_size(rows);
         let lent = || {
             let mut buffer = vec![0xAA; size + 8];
@@ -386,7 +396,7 @@ impl Call<'_> {
             buffer
         };
         let (mut ours, mut theirs) = (lent(), lent());
-        let (answer, expected) = (self.library(&mut ours), self.reference(&mut theirs));
+        let (answer, expected) = (self.library(&mut ours), other(self, &mut theirs));
         assert_eq!(answer, expected, "{}: the answers differ", self.name());
         assert_eq!(answer.0, raw::ACCEPTED, "{}: refused", self.name());
         assert!(ours == theirs, "{}: the fields differ", self.name());
@@ -420,7 +430,7 @@ fn look_up_table(sizes: &Sizes, patience: &Patience, runs: usize) {
         "input",
         "blocks",
         "literals",
-        ["Ask EQUAL", "look up", "reference", "ratio", "Ask/look up"].map(str::to_string),
+        ["Ask EQUAL", "look up", "plain Rust", "ratio", "Ask/look up"].map(str::to_string),
     );
     print_look_up("---", "---", "---", ["--:"; 5].map(str::to_string));
     let lines = opened.iter().flat_map(|opened| opened.literals.iter().map(move |(literals, _)| (opened, *literals)));
@@ -430,14 +440,14 @@ fn look_up_table(sizes: &Sizes, patience: &Patience, runs: usize) {
         let LookUpTimes { ask, times } = median_by(&of_line, |one| one.times.ratio());
         let faster = ask.as_secs_f64() / times.library.as_secs_f64();
         let numbers =
-            [shown(ask), shown(times.library), shown(times.reference), format!("{:.2}", times.ratio()), format!("{faster:.0}")];
+            [shown(ask), shown(times.library), shown(times.other), format!("{:.2}", times.ratio()), format!("{faster:.0}")];
         print_look_up(&opened.name, opened.blocks, literals, numbers);
     }
 }
 
 const LOOK_UP_LEGEND: &str = "
-Median times of look up in bodies of version 2 that were opened once, and of the library's Ask EQUAL with the same literals; reference: the same
-lookup in plain Rust. ratio: the library's lookup / the reference's. Ask/look up: how often a lookup fits into an Ask. 65,536 rows. strings: each
+Median times of look up in bodies of version 2 that were opened once, and of the library's Ask EQUAL with the same literals; plain Rust: the same
+lookup by the reader of docs/src. ratio: the library's lookup / this one. Ask/look up: how often a lookup fits into an Ask. 65,536 rows. strings: each
 row has one of so many names of 10 bytes at random. BIGINT: so many numbers in turn, of 65,536 each row its own, in no order. blocks: all entries
 in one; as many as fit into 16 KiB; one entry in each. literals: 101 in turn, evenly spread over the values, or each between two values.
 ";
@@ -466,16 +476,27 @@ impl Opened {
         literals.iter().map(|literals| Call::Ask { body, ty: *ty, question: types::EQUAL, literals }).collect()
     }
 
-    /// Both readers open alike, and look up alike, as they answer EQUAL; what is present is found, and what is absent is not.
+    /// All readers open alike, and look up alike, as they answer EQUAL; what is present is found, and what is absent is not.
     fn compare(&self) {
         let (mut field, mut table) = (vec![0; field_size(self.rows)], vec![0; self.table.len()]);
         let blocks = self.table.len() as u64;
         assert_eq!(reader::open(&self.body, self.ty, &mut field, &mut table), (0, self.rows.into(), blocks, reader::NO_FAULT));
         assert!(table == self.table, "{} in {}: the tables differ", self.name, self.blocks);
+        table.fill(0);
+        let opened = plain_reader::open(&self.body, self.ty, &mut field, &mut table).ok();
+        assert_eq!(
+            opened,
+            Some((self.rows.into(), blocks)),
+            "{} in {}: the plain reader opens otherwise",
+            self.name,
+            self.blocks
+        );
+        assert!(table == self.table, "{} in {}: the plain reader's table differs", self.name, self.blocks);
         for (is_present, (_, literals)) in [true, false].into_iter().zip(&self.literals) {
             for (look_up, ask) in self.look_ups(literals).iter().zip(self.asks(literals)) {
-                let ((answer, counts, compared), field) = look_up.compare(self.rows);
-                let asked = ask.compare(self.rows);
+                let ((answer, counts, compared), field) = look_up.compare(Call::reference, self.rows);
+                look_up.compare(Call::plain, self.rows);
+                let asked = ask.compare(Call::reference, self.rows);
                 assert!(((answer, counts, 0), field) == asked, "{} in {}: Ask and Look up differ", self.name, self.blocks);
                 assert_eq!(counts[0] > 0, is_present, "{} in {}: rows found", self.name, self.blocks);
                 assert_ne!(compared, 0, "{} in {}: nothing compared", self.name, self.blocks);
@@ -487,7 +508,7 @@ impl Opened {
     fn measure(&self, patience: &Patience) -> [LookUpTimes; 2] {
         [0, 1].map(|i| {
             let (_, literals) = &self.literals[i];
-            let times = measure(&self.look_ups(literals), self.rows, None, patience);
+            let times = measure(&self.look_ups(literals), Call::plain, self.rows, None, patience);
             LookUpTimes { ask: measure_library(&self.asks(literals), self.rows, patience), times }
         })
     }
@@ -551,21 +572,28 @@ runs: runs of 1 to 100 rows, with gaps of 1 to 200.
 #[derive(Clone, Copy)]
 struct Times {
     library: Duration,
-    reference: Duration,
+    /// Of the reader beside it.
+    other: Duration,
     memcpy: Option<Duration>,
 }
 
 impl Times {
     fn ratio(&self) -> f64 {
-        self.library.as_secs_f64() / self.reference.as_secs_f64()
+        self.library.as_secs_f64() / self.other.as_secs_f64()
     }
 }
 
-/// Times the calls in turn.
-fn measure(calls: &[Call], rows: u32, copied: Option<usize>, patience: &Patience) -> Times {
+/// Times the calls of the library and of the other reader in turn.
+fn measure<'a>(
+    calls: &[Call<'a>],
+    other: impl Fn(&Call<'a>, &mut [u8]) -> Answer,
+    rows: u32,
+    copied: Option<usize>,
+    patience: &Patience,
+) -> Times {
     let (mut ours, mut theirs) = (vec![0; field_size(rows)], vec![0; field_size(rows)]);
     let mut copy = copied.map(|bytes| (vec![1u8; bytes], vec![0u8; bytes]));
-    let (mut library, mut reference, mut memcpy) = (Vec::new(), Vec::new(), Vec::new());
+    let (mut library, mut others, mut memcpy) = (Vec::new(), Vec::new(), Vec::new());
 
     let started = Instant::now();
     while patience.lasts(library.len(), started) {
@@ -578,14 +606,14 @@ fn measure(calls: &[Call], rows: u32, copied: Option<usize>, patience: &Patience
                 library.push(time(|| call.library(black_box(&mut ours))));
             } else {
                 call.ready(&mut theirs);
-                reference.push(time(|| call.reference(black_box(&mut theirs))));
+                others.push(time(|| other(call, black_box(&mut theirs))));
             }
         }
         if let Some((from, to)) = &mut copy {
             memcpy.push(time(|| black_box(&mut to[..]).copy_from_slice(black_box(from))));
         }
     }
-    Times { library: median(library), reference: median(reference), memcpy: copied.map(|_| median(memcpy)) }
+    Times { library: median(library), other: median(others), memcpy: copied.map(|_| median(memcpy)) }
 }
 
 /// Times the library's calls in turn.
@@ -610,10 +638,10 @@ fn median(mut times: Vec<Duration>) -> Duration {
 
 /// What a line shows of its times.
 fn cells(times: Times) -> [String; 5] {
-    let Times { library, reference, memcpy } = times;
+    let Times { library, other, memcpy } = times;
     let share = |one: Duration| memcpy.map(|memcpy| format!("{:.1} %", 100.0 * memcpy.as_secs_f64() / one.as_secs_f64()));
-    let [of_library, of_reference] = [library, reference].map(|one| share(one).unwrap_or_default());
-    [shown(library), shown(reference), format!("{:.2}", times.ratio()), of_library, of_reference]
+    let [of_library, of_other] = [library, other].map(|one| share(one).unwrap_or_default());
+    [shown(library), shown(other), format!("{:.2}", times.ratio()), of_library, of_other]
 }
 
 fn print_cells(what: &str, call: &str, numbers: [String; 5]) {
@@ -622,10 +650,8 @@ fn print_cells(what: &str, call: &str, numbers: [String; 5]) {
 }
 
 fn print_look_up(what: &str, blocks: &str, literals: &str, numbers: [String; 5]) {
-    let [ask, library, reference, ratio, faster] = numbers;
-    println!(
-        "| {what:<14} | {blocks:<9} | {literals:<8} | {ask:>9} | {library:>9} | {reference:>9} | {ratio:>5} | {faster:>11} |"
-    );
+    let [ask, library, plain, ratio, faster] = numbers;
+    println!("| {what:<14} | {blocks:<9} | {literals:<8} | {ask:>9} | {library:>9} | {plain:>10} | {ratio:>5} | {faster:>11} |");
 }
 
 fn print_window(what: &str, window: &str, numbers: [String; 5]) {
