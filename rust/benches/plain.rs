@@ -1,20 +1,20 @@
 //! How long the library takes beside the plain Rust reader of `docs/src`: `cargo bench --bench plain`.
 //!
-//! Both are given the same bytes and the same field, dirty, which each of them clears within the call. One call of each is timed at a time, in
-//! changing order. Dirtying the field is not timed. The time of a call is the median of all, less that of timing nothing: the shortest take
-//! a few hundred ns, of which reading the clock twice would be a part that makes any two readers look alike. Many calls between two readings
-//! would need as many fields, which no longer fit into the nearest cache, or dirty ones no more.
+//! Both are given the same bytes and the same field, dirty, which each of them clears within the call. One call of each is timed in turn, in
+//! changing order. Dirtying the field is not timed. What counts is the median of all times, less that of timing nothing: the shortest calls
+//! take about a µs, and what the clock takes would make two readers look more alike than they are. Timing many calls at once would do
+//! without, but needs a dirty field for each of them, and so many don't stay in the nearest cache.
 //!
 //! Before that both readers and the reference reader are compared: answers, counts, faults, fields and tables, and what lies behind these.
 //!
-//! The table is measured PODDURANCE_RUNS times, five unless that is set. Each line shows the run whose ratio is the median, and the least and the
-//! greatest ratio of all runs. It ends with an error that names the lines whose median is above the limit, after the table.
+//! The table is measured PODDURANCE_RUNS times, five unless that is set. Each line shows the run whose ratio is the median, and the least and
+//! the greatest ratio of all runs. If a line's median is above the limit, an error behind the table names it.
 //!
-//! Without cargo's `--bench`, as in `cargo test --bench plain`, or with PODDURANCE_QUICK set, there are fewer strings, each call is timed a few
-//! times only, in one run, and no ratio is an error.
+//! Without cargo's `--bench`, as in `cargo test --bench plain`, or with PODDURANCE_QUICK set, there are fewer strings, each call is timed a
+//! few times only, in one run, and no ratio is an error.
 //!
-//! For `benches/instructions`, `--lines` prints the lines of the table with their numbers, and `--calls LINE READER NUMBER` makes so many
-//! calls of one reader (`library` or `plain`) and times nothing.
+//! `benches/instructions` counts the instructions of both. For it `--lines` prints the lines of the table with their numbers, and
+//! `--calls LINE READER NUMBER` makes so many calls of one reader, `library` or `plain`, and times nothing.
 
 #![forbid(unsafe_code)]
 
