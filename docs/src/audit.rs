@@ -36,55 +36,72 @@ pub fn ask_values<'a, V: Value<'a>>(
     Ok(Record { rows: dictionary.front.rows.into(), nulls, deleted: 0, matched: field.count() })
 }
 
-/// Clears the field, then places null's rows and those of each entry in it. `with_nulls` is told when it has null's rows alone.
+/// Places null's rows and those of each entry in the field, whatever it had before. `with_nulls` is told when it has null's rows alone.
+///
+/// After a refusal the field can have any rows.
 pub fn place_all<'a, V: Value<'a>>(
     dictionary: &Dictionary<'a>,
     field: &mut RowField,
     with_nulls: impl FnOnce(&RowField),
 ) -> Result<(), Refusal> {
+    // As many rows as there are, and all of them set: none was placed twice. That is faster than a test of each.
+    if place_each::<V, false>(dictionary, field, with_nulls) == Ok(dictionary.front.rows.into()) && field.is_full() {
+        return Ok(());
+    }
+    // Something is wrong: once more to find what.
+    place_each::<V, true>(dictionary, field, |_| {})?;
+    Err(Refusal::Missing { row: field.lowest_clear() })
+}
+
+/// As [`place_all`]. Answers how many rows were placed, in which some are counted twice unless `TELL_TWICE`.
+fn place_each<'a, V: Value<'a>, const TELL_TWICE: bool>(
+    dictionary: &Dictionary<'a>,
+    field: &mut RowField,
+    with_nulls: impl FnOnce(&RowField),
+) -> Result<u64, Refusal> {
     field.clear();
     let bitmaps = dictionary.bitmaps;
     let mut rows = 0;
     if let Some(null) = dictionary.front.null {
-        rows += place_new(0, null, bitmaps, field)?;
+        rows += place_rows::<TELL_TWICE>(0, null, bitmaps, field)?;
         with_nulls(field);
     }
     dictionary.places::<V>(|entry, place| {
-        rows += place_new(entry, place, bitmaps, field)?;
+        rows += place_rows::<TELL_TWICE>(entry, place, bitmaps, field)?;
         Ok(())
     })?;
-    // No row was placed twice.
-    if rows < u64::from(field.rows()) {
-        return Err(Refusal::Missing { row: field.lowest_clear() });
-    }
-    Ok(())
+    Ok(rows)
 }
 
-/// Places the rows of an entry, none of which may be set, and answers how many they are.
+/// Places the rows of an entry, and answers how many they are. If `TELL_TWICE`, none may be set already.
 #[inline]
-fn place_new(entry: u32, place: Place, bitmaps: &[u8], field: &mut RowField) -> Result<u64, Refusal> {
-    let placed = place_rows(entry, place, bitmaps, field)?;
-    if placed.twice {
-        return Err(Refusal::Twice { entry });
-    }
-    Ok(placed.rows)
-}
-
-/// Places the rows of an entry.
-#[inline]
-pub fn place_rows(entry: u32, place: Place, bitmaps: &[u8], field: &mut RowField) -> Result<roaring::Placed, Refusal> {
-    if let Some(row) = place.single_row() {
+pub fn place_rows<const TELL_TWICE: bool>(
+    entry: u32,
+    place: Place,
+    bitmaps: &[u8],
+    field: &mut RowField,
+) -> Result<u64, Refusal> {
+    let placed = if let Some(row) = place.single_row() {
         if row >= field.rows() {
             return Err(Refusal::Range { entry });
         }
-        return Ok(roaring::Placed { rows: 1, past: false, twice: field.set(row) });
-    }
-    let (bytes, whole) = place.part(bitmaps).ok_or(Refusal::Bitmap { entry, container: 0 })?;
-    let placed = roaring::place(bytes, whole, field).map_err(|container| Refusal::Bitmap { entry, container })?;
+        roaring::Placed { rows: 1, past: false, twice: field.set(row) }
+    } else {
+        let Some((bytes, whole)) = place.part(bitmaps) else {
+            return Err(Refusal::Bitmap { entry, container: 0 });
+        };
+        match roaring::place::<TELL_TWICE>(bytes, whole, field) {
+            Ok(placed) => placed,
+            Err(container) => return Err(Refusal::Bitmap { entry, container }),
+        }
+    };
     if placed.past {
         return Err(Refusal::Range { entry });
     }
-    Ok(placed)
+    if TELL_TWICE && placed.twice {
+        return Err(Refusal::Twice { entry });
+    }
+    Ok(placed.rows)
 }
 
 /// Sets the rows of an entry that was placed.

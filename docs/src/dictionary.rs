@@ -26,7 +26,7 @@ pub struct Place {
 }
 
 impl Place {
-    #[inline]
+    #[inline(always)]
     fn take(bytes: &mut &[u8], version: Version) -> Result<Place, Refusal> {
         match version {
             Version::One => Ok(Place { offset: take_i32(bytes)?, length: AS_LONG_AS_IT_IS }),
@@ -38,7 +38,7 @@ impl Place {
     }
 
     /// The part of the body of bitmaps that begins with this one, and whether it must end with it; nothing if there is no such part.
-    #[inline]
+    #[inline(always)]
     pub fn part(self, bitmaps: &[u8]) -> Option<(&[u8], bool)> {
         let behind = bitmaps.get(self.offset as usize..)?;
         match self.length {
@@ -48,7 +48,7 @@ impl Place {
     }
 
     /// The one row that a negative offset means.
-    #[inline]
+    #[inline(always)]
     pub fn single_row(self) -> Option<u32> {
         (self.offset < 0).then(|| (-1 - self.offset) as u32)
     }
@@ -103,13 +103,13 @@ pub fn take_entries(bytes: &mut &[u8]) -> Result<u32, Refusal> {
 }
 
 /// Takes a value and where its rows stand, in version 2.
-#[inline]
+#[inline(always)]
 pub fn take_entry<'a, V: Value<'a>>(bytes: &mut &'a [u8]) -> Result<(V, Place), Refusal> {
     Ok((V::take(bytes)?, Place::take(bytes, Version::Two)?))
 }
 
 /// Takes an entry of the directory: the first value of a block and the block's offset.
-#[inline]
+#[inline(always)]
 pub fn take_listing<'a, V: Value<'a>>(bytes: &mut &'a [u8]) -> Result<(V, u32), Refusal> {
     Ok((V::take(bytes)?, take_u32(bytes)?))
 }
@@ -130,7 +130,7 @@ pub struct Dictionary<'a> {
 
 impl<'a> Dictionary<'a> {
     /// Reads the dictionary of a body. `meet` is told each value and where its rows stand.
-    #[inline]
+    #[inline(always)]
     pub fn read<V: Value<'a>>(
         body: &'a [u8],
         versions: &[Version],
@@ -207,7 +207,7 @@ impl<'a> Dictionary<'a> {
     }
 
     /// Tells `meet` the number of each value's entry, from 1, and where its rows stand, in stored order.
-    #[inline]
+    #[inline(always)]
     pub fn places<V: Value<'a>>(&self, mut meet: impl FnMut(u32, Place) -> Result<(), Refusal>) -> Result<(), Refusal> {
         let mut bytes = self.entries;
         if self.front.version == Version::One {

@@ -56,17 +56,21 @@ impl<'f> RowField<'f> {
         (&mut part[..CONTAINER_BYTES], rows.min(CONTAINER_ROWS))
     }
 
+    /// Whether every row is set.
+    pub fn is_full(&self) -> bool {
+        let Some((last, before)) = self.bytes.split_last() else {
+            return true;
+        };
+        let (words, rest) = words(before);
+        let all = words.fold(u64::MAX, |all, word| all & word);
+        all == u64::MAX && rest.iter().all(|byte| *byte == u8::MAX) && last.count_ones() == (self.rows - 1) % 8 + 1
+    }
+
     /// Sets one row, which is below the row count. Answers whether it was set already.
     #[inline]
     pub fn set(&mut self, row: u32) -> bool {
-        set_bit(&mut self.bytes[row as usize / 8], row as usize % 8)
+        set_bits(&mut self.bytes[row as usize / 8], 1 << (row % 8))
     }
-}
-
-/// Sets a bit. Answers whether it was set already.
-#[inline]
-pub fn set_bit(byte: &mut u8, bit: usize) -> bool {
-    set_bits(byte, 1 << bit)
 }
 
 /// Sets bits. Answers whether one of them was set already.
@@ -77,19 +81,18 @@ fn set_bits(byte: &mut u8, bits: u8) -> bool {
     was_set
 }
 
-/// Sets the rows from `first` to `last`. Answers whether one of them was set already.
+/// Sets the rows from `first` to `last`. Answers whether one of them was set already, if that is to be told.
 #[inline]
-pub fn set_run(part: &mut [u8], first: usize, last: usize) -> bool {
+pub fn set_run<const TELL_TWICE: bool>(part: &mut [u8], first: usize, last: usize) -> bool {
     let from_first = u8::MAX << (first % 8);
     let to_last = u8::MAX >> (7 - last % 8);
     match &mut part[first / 8..=last / 8] {
         [] => false,
         [byte] => set_bits(byte, from_first & to_last),
         [head, between @ .., tail] => {
-            let ends = set_bits(head, from_first) | set_bits(tail, to_last);
-            let is_clear = is_zero(between);
+            let twice = set_bits(head, from_first) | set_bits(tail, to_last) | (TELL_TWICE && !is_zero(between));
             between.fill(u8::MAX);
-            ends | !is_clear
+            twice
         }
     }
 }
@@ -100,9 +103,9 @@ fn is_zero(bytes: &[u8]) -> bool {
     words.fold(0, |any, word| any | word) == 0 && rest.iter().all(|byte| *byte == 0)
 }
 
-/// Sets the bits of another field. Answers how many it has, and whether one of them was set already.
+/// Sets the bits of another field. Answers how many it has, and whether one of them was set already, if that is to be told.
 #[inline]
-pub fn set_all(part: &mut [u8], bits: &[u8]) -> (u64, bool) {
+pub fn set_all<const TELL_TWICE: bool>(part: &mut [u8], bits: &[u8]) -> (u64, bool) {
     let mut ones = 0;
     let mut seen = 0;
     let (bit_words, bit_rest) = words(bits);
@@ -118,7 +121,7 @@ pub fn set_all(part: &mut [u8], bits: &[u8]) -> (u64, bool) {
         seen |= u64::from(*byte & bits);
         *byte |= bits;
     }
-    (ones, seen != 0)
+    (ones, TELL_TWICE && seen != 0)
 }
 
 /// The number of bits that are set.

@@ -106,13 +106,13 @@ fn search<'a, V: Value<'a>>(mut block: &'a [u8], literal: V) -> Result<Found, Re
 fn count_rows(null: Option<Place>, found: Found, bitmaps: &[u8], field: &mut RowField) -> Result<(u64, u64), Refusal> {
     let mut nulls = 0;
     if let Some(null) = null {
-        place_rows(0, null, bitmaps, field)?;
+        place_rows::<false>(0, null, bitmaps, field)?;
         nulls = field.count();
         field.clear();
     }
     let Some(place) = found.place else {
         return Ok((nulls, 0));
     };
-    place_rows(found.entry, place, bitmaps, field)?;
+    place_rows::<false>(found.entry, place, bitmaps, field)?;
     Ok((nulls, field.count()))
 }

@@ -26,7 +26,7 @@ pub trait Value<'a>: Copy + Ord + Hash + 'a {
 macro_rules! value_of_number {
     ($($number:ty),*) => {$(
         impl<'a> Value<'a> for $number {
-            #[inline]
+            #[inline(always)]
             fn take(bytes: &mut &'a [u8]) -> Result<$number, Refusal> {
                 take_bytes(bytes).map(<$number>::from_be_bytes)
             }
@@ -37,7 +37,7 @@ macro_rules! value_of_number {
 value_of_number!(i8, i16, i32, i64);
 
 impl<'a> Value<'a> for bool {
-    #[inline]
+    #[inline(always)]
     fn take(bytes: &mut &'a [u8]) -> Result<bool, Refusal> {
         match take_bytes(bytes)? {
             [0] => Ok(false),
@@ -48,41 +48,45 @@ impl<'a> Value<'a> for bool {
 }
 
 impl<'a> Value<'a> for &'a [u8] {
-    #[inline]
+    #[inline(always)]
     fn take(bytes: &mut &'a [u8]) -> Result<&'a [u8], Refusal> {
         let length = take_u32(bytes)?;
         if length > MAX_STRING {
             let is_negative = (length as i32) < 0;
             return Err(if is_negative { Refusal::Dict } else { Refusal::Limit });
         }
-        let (string, rest) = bytes.split_at_checked(length as usize).ok_or(Refusal::Short)?;
+        let Some((string, rest)) = bytes.split_at_checked(length as usize) else {
+            return Err(Refusal::Short);
+        };
         *bytes = rest;
         Ok(string)
     }
 }
 
 /// Takes a number of bytes.
-#[inline]
+#[inline(always)]
 pub fn take_bytes<const N: usize>(bytes: &mut &[u8]) -> Result<[u8; N], Refusal> {
-    let (first, rest) = bytes.split_first_chunk().ok_or(Refusal::Short)?;
+    let Some((first, rest)) = bytes.split_first_chunk() else {
+        return Err(Refusal::Short);
+    };
     *bytes = rest;
     Ok(*first)
 }
 
 /// Takes a number of 4 bytes.
-#[inline]
+#[inline(always)]
 pub fn take_u32(bytes: &mut &[u8]) -> Result<u32, Refusal> {
     take_bytes(bytes).map(u32::from_be_bytes)
 }
 
 /// Takes a signed number of 4 bytes.
-#[inline]
+#[inline(always)]
 pub fn take_i32(bytes: &mut &[u8]) -> Result<i32, Refusal> {
     take_bytes(bytes).map(i32::from_be_bytes)
 }
 
 /// Takes a count of at most so many.
-#[inline]
+#[inline(always)]
 pub fn take_count(bytes: &mut &[u8], most: i32) -> Result<u32, Refusal> {
     let count = take_i32(bytes)?;
     if count > most {
