@@ -30,8 +30,8 @@ pub fn ask_values<'a, V: Value<'a>>(
     // All rows are set, or it is a refusal.
     field.clear();
     placed?;
-    for place in &chosen.places {
-        mark(*place, dictionary.bitmaps, &mut field);
+    for place in chosen.places() {
+        mark(place, dictionary.bitmaps, &mut field);
     }
     Ok(Record { rows: dictionary.front.rows.into(), nulls, deleted: 0, matched: field.count() })
 }

@@ -185,7 +185,7 @@ impl<'a> Dictionary<'a> {
             let in_block = take_entries(&mut bytes)?;
             number += u64::from(in_block);
             let first = V::take(&mut bytes)?;
-            if first != listed || last.is_some_and(|last: V| !last.rises_to(first)) {
+            if !first.is(listed) || last.is_some_and(|last: V| !last.rises_to(first)) {
                 return Err(Refusal::Dict);
             }
             meet(first, Place::take(&mut bytes, Version::Two)?);

@@ -9,6 +9,8 @@ use crate::{Question, Refusal};
 const MAX_LITERALS: usize = 1_024;
 /// Up to so many literals are compared one by one.
 const FEW_LITERALS: usize = 8;
+/// So many values are compared with each literal before a set is made, which takes about as long.
+const FEW_VALUES: usize = 8;
 
 /// Takes the literal that stands first.
 #[inline]
@@ -45,10 +47,10 @@ pub fn only<'a, V: Value<'a>>(literals: &'a [u8]) -> Result<V, Refusal> {
 pub enum Listed<'a, V> {
     /// The one literal of EQUAL.
     One(V),
-    /// Few literals, in stored form.
+    /// Those of IN in stored form, for few literals.
     Few(&'a [u8]),
-    /// Any number of them.
-    Many(HashSet<V>),
+    /// Any number of them. The set is made once more than a few values were looked for.
+    Many { literals: &'a [u8], number: usize, looked_for: usize, set: HashSet<V> },
 }
 
 impl<'a, V: Value<'a>> Listed<'a, V> {
@@ -61,18 +63,26 @@ impl<'a, V: Value<'a>> Listed<'a, V> {
         if number <= FEW_LITERALS {
             return Ok(Listed::Few(literals));
         }
-        let mut set = HashSet::with_capacity(number);
-        set.extend(each::<V>(literals));
-        Ok(Listed::Many(set))
+        Ok(Listed::Many { literals, number, looked_for: 0, set: HashSet::new() })
     }
 
     /// Whether the value is listed.
     #[inline]
-    fn has(&self, value: V) -> bool {
+    fn has(&mut self, value: V) -> bool {
         match self {
             Listed::One(literal) => literal.is(value),
             Listed::Few(literals) => each::<V>(literals).any(|literal| literal.is(value)),
-            Listed::Many(set) => set.contains(&value),
+            Listed::Many { literals, number, looked_for, set } => {
+                if *looked_for < FEW_VALUES {
+                    *looked_for += 1;
+                    return each::<V>(literals).any(|literal| literal.is(value));
+                }
+                if set.is_empty() {
+                    set.reserve(*number);
+                    set.extend(each::<V>(literals));
+                }
+                set.contains(&value)
+            }
         }
     }
 }
@@ -85,19 +95,30 @@ fn each<'a, V: Value<'a>>(mut literals: &'a [u8]) -> impl Iterator<Item = V> + '
 /// Where the rows of the chosen entries stand.
 pub struct Chosen<'a, V> {
     listed: Listed<'a, V>,
-    pub places: Vec<Place>,
+    /// The first of them, so that nothing is allocated for one.
+    first: Option<Place>,
+    others: Vec<Place>,
 }
 
 impl<'a, V: Value<'a>> Chosen<'a, V> {
     pub fn new(listed: Listed<'a, V>) -> Chosen<'a, V> {
-        Chosen { listed, places: Vec::new() }
+        Chosen { listed, first: None, others: Vec::new() }
     }
 
     /// Chooses the place if the value is listed.
     #[inline]
     pub fn meet(&mut self, value: V, place: Place) {
-        if self.listed.has(value) {
-            self.places.push(place);
+        if !self.listed.has(value) {
+            return;
         }
+        match self.first {
+            None => self.first = Some(place),
+            Some(_) => self.others.push(place),
+        }
+    }
+
+    /// The chosen places.
+    pub fn places(&self) -> impl Iterator<Item = Place> + '_ {
+        self.first.iter().chain(&self.others).copied()
     }
 }
