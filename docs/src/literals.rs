@@ -2,14 +2,13 @@
 
 use std::collections::HashSet;
 
-use crate::dictionary::Place;
 use crate::value::Value;
-use crate::{Question, Refusal};
+use crate::Refusal;
 
 const MAX_LITERALS: usize = 1_024;
-/// Up to so many literals are compared one by one.
+/// With up to so many literals each value is compared.
 const FEW_LITERALS: usize = 8;
-/// So many values are compared with each literal before a set is made, which takes about as long.
+/// With more, so many values are, before a set is made, which takes about as long.
 const FEW_VALUES: usize = 8;
 
 /// Takes the literal that stands first.
@@ -43,82 +42,38 @@ pub fn only<'a, V: Value<'a>>(literals: &'a [u8]) -> Result<V, Refusal> {
     }
 }
 
-/// The listed values.
-pub enum Listed<'a, V> {
-    /// The one literal of EQUAL.
-    One(V),
-    /// Those of IN in stored form, for few literals.
-    Few(&'a [u8]),
-    /// Any number of them. The set is made once more than a few values were looked for.
-    Many { literals: &'a [u8], number: usize, looked_for: usize, set: HashSet<V> },
+/// The literals of IN.
+pub struct Listed<'a, V> {
+    literals: &'a [u8],
+    number: usize,
+    /// How many values were compared with each literal.
+    compared: usize,
+    /// Empty until it is needed.
+    set: HashSet<V>,
 }
 
 impl<'a, V: Value<'a>> Listed<'a, V> {
-    /// Tests the literals of a question.
-    pub fn new(question: Question, literals: &'a [u8]) -> Result<Listed<'a, V>, Refusal> {
-        if question == Question::Equal {
-            return only(literals).map(Listed::One);
-        }
-        let number = count::<V>(literals)?;
-        if number <= FEW_LITERALS {
-            return Ok(Listed::Few(literals));
-        }
-        Ok(Listed::Many { literals, number, looked_for: 0, set: HashSet::new() })
+    /// Tests the literals.
+    pub fn new(literals: &'a [u8]) -> Result<Listed<'a, V>, Refusal> {
+        Ok(Listed { literals, number: count::<V>(literals)?, compared: 0, set: HashSet::new() })
     }
 
     /// Whether the value is listed.
     #[inline]
-    fn has(&mut self, value: V) -> bool {
-        match self {
-            Listed::One(literal) => literal.is(value),
-            Listed::Few(literals) => each::<V>(literals).any(|literal| literal.is(value)),
-            Listed::Many { literals, number, looked_for, set } => {
-                if *looked_for < FEW_VALUES {
-                    *looked_for += 1;
-                    return each::<V>(literals).any(|literal| literal.is(value));
-                }
-                if set.is_empty() {
-                    set.reserve(*number);
-                    set.extend(each::<V>(literals));
-                }
-                set.contains(&value)
-            }
+    pub fn has(&mut self, value: V) -> bool {
+        if self.number <= FEW_LITERALS || self.compared < FEW_VALUES {
+            self.compared += 1;
+            return each::<V>(self.literals).any(|literal| literal.is(value));
         }
+        if self.set.is_empty() {
+            self.set.reserve(self.number);
+            self.set.extend(each::<V>(self.literals));
+        }
+        self.set.contains(&value)
     }
 }
 
 /// The literals in turn.
 fn each<'a, V: Value<'a>>(mut literals: &'a [u8]) -> impl Iterator<Item = V> + 'a {
     std::iter::from_fn(move || V::take(&mut literals).ok())
-}
-
-/// Where the rows of the chosen entries stand.
-pub struct Chosen<'a, V> {
-    listed: Listed<'a, V>,
-    /// The first of them, so that nothing is allocated for one.
-    first: Option<Place>,
-    others: Vec<Place>,
-}
-
-impl<'a, V: Value<'a>> Chosen<'a, V> {
-    pub fn new(listed: Listed<'a, V>) -> Chosen<'a, V> {
-        Chosen { listed, first: None, others: Vec::new() }
-    }
-
-    /// Chooses the place if the value is listed.
-    #[inline]
-    pub fn meet(&mut self, value: V, place: Place) {
-        if !self.listed.has(value) {
-            return;
-        }
-        match self.first {
-            None => self.first = Some(place),
-            Some(_) => self.others.push(place),
-        }
-    }
-
-    /// The chosen places.
-    pub fn places(&self) -> impl Iterator<Item = Place> + '_ {
-        self.first.iter().chain(&self.others).copied()
-    }
 }

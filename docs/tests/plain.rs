@@ -15,7 +15,7 @@ use reference::types::{self, EQUAL, FIRST_EDITION, IN};
 use reference::writer::{body_traced, Column, Groups, Layout, Traced};
 
 const DEFAULT_SEED: u64 = 20_240_101;
-const DEFAULT_CASES: u64 = 600_000;
+const DEFAULT_CASES: u64 = 400_000;
 /// Of so many calls at least so many must have been given each answer that the call can give.
 const FEWEST_OF_EACH: u64 = 100;
 const FEWEST_PER: u64 = 150_000;
