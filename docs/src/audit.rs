@@ -2,13 +2,16 @@
 
 use crate::dictionary::{Dictionary, Place, Version};
 use crate::field::RowField;
-use crate::literals::{Chosen, Listed};
+use crate::literals::{only, Listed};
 use crate::value::Value;
 use crate::{roaring, Question, Record, Refusal};
 
+/// The versions that can be audited.
+const BOTH: [Version; 2] = [Version::One, Version::Two];
+
 /// Audit of a body whose values are of one kind.
 pub fn audit_values<'a, V: Value<'a>>(body: &'a [u8], field: &mut [u8]) -> Result<u64, Refusal> {
-    let dictionary = Dictionary::read(body, &[Version::One, Version::Two], |_: V, _| {})?;
+    let dictionary = Dictionary::read(body, &BOTH, |_: V, _| {})?;
     let mut field = RowField::new(field, dictionary.front.rows)?;
     let placed = place_all::<V>(&dictionary, &mut field, |_| {});
     field.clear();
@@ -22,18 +25,43 @@ pub fn ask_values<'a, V: Value<'a>>(
     literals: &'a [u8],
     field: &mut [u8],
 ) -> Result<Record, Refusal> {
-    let mut chosen = Chosen::<V>::new(Listed::new(question, literals)?);
-    let dictionary = Dictionary::read(body, &[Version::One, Version::Two], |value, place| chosen.meet(value, place))?;
-    let mut field = RowField::new(field, dictionary.front.rows)?;
+    match question {
+        Question::Equal => {
+            let literal = only::<V>(literals)?;
+            let mut found = None;
+            let dictionary = Dictionary::read(body, &BOTH, |value: V, place| {
+                if value.is(literal) {
+                    found = Some(place);
+                }
+            })?;
+            answer::<V>(&dictionary, found.as_slice(), field)
+        }
+        Question::In => {
+            let mut listed = Listed::<V>::new(literals)?;
+            let mut found = Vec::new();
+            let dictionary = Dictionary::read(body, &BOTH, |value: V, place| {
+                if listed.has(value) {
+                    found.push(place);
+                }
+            })?;
+            answer::<V>(&dictionary, &found, field)
+        }
+    }
+}
+
+/// Audits the bitmaps, then sets the rows of the entries that were found.
+fn answer<'a, V: Value<'a>>(dictionary: &Dictionary<'a>, found: &[Place], field: &mut [u8]) -> Result<Record, Refusal> {
+    let rows = dictionary.front.rows;
+    let mut field = RowField::new(field, rows)?;
     let mut nulls = 0;
-    let placed = place_all::<V>(&dictionary, &mut field, |field| nulls = field.count());
+    let placed = place_all::<V>(dictionary, &mut field, |field| nulls = field.count());
     // All rows are set, or it is a refusal.
     field.clear();
     placed?;
-    for place in &chosen.places {
+    for place in found {
         mark(*place, dictionary.bitmaps, &mut field);
     }
-    Ok(Record { rows: dictionary.front.rows.into(), nulls, deleted: 0, matched: field.count() })
+    Ok(Record { rows: rows.into(), nulls, deleted: 0, matched: field.count() })
 }
 
 /// Places null's rows and those of each entry in the field, whatever it had before. `with_nulls` is told when it has null's rows alone.

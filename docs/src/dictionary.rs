@@ -5,6 +5,7 @@ use std::collections::HashSet;
 use crate::value::{take_bytes, take_count, take_i32, take_u32, Value};
 use crate::Refusal;
 
+/// The most values, by version.
 const MAX_VALUES: [i32; 2] = [4_096, 65_536];
 const MAX_BLOCKS: i32 = 65_536;
 
@@ -153,7 +154,7 @@ impl<'a> Dictionary<'a> {
         let mut distinct = Distinct::Rising(None);
         for _ in 0..front.values {
             let value = V::take(&mut bytes)?;
-            if !distinct.insert(value, entries) {
+            if !distinct.insert(value, entries, front.values) {
                 return Err(Refusal::Dict);
             }
             meet(value, Place::take(&mut bytes, Version::One)?);
@@ -185,7 +186,7 @@ impl<'a> Dictionary<'a> {
             let in_block = take_entries(&mut bytes)?;
             number += u64::from(in_block);
             let first = V::take(&mut bytes)?;
-            if first != listed || last.is_some_and(|last: V| !last.rises_to(first)) {
+            if !first.is(listed) || last.is_some_and(|last: V| !last.rises_to(first)) {
                 return Err(Refusal::Dict);
             }
             meet(first, Place::take(&mut bytes, Version::Two)?);
@@ -236,13 +237,13 @@ enum Distinct<V> {
 }
 
 impl<'a, V: Value<'a>> Distinct<V> {
-    /// Adds a value, the next one of the entries. Answers false if it was there already.
-    fn insert(&mut self, value: V, entries: &'a [u8]) -> bool {
+    /// Adds a value, the next one of the entries, of which there are `number`. Answers false if it was there already.
+    fn insert(&mut self, value: V, entries: &'a [u8], number: u32) -> bool {
         match self {
             Distinct::Rising(None) => *self = Distinct::Rising(Some(value)),
             Distinct::Rising(Some(last)) if last.rises_to(value) => *last = value,
             Distinct::Rising(Some(last)) => {
-                let mut set = HashSet::with_capacity(MAX_VALUES[0] as usize);
+                let mut set = HashSet::with_capacity(number as usize);
                 let mut bytes = entries;
                 while let Ok(earlier) = V::take(&mut bytes) {
                     set.insert(earlier);

@@ -57,6 +57,7 @@ impl<'f> RowField<'f> {
     }
 
     /// Whether every row is set.
+    #[inline(never)]
     pub fn is_full(&self) -> bool {
         let Some((last, before)) = self.bytes.split_last() else {
             return true;

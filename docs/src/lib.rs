@@ -4,7 +4,7 @@
 //! Answers, refusals and what happens to the lent field are those of the project's documents 01 and 02.
 //!
 //! A body is walked twice: first the dictionary, which must be sound before the field may be written, then the bitmaps, each of which
-//! is tested and marked at once. Nothing is allocated but for IN, and for a body of version 1 whose values don't rise.
+//! is tested and set in the field at once. Nothing is allocated but for IN, and for a body of version 1 whose values don't rise.
 
 #![forbid(unsafe_code)]
 #![warn(missing_docs)]
@@ -48,7 +48,8 @@ pub enum Question {
     In,
 }
 
-/// Calls a function with the values of a type number, or answers LITERAL for an unknown one.
+/// Calls a function with the values of a type, or answers LITERAL for an unknown one. Types are numbered in the order of document 01's
+/// table of widths, from TINYINT and BOOLEAN to STRING.
 macro_rules! with_type {
     ($ty:expr, $function:ident($($argument:expr),*)) => {
         match $ty {

@@ -2,13 +2,14 @@
 
 use std::collections::HashSet;
 
-use crate::dictionary::Place;
 use crate::value::Value;
-use crate::{Question, Refusal};
+use crate::Refusal;
 
 const MAX_LITERALS: usize = 1_024;
-/// Up to so many literals are compared one by one.
+/// With up to so many literals each value is compared.
 const FEW_LITERALS: usize = 8;
+/// With more, so many values are, before a set is made, which takes about as long.
+const FEW_VALUES: usize = 8;
 
 /// Takes the literal that stands first.
 #[inline]
@@ -41,63 +42,38 @@ pub fn only<'a, V: Value<'a>>(literals: &'a [u8]) -> Result<V, Refusal> {
     }
 }
 
-/// The listed values.
-pub enum Listed<'a, V> {
-    /// The one literal of EQUAL.
-    One(V),
-    /// Few literals, in stored form.
-    Few(&'a [u8]),
-    /// Any number of them.
-    Many(HashSet<V>),
+/// The literals of IN.
+pub struct Listed<'a, V> {
+    literals: &'a [u8],
+    number: usize,
+    /// How many values were compared with each literal.
+    compared: usize,
+    /// Empty until it is needed.
+    set: HashSet<V>,
 }
 
 impl<'a, V: Value<'a>> Listed<'a, V> {
-    /// Tests the literals of a question.
-    pub fn new(question: Question, literals: &'a [u8]) -> Result<Listed<'a, V>, Refusal> {
-        if question == Question::Equal {
-            return only(literals).map(Listed::One);
-        }
-        let number = count::<V>(literals)?;
-        if number <= FEW_LITERALS {
-            return Ok(Listed::Few(literals));
-        }
-        let mut set = HashSet::with_capacity(number);
-        set.extend(each::<V>(literals));
-        Ok(Listed::Many(set))
+    /// Tests the literals.
+    pub fn new(literals: &'a [u8]) -> Result<Listed<'a, V>, Refusal> {
+        Ok(Listed { literals, number: count::<V>(literals)?, compared: 0, set: HashSet::new() })
     }
 
     /// Whether the value is listed.
     #[inline]
-    fn has(&self, value: V) -> bool {
-        match self {
-            Listed::One(literal) => literal.is(value),
-            Listed::Few(literals) => each::<V>(literals).any(|literal| literal.is(value)),
-            Listed::Many(set) => set.contains(&value),
+    pub fn has(&mut self, value: V) -> bool {
+        if self.number <= FEW_LITERALS || self.compared < FEW_VALUES {
+            self.compared += 1;
+            return each::<V>(self.literals).any(|literal| literal.is(value));
         }
+        if self.set.is_empty() {
+            self.set.reserve(self.number);
+            self.set.extend(each::<V>(self.literals));
+        }
+        self.set.contains(&value)
     }
 }
 
 /// The literals in turn.
 fn each<'a, V: Value<'a>>(mut literals: &'a [u8]) -> impl Iterator<Item = V> + 'a {
     std::iter::from_fn(move || V::take(&mut literals).ok())
-}
-
-/// Where the rows of the chosen entries stand.
-pub struct Chosen<'a, V> {
-    listed: Listed<'a, V>,
-    pub places: Vec<Place>,
-}
-
-impl<'a, V: Value<'a>> Chosen<'a, V> {
-    pub fn new(listed: Listed<'a, V>) -> Chosen<'a, V> {
-        Chosen { listed, places: Vec::new() }
-    }
-
-    /// Chooses the place if the value is listed.
-    #[inline]
-    pub fn meet(&mut self, value: V, place: Place) {
-        if self.listed.has(value) {
-            self.places.push(place);
-        }
-    }
 }

@@ -186,6 +186,24 @@ fn early_refusals_leave_the_buffer() {
 }
 
 #[test]
+fn inputs_past_the_limit() {
+    /// One byte more than an input may have. The system lends memory only for what is read.
+    const LONG: usize = 2_147_483_648;
+    let long = vec![0; LONG];
+    let mut field = [ANY];
+    for ty in [TINYINT, UNKNOWN_TYPE] {
+        assert_eq!(audit(&long, ty, &mut field), Err(Refusal::Limit));
+        assert_eq!(open(&long, ty, &mut field, &mut []), Err(Refusal::Limit));
+        for (body, literals) in [(&long[..], &[7][..]), (&VERSION_2, &long)] {
+            assert_eq!(ask(body, ty, Question::In, literals, &mut field), Err(Refusal::Limit));
+            assert_eq!(look_up(body, ty, literals, &[], &mut field), Err(Refusal::Limit));
+        }
+    }
+    assert_eq!(audit(&long[1..], TINYINT, &mut field), Err(Refusal::Version));
+    assert_eq!(field, [ANY]);
+}
+
+#[test]
 fn what_a_refusal_carries() {
     let refusals = [
         (Refusal::Short, 1, [0; 3]),

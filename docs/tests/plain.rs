@@ -15,9 +15,9 @@ use reference::types::{self, EQUAL, FIRST_EDITION, IN};
 use reference::writer::{body_traced, Column, Groups, Layout, Traced};
 
 const DEFAULT_SEED: u64 = 20_240_101;
-const DEFAULT_CASES: u64 = 150_000;
-/// The least number of calls that must have been given each answer, for every so many calls.
-const FEWEST_OF_EACH: u64 = 5;
+const DEFAULT_CASES: u64 = 400_000;
+/// Of so many calls at least so many must have been given each answer that the call can give.
+const FEWEST_OF_EACH: u64 = 100;
 const FEWEST_PER: u64 = 150_000;
 
 const ACCEPTED: u8 = 0;
