@@ -3,8 +3,8 @@
 //! Both are given the same bytes and a cleared field, one call at a time and in changing order, and the median of all times counts.
 //! Clearing the field is not timed. Before that, answers, counts and fields of both are compared.
 //!
-//! A second table has lookups in opened bodies, of many literals in turn, beside Ask's EQUAL of the same literals. A third has deletions read
-//! through windows.
+//! A second table has lookups in opened bodies, of many literals in turn, beside Ask's EQUAL of the same literals and beside the lookup of the
+//! plain Rust reader of `docs/src`, which the benchmark `plain` is about. A third has deletions read through windows.
 //!
 //! Each table is measured PODDURANCE_RUNS times, three unless that is set, and each line shows the run whose ratio is the median.
 //! Then calls on more and more rows are timed for the plot `docs/speed.svg`.
@@ -12,6 +12,7 @@
 //! Without cargo's `--bench`, as in `cargo test --benches`, or with PODDURANCE_QUICK set, inputs are smaller, each call is timed a few
 //! times only, in one run, and no plot is written, to see that everything runs.
 
+mod inputs;
 mod plot;
 #[path = "../examples/svg/mod.rs"]
 mod svg;
@@ -23,18 +24,20 @@ use std::path::Path;
 use std::slice;
 use std::time::{Duration, Instant};
 
+use inputs::{
+    at_random, bits, field_size, one_run, open_in_blocks, open_strings, pumps, scattered, shuffled_rows, Column, Opened,
+    COLUMNS_SEED, CONTAINER, EDITION, LITERALS, LOOK_UP_SEED,
+};
 use poddurance::raw;
 use reference::random::Random;
 use reference::reader;
 use reference::record::Record;
 use reference::types;
-use reference::writer::{bin_32, bin_64, body, file_of_bins, index_file, BitmapForm, ContainerForm, Groups, Layout};
+use reference::writer::{bin_32, bin_64, file_of_bins, index_file, BitmapForm, ContainerForm, Groups, Layout};
 use timing::{grouped, median_by, print_machine, shown, time, Effort, Patience};
 
-/// The rows of one Roaring container.
-const CONTAINER: u32 = 65_536;
-/// The most literals of a question.
-const LITERALS: usize = 1_024;
+/// How often the tables are measured unless PODDURANCE_RUNS says.
+const USUAL_RUNS: usize = 3;
 /// The entries of a block in version 2.
 const BLOCK: usize = 500;
 /// The kind of the indexes in a head.
@@ -69,7 +72,7 @@ const QUICK: Sizes =
     Sizes { one: 1_000, two: 1_000, numbers: 4_096, columns: 1_000, rows: 1_000_000, plotted: &[10_000, 100_000] };
 
 fn main() {
-    let Effort { quick, patience, runs } = Effort::asked();
+    let Effort { quick, patience, runs } = Effort::asked(USUAL_RUNS);
     let sizes = if quick { QUICK } else { FULL };
 
     print_machine(runs);
@@ -91,14 +94,14 @@ fn main() {
 
 /// Measures all lines in each run, and prints each in the last.
 fn table(sizes: &Sizes, patience: &Patience, runs: usize) {
-    let mut random = Random::new(1);
+    let mut random = Random::new(COLUMNS_SEED);
     let large = sizes.rows;
     let rows = format!("{} rows", grouped(large as usize));
     let of = |number: usize, what: &str| format!("{} {what}", grouped(number));
     let inputs = [
-        one_run().called("65,536 rows, one run"),
-        bits(&mut random).called("65,536 rows, bits"),
-        scattered(&mut random).called("65,536 rows, 4,000 scattered"),
+        Input::from(one_run()).called("65,536 rows, one run"),
+        Input::from(bits(&mut random)).called("65,536 rows, bits"),
+        Input::from(scattered(&mut random)).called("65,536 rows, 4,000 scattered"),
         spread(&mut random, types::STRING, pumps(sizes.two), 2).called(&of(sizes.two, "strings, version 2")),
         spread(&mut random, types::STRING, pumps(sizes.one), 1).called(&of(sizes.one, "strings, version 1")),
         spread(&mut random, types::INT, ints(sizes.one), 1).called(&of(sizes.one, "INT, version 1")),
@@ -156,8 +159,8 @@ fn against_rows(sizes: &Sizes, patience: &Patience) -> String {
         let lines: Vec<Line> = inputs.iter().map(call).collect();
         let points = lines.iter().map(|line| {
             line.compare();
-            let Times { library, reference, .. } = line.measure(patience);
-            plot::Point { rows: line.rows, library, reference }
+            let Times { library, other, .. } = line.measure(patience);
+            plot::Point { rows: line.rows, library, reference: other }
         });
         plot::Series { call: lines[0].call.name(), points: points.collect() }
     });
@@ -166,28 +169,23 @@ fn against_rows(sizes: &Sizes, patience: &Patience) -> String {
 
 // Inputs
 
-/// A body, what it is to be read with, and what is asked of it.
+/// A column, and what else is asked of it.
 struct Input {
     name: String,
-    body: Vec<u8>,
-    ty: u32,
-    rows: u32,
-    /// The literal of EQUAL.
-    one: Vec<u8>,
+    column: Column,
     /// The literals of IN, if it is asked.
     many: Option<Vec<u8>>,
     /// Whether the body is so large that copying it takes a time worth comparing with.
     large: bool,
 }
 
-impl Input {
-    /// The body of these groups, in which value number `asked` is looked for.
-    fn new(groups: &Groups, layout: &Layout, asked: usize) -> Input {
-        let one = types::literals(groups.ty, &[&groups.values[asked].0]);
-        let (name, many, large) = (String::new(), None, false);
-        Input { name, body: body(groups, layout), ty: groups.ty, rows: groups.rows, one, many, large }
+impl From<Column> for Input {
+    fn from(column: Column) -> Input {
+        Input { name: String::new(), column, many: None, large: false }
     }
+}
 
+impl Input {
     fn called(self, name: &str) -> Input {
         Input { name: name.to_string(), ..self }
     }
@@ -199,69 +197,26 @@ impl Input {
     }
 
     fn audit(&self) -> Line<'_> {
-        self.line(Call::Audit { body: &self.body, ty: self.ty })
+        self.line(Call::Audit { body: &self.column.body, ty: self.column.ty })
     }
 
     fn ask_equal(&self) -> Line<'_> {
-        self.ask(types::EQUAL, &self.one)
+        self.ask(types::EQUAL, &self.column.one)
     }
 
     fn ask<'a>(&'a self, question: u32, literals: &'a [u8]) -> Line<'a> {
-        self.line(Call::Ask { body: &self.body, ty: self.ty, question, literals })
+        self.line(Call::Ask { body: &self.column.body, ty: self.column.ty, question, literals })
     }
 
     fn line<'a>(&self, call: Call<'a>) -> Line<'a> {
-        Line { what: self.name.clone(), call, rows: self.rows, copied: self.large.then_some(self.body.len()) }
+        let Column { body, rows, .. } = &self.column;
+        Line { what: self.name.clone(), call, rows: *rows, copied: self.large.then_some(body.len()) }
     }
-}
-
-fn one_run() -> Input {
-    let values = vec![(b"running".to_vec(), (0..CONTAINER).collect())];
-    let groups = Groups { ty: types::STRING, rows: CONTAINER, nulls: Vec::new(), values };
-    let as_runs = BitmapForm::WithRuns(vec![ContainerForm::Runs { cuts: Vec::new() }]);
-    Input::new(&groups, &Layout::version(1).with_form(as_runs), 0)
-}
-
-fn bits(random: &mut Random) -> Input {
-    let (running, idle) = (0..CONTAINER).partition(|_| random.percent(50));
-    let values = vec![(b"idle".to_vec(), idle), (b"running".to_vec(), running)];
-    let groups = Groups { ty: types::STRING, rows: CONTAINER, nulls: Vec::new(), values };
-    Input::new(&groups, &Layout::version(1), 1)
-}
-
-fn scattered(random: &mut Random) -> Input {
-    let mut rows = shuffled_rows(random);
-    let mut nulls = rows.split_off(4_000);
-    rows.sort_unstable();
-    nulls.sort_unstable();
-    let groups = Groups { ty: types::STRING, rows: CONTAINER, nulls, values: vec![(b"fault".to_vec(), rows)] };
-    Input::new(&groups, &Layout::version(1), 0)
-}
-
-fn shuffled_rows(random: &mut Random) -> Vec<u32> {
-    let mut rows: Vec<u32> = (0..CONTAINER).collect();
-    random.shuffle(&mut rows);
-    rows
-}
-
-/// Names of pumps, rising.
-fn pumps(number: usize) -> Vec<Vec<u8>> {
-    (0..number).map(|i| format!("pump-{i:05}").into_bytes()).collect()
 }
 
 /// Numbers of type INT, rising.
 fn ints(number: usize) -> Vec<Vec<u8>> {
     (0..number as i32).map(|i| i.to_be_bytes().to_vec()).collect()
-}
-
-/// The rows of each value if each row has one of them at random.
-fn at_random(random: &mut Random, values: Vec<Vec<u8>>, rows: u32) -> Vec<(Vec<u8>, Vec<u32>)> {
-    let mut values: Vec<(Vec<u8>, Vec<u32>)> = values.into_iter().map(|value| (value, Vec::new())).collect();
-    for row in 0..rows {
-        let which = random.below(values.len());
-        values[which].1.push(row);
-    }
-    values
 }
 
 /// Values with few rows each; one of a single row has no bitmap.
@@ -271,21 +226,21 @@ fn spread(random: &mut Random, ty: u32, values: Vec<Vec<u8>>, version: u8) -> In
     let many = types::literals(ty, &many);
     let values = at_random(random, values, CONTAINER);
     let groups = Groups { ty, rows: CONTAINER, nulls: Vec::new(), values };
-    let input = Input::new(&groups, &Layout::version(version).with_blocks_of(BLOCK), number / 2);
-    Input { many: Some(many), ..input }
+    let column = Column::new(&groups, &Layout::version(version).with_blocks_of(BLOCK), number / 2);
+    Input { many: Some(many), ..column.into() }
 }
 
 /// As many values as rows, none of which has a bitmap.
 fn one_each(random: &mut Random) -> Input {
     let values = (0i64..).zip(shuffled_rows(random)).map(|(number, row)| (number.to_be_bytes().to_vec(), vec![row]));
     let groups = Groups { ty: types::BIGINT, rows: CONTAINER, nulls: Vec::new(), values: values.collect() };
-    Input::new(&groups, &Layout::version(2).with_blocks_of(BLOCK), CONTAINER as usize / 2)
+    Column::new(&groups, &Layout::version(2).with_blocks_of(BLOCK), CONTAINER as usize / 2).into()
 }
 
 fn many_rows(random: &mut Random, rows: u32) -> Input {
     let values = at_random(random, ints(100), rows);
     let groups = Groups { ty: types::INT, rows, nulls: Vec::new(), values };
-    Input { large: true, ..Input::new(&groups, &Layout::version(2), 42) }
+    Input { large: true, ..Column::new(&groups, &Layout::version(2), 42).into() }
 }
 
 /// A deletion file with one bin, and its rows as a field.
@@ -326,14 +281,7 @@ fn head(columns: usize) -> Vec<u8> {
     index_file(&indexes)
 }
 
-fn field_size(rows: u32) -> usize {
-    rows.div_ceil(8) as usize
-}
-
 // Calls
-
-/// The edition of every question. EQUAL and IN, which are measured, choose the same rows in both.
-const EDITION: u32 = types::SECOND_EDITION;
 
 /// A call that both readers are given.
 enum Call<'a> {
@@ -404,6 +352,15 @@ impl Call<'_> {
             Call::Subtract { second, rows, .. } => two(reader::subtract(field, second, rows.into())),
         }
     }
+
+    /// The plain reader's call, of those that it is measured with.
+    fn plain(&self, field: &mut [u8]) -> Answer {
+        let Call::LookUp { body, ty, literals, table } = *self else { unreachable!("all of them are lookups") };
+        match plain_reader::look_up(body, ty, literals, table, field) {
+            Ok((record, compared)) => (raw::ACCEPTED, [record.matched, record.rows, record.nulls, record.deleted], compared),
+            Err(refusal) => (refusal.number(), [0; 4], 0),
+        }
+    }
 }
 
 /// A line of the table: a call, how many rows its field is for, and how many bytes memcpy is given, if it is timed too.
@@ -417,18 +374,19 @@ struct Line<'a> {
 impl Line<'_> {
     /// Both readers accept, with the same counts, of which the first isn't 0.
     fn compare(&self) {
-        let (answer, _) = self.call.compare(self.rows);
+        let (answer, _) = self.call.compare(Call::reference, self.rows);
         assert_ne!(answer.1[0], 0, "{}: no row to count", self.call.name());
     }
 
     fn measure(&self, patience: &Patience) -> Times {
-        measure(slice::from_ref(&self.call), self.rows, self.copied, patience)
+        measure(slice::from_ref(&self.call), Call::reference, self.rows, self.copied, patience)
     }
 }
 
 impl Call<'_> {
-    /// Both readers accept, with the same counts, the same field and nothing written behind it. Their answer and the field.
-    fn compare(&self, rows: u32) -> (Answer, Vec<u8>) {
+    /// The library and the other reader accept, with the same counts, the same field and nothing written behind it. Their answer and the
+    /// field.
+    fn compare(&self, other: impl Fn(&Self, &mut [u8]) -> Answer, rows: u32) -> (Answer, Vec<u8>) {
         let size = field_size(rows);
         let lent = || {
             let mut buffer = vec![0xAA; size + 8];
@@ -438,7 +396,7 @@ impl Call<'_> {
             buffer
         };
         let (mut ours, mut theirs) = (lent(), lent());
-        let (answer, expected) = (self.library(&mut ours), self.reference(&mut theirs));
+        let (answer, expected) = (self.library(&mut ours), other(self, &mut theirs));
         assert_eq!(answer, expected, "{}: the answers differ", self.name());
         assert_eq!(answer.0, raw::ACCEPTED, "{}: refused", self.name());
         assert!(ours == theirs, "{}: the fields differ", self.name());
@@ -450,38 +408,21 @@ impl Call<'_> {
 
 // Lookups
 
-/// The bytes of a block's entries where blocks are cut by bytes.
-const BLOCK_BYTES: usize = 16 * 1_024;
-/// How many literals are looked up in turn: an odd number, so that each comes first with each reader.
-const LOOKED_UP: usize = 101;
-
-/// A body of version 2 that was opened, and what is looked up in it.
-struct Opened {
-    name: String,
-    blocks: &'static str,
-    body: Vec<u8>,
-    ty: u32,
-    rows: u32,
-    table: Vec<u32>,
-    /// Literals that are values, evenly spread over all, and literals that are not, each between two of them.
-    literals: [(&'static str, Vec<Vec<u8>>); 2],
-}
-
 /// Measures all lookups in each run, and prints them in the last.
 fn look_up_table(sizes: &Sizes, patience: &Patience, runs: usize) {
-    let mut random = Random::new(3);
-    let of = |number: usize, what: &str| format!("{} {what}", grouped(number));
-    let strings = at_random(&mut random, pumps(sizes.two), CONTAINER);
+    let mut random = Random::new(LOOK_UP_SEED);
+    let strings = open_strings(&mut random, sizes.two);
     // Even numbers, between which there are others.
     let numbers = (0..sizes.numbers as i64).map(|i| (2 * i).to_be_bytes().to_vec()).collect();
     let mut rows = shuffled_rows(&mut random).into_iter();
     let numbers: Vec<(Vec<u8>, Vec<u32>)> = in_turn(numbers, &mut rows);
-    let mut opened = open_in_blocks(&of(sizes.two, "strings"), types::STRING, strings, |value| [value, b"!"].concat());
-    opened.extend(open_in_blocks(&of(sizes.numbers, "BIGINT"), types::BIGINT, numbers, |value| {
+    let name = format!("{} BIGINT", grouped(sizes.numbers));
+    let numbers = open_in_blocks(&name, types::BIGINT, numbers, |value| {
         // The number behind an even one.
         let (last, others) = value.split_last().expect("8 bytes");
         [others, &[last + 1]].concat()
-    }));
+    });
+    let opened: Vec<Opened> = strings.into_iter().chain(numbers).collect();
 
     opened.iter().for_each(Opened::compare);
     let measured: Vec<LookUpTimes> = (0..runs).flat_map(|_| opened.iter().flat_map(|opened| opened.measure(patience))).collect();
@@ -489,7 +430,7 @@ fn look_up_table(sizes: &Sizes, patience: &Patience, runs: usize) {
         "input",
         "blocks",
         "literals",
-        ["Ask EQUAL", "look up", "reference", "ratio", "Ask/look up"].map(str::to_string),
+        ["Ask EQUAL", "look up", "plain Rust", "ratio", "Ask/look up"].map(str::to_string),
     );
     print_look_up("---", "---", "---", ["--:"; 5].map(str::to_string));
     let lines = opened.iter().flat_map(|opened| opened.literals.iter().map(move |(literals, _)| (opened, *literals)));
@@ -499,14 +440,14 @@ fn look_up_table(sizes: &Sizes, patience: &Patience, runs: usize) {
         let LookUpTimes { ask, times } = median_by(&of_line, |one| one.times.ratio());
         let faster = ask.as_secs_f64() / times.library.as_secs_f64();
         let numbers =
-            [shown(ask), shown(times.library), shown(times.reference), format!("{:.2}", times.ratio()), format!("{faster:.0}")];
+            [shown(ask), shown(times.library), shown(times.other), format!("{:.2}", times.ratio()), format!("{faster:.0}")];
         print_look_up(&opened.name, opened.blocks, literals, numbers);
     }
 }
 
 const LOOK_UP_LEGEND: &str = "
-Median times of look up in bodies of version 2 that were opened once, and of the library's Ask EQUAL with the same literals; reference: the same
-lookup in plain Rust. ratio: the library's lookup / the reference's. Ask/look up: how often a lookup fits into an Ask. 65,536 rows. strings: each
+Median times of look up in bodies of version 2 that were opened once, and of the library's Ask EQUAL with the same literals; plain Rust: the same
+lookup by the reader of docs/src. ratio: the library's lookup / this one. Ask/look up: how often a lookup fits into an Ask. 65,536 rows. strings: each
 row has one of so many names of 10 bytes at random. BIGINT: so many numbers in turn, of 65,536 each row its own, in no order. blocks: all entries
 in one; as many as fit into 16 KiB; one entry in each. literals: 101 in turn, evenly spread over the values, or each between two values.
 ";
@@ -524,30 +465,6 @@ fn in_turn(values: Vec<Vec<u8>>, rows: &mut dyn Iterator<Item = u32>) -> Vec<(Ve
     values
 }
 
-/// The values in bodies of one block, of blocks cut by bytes, and of a block for each entry. `behind` gives what stands between a value and
-/// the next.
-fn open_in_blocks(name: &str, ty: u32, values: Vec<(Vec<u8>, Vec<u32>)>, behind: fn(&[u8]) -> Vec<u8>) -> Vec<Opened> {
-    let groups = Groups { ty, rows: CONTAINER, nulls: Vec::new(), values };
-    let layouts = [
-        ("one", Layout::version(2)),
-        ("16 KiB", Layout::version(2).with_blocks_within(BLOCK_BYTES, &groups)),
-        ("one entry", Layout::version(2).with_blocks_of(1)),
-    ];
-    let number = groups.values.len();
-    let spread: Vec<&[u8]> = (0..LOOKED_UP).map(|i| &groups.values[i * number / LOOKED_UP].0[..]).collect();
-    let open = |(blocks, layout): (&'static str, Layout)| {
-        let present = spread.iter().map(|value| types::literals(ty, &[value])).collect();
-        let absent = spread.iter().map(|value| types::literals(ty, &[behind(value)])).collect();
-        let (body, mut table) = (body(&groups, &layout), vec![0; number]);
-        let (answer, _, words, _) = raw::open(&body, ty, &mut vec![0; field_size(CONTAINER)], &mut table);
-        assert_eq!(answer, raw::ACCEPTED, "Open: refused");
-        table.truncate(words as usize);
-        let literals = [("present", present), ("absent", absent)];
-        Opened { name: name.to_string(), blocks, body, ty, rows: CONTAINER, table, literals }
-    };
-    layouts.into_iter().map(open).collect()
-}
-
 impl Opened {
     fn look_ups<'a>(&'a self, literals: &'a [Vec<u8>]) -> Vec<Call<'a>> {
         let Opened { body, ty, table, .. } = self;
@@ -559,16 +476,27 @@ impl Opened {
         literals.iter().map(|literals| Call::Ask { body, ty: *ty, question: types::EQUAL, literals }).collect()
     }
 
-    /// Both readers open alike, and look up alike, as they answer EQUAL; what is present is found, and what is absent is not.
+    /// All readers open alike, and look up alike, as they answer EQUAL; what is present is found, and what is absent is not.
     fn compare(&self) {
         let (mut field, mut table) = (vec![0; field_size(self.rows)], vec![0; self.table.len()]);
         let blocks = self.table.len() as u64;
         assert_eq!(reader::open(&self.body, self.ty, &mut field, &mut table), (0, self.rows.into(), blocks, reader::NO_FAULT));
         assert!(table == self.table, "{} in {}: the tables differ", self.name, self.blocks);
+        table.fill(0);
+        let opened = plain_reader::open(&self.body, self.ty, &mut field, &mut table).ok();
+        assert_eq!(
+            opened,
+            Some((self.rows.into(), blocks)),
+            "{} in {}: the plain reader opens otherwise",
+            self.name,
+            self.blocks
+        );
+        assert!(table == self.table, "{} in {}: the plain reader's table differs", self.name, self.blocks);
         for (is_present, (_, literals)) in [true, false].into_iter().zip(&self.literals) {
             for (look_up, ask) in self.look_ups(literals).iter().zip(self.asks(literals)) {
-                let ((answer, counts, compared), field) = look_up.compare(self.rows);
-                let asked = ask.compare(self.rows);
+                let ((answer, counts, compared), field) = look_up.compare(Call::reference, self.rows);
+                look_up.compare(Call::plain, self.rows);
+                let asked = ask.compare(Call::reference, self.rows);
                 assert!(((answer, counts, 0), field) == asked, "{} in {}: Ask and Look up differ", self.name, self.blocks);
                 assert_eq!(counts[0] > 0, is_present, "{} in {}: rows found", self.name, self.blocks);
                 assert_ne!(compared, 0, "{} in {}: nothing compared", self.name, self.blocks);
@@ -580,7 +508,7 @@ impl Opened {
     fn measure(&self, patience: &Patience) -> [LookUpTimes; 2] {
         [0, 1].map(|i| {
             let (_, literals) = &self.literals[i];
-            let times = measure(&self.look_ups(literals), self.rows, None, patience);
+            let times = measure(&self.look_ups(literals), Call::plain, self.rows, None, patience);
             LookUpTimes { ask: measure_library(&self.asks(literals), self.rows, patience), times }
         })
     }
@@ -644,21 +572,28 @@ runs: runs of 1 to 100 rows, with gaps of 1 to 200.
 #[derive(Clone, Copy)]
 struct Times {
     library: Duration,
-    reference: Duration,
+    /// Of the reader beside it.
+    other: Duration,
     memcpy: Option<Duration>,
 }
 
 impl Times {
     fn ratio(&self) -> f64 {
-        self.library.as_secs_f64() / self.reference.as_secs_f64()
+        self.library.as_secs_f64() / self.other.as_secs_f64()
     }
 }
 
-/// Times the calls in turn.
-fn measure(calls: &[Call], rows: u32, copied: Option<usize>, patience: &Patience) -> Times {
+/// Times the calls of the library and of the other reader in turn.
+fn measure<'a>(
+    calls: &[Call<'a>],
+    other: impl Fn(&Call<'a>, &mut [u8]) -> Answer,
+    rows: u32,
+    copied: Option<usize>,
+    patience: &Patience,
+) -> Times {
     let (mut ours, mut theirs) = (vec![0; field_size(rows)], vec![0; field_size(rows)]);
     let mut copy = copied.map(|bytes| (vec![1u8; bytes], vec![0u8; bytes]));
-    let (mut library, mut reference, mut memcpy) = (Vec::new(), Vec::new(), Vec::new());
+    let (mut library, mut others, mut memcpy) = (Vec::new(), Vec::new(), Vec::new());
 
     let started = Instant::now();
     while patience.lasts(library.len(), started) {
@@ -671,14 +606,14 @@ fn measure(calls: &[Call], rows: u32, copied: Option<usize>, patience: &Patience
                 library.push(time(|| call.library(black_box(&mut ours))));
             } else {
                 call.ready(&mut theirs);
-                reference.push(time(|| call.reference(black_box(&mut theirs))));
+                others.push(time(|| other(call, black_box(&mut theirs))));
             }
         }
         if let Some((from, to)) = &mut copy {
             memcpy.push(time(|| black_box(&mut to[..]).copy_from_slice(black_box(from))));
         }
     }
-    Times { library: median(library), reference: median(reference), memcpy: copied.map(|_| median(memcpy)) }
+    Times { library: median(library), other: median(others), memcpy: copied.map(|_| median(memcpy)) }
 }
 
 /// Times the library's calls in turn.
@@ -703,10 +638,10 @@ fn median(mut times: Vec<Duration>) -> Duration {
 
 /// What a line shows of its times.
 fn cells(times: Times) -> [String; 5] {
-    let Times { library, reference, memcpy } = times;
+    let Times { library, other, memcpy } = times;
     let share = |one: Duration| memcpy.map(|memcpy| format!("{:.1} %", 100.0 * memcpy.as_secs_f64() / one.as_secs_f64()));
-    let [of_library, of_reference] = [library, reference].map(|one| share(one).unwrap_or_default());
-    [shown(library), shown(reference), format!("{:.2}", times.ratio()), of_library, of_reference]
+    let [of_library, of_other] = [library, other].map(|one| share(one).unwrap_or_default());
+    [shown(library), shown(other), format!("{:.2}", times.ratio()), of_library, of_other]
 }
 
 fn print_cells(what: &str, call: &str, numbers: [String; 5]) {
@@ -715,10 +650,8 @@ fn print_cells(what: &str, call: &str, numbers: [String; 5]) {
 }
 
 fn print_look_up(what: &str, blocks: &str, literals: &str, numbers: [String; 5]) {
-    let [ask, library, reference, ratio, faster] = numbers;
-    println!(
-        "| {what:<14} | {blocks:<9} | {literals:<8} | {ask:>9} | {library:>9} | {reference:>9} | {ratio:>5} | {faster:>11} |"
-    );
+    let [ask, library, plain, ratio, faster] = numbers;
+    println!("| {what:<14} | {blocks:<9} | {literals:<8} | {ask:>9} | {library:>9} | {plain:>10} | {ratio:>5} | {faster:>11} |");
 }
 
 fn print_window(what: &str, window: &str, numbers: [String; 5]) {

@@ -12,16 +12,17 @@ pub struct Effort {
     /// Only to see that everything runs: without cargo's `--bench`, as in `cargo test --benches`, or with PODDURANCE_QUICK set.
     pub quick: bool,
     pub patience: Patience,
-    /// How often the whole table is measured: PODDURANCE_RUNS times, three unless that is set, one if quick.
+    /// How often the whole table is measured: PODDURANCE_RUNS times if that is set.
     pub runs: usize,
 }
 
 impl Effort {
-    pub fn asked() -> Effort {
+    /// With so many runs unless PODDURANCE_RUNS is set; one if quick.
+    pub fn asked(usual_runs: usize) -> Effort {
         let quick = !env::args().any(|word| word == "--bench") || env::var_os("PODDURANCE_QUICK").is_some();
         let (patience, usual_runs) = match quick {
             true => (Patience { least: 3, most: 3, time: Duration::ZERO }, 1),
-            false => (Patience { least: 15, most: 10_001, time: Duration::from_secs(2) }, 3),
+            false => (Patience { least: 15, most: 10_001, time: Duration::from_secs(2) }, usual_runs),
         };
         let runs = match env::var("PODDURANCE_RUNS") {
             Ok(runs) => runs.parse().ok().filter(|runs| *runs > 0).expect("PODDURANCE_RUNS is a number of runs"),

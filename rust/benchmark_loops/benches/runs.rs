@@ -25,6 +25,8 @@ use reference::random::Random;
 use reference::writer::{bitmap, deletion_file, BitmapForm, ContainerForm};
 use timing::{grouped, median_by, print_machine, shown, time, Effort, Patience};
 
+/// How often the table is measured unless PODDURANCE_RUNS says.
+const USUAL_RUNS: usize = 3;
 /// The rows of one Roaring container, for which each field is.
 const ROWS: u64 = 65_536;
 const FIELD_BYTES: usize = ROWS as usize / 8;
@@ -37,7 +39,7 @@ const SHORT_RUNS: usize = 1_000;
 const SHORT: usize = 20;
 
 fn main() -> ExitCode {
-    let Effort { quick, patience, runs: repeats } = Effort::asked();
+    let Effort { quick, patience, runs: repeats } = Effort::asked(USUAL_RUNS);
     let mut random = Random::new(1);
     let long = Line::new(format!("{} rows", grouped(ROWS as usize)), once(0..ROWS));
     let (first, end) = (LEFT_OUT, ROWS - LEFT_OUT);
