@@ -8,7 +8,7 @@
 //! Before that both readers and the reference reader are compared: answers, counts, faults, fields and tables, and what lies behind these.
 //!
 //! The table is measured PODDURANCE_RUNS times, five unless that is set. Each line shows the run whose ratio is the median, and the least and
-//! the greatest ratio of all runs. If a line's median is above the limit, an error behind the table names it.
+//! the greatest ratio of all runs. If the median of a line that Ticket 12 names is above the limit, an error behind the table names it.
 //!
 //! Without cargo's `--bench`, as in `cargo test --bench plain`, or with PODDURANCE_QUICK set, there are fewer strings, each call is timed a
 //! few times only, in one run, and no ratio is an error.
@@ -36,7 +36,7 @@ use reference::reader;
 use reference::types;
 use timing::{grouped, median_by, print_machine, shown, time, Effort, Patience};
 
-/// What Ticket 12 asks for: at most so many times the plain reader's time, in each line.
+/// What Ticket 12 asks for: at most so many times the plain reader's time, in each line that it names.
 const LIMIT: f64 = 1.5;
 /// What is aimed at. A line above it is marked, and is no error.
 const AIM: f64 = 1.0;
@@ -88,7 +88,7 @@ fn measure_all() -> ExitCode {
     // A ratio that isn't above 0 is no measurement.
     let is_slow = |ratio: f64| !(ratio > 0.0 && ratio <= LIMIT);
     let ratios = measured.iter().map(|times| median_by(times, Times::ratio).ratio());
-    let slow: Vec<(&Line, f64)> = lines.iter().zip(ratios).filter(|(_, ratio)| is_slow(*ratio)).collect();
+    let slow: Vec<(&Line, f64)> = lines.iter().zip(ratios).filter(|(line, ratio)| line.named && is_slow(*ratio)).collect();
     if quick || slow.is_empty() {
         return ExitCode::SUCCESS;
     }
@@ -101,7 +101,8 @@ fn measure_all() -> ExitCode {
 const LEGEND: &str = "
 Median times less that of timing nothing, calls of both in turn on the same field, which is dirty before and cleared by each call. ratio: the
 library's time / the plain reader's; each line shows the run whose ratio is the median, and the least and the greatest ratio of all runs.
-above: 1.0, which is aimed at, or 1.5, the limit, if the ratio is above that. The limit is for all lines; Ticket 12 names the first seven.
+above: 1.0, which is aimed at, or 1.5, if the ratio is above that. 1.5 is the limit of the seven lines that Ticket 12 names; the others are shown
+beside them.
 All have 65,536 rows. one run: all rows have one value. bits: each row has one of two values at random. 4,000 scattered: these rows at random
 have a value, in an array, the others are null, in bits. Ask EQUAL has one literal, a value of the column; Ask IN so many, this one and others
 that no row has. strings: version 2, each row has one of so many names of 10 bytes at random, as many in a block as fit into 16 KiB, or all in
