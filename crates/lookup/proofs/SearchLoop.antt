@@ -1,19 +1,19 @@
 -- A block, by the code's steps: what is left of its entries gives the whole.
 use Prim.Native.Nat.{ℕ, suc, _+_, _-_, _≤_, _<_}
-use mathlib.Core.Path.{_≡_, _∙_}
+use mathlib.Core.Path.{_≡_, sym, _∙_}
 use mathlib.Core.Bool.{true, false, _&&_, cond}
 use mathlib.Core.List.{List, [], _∷_}
 use native.Mathlib.Decide.{decLt}
 use native.Mathlib.Omega.{arith}
 use lib.Dec.{ltb, leb}
 use lib.IntN.{ℤ}
-use lib.ListN.{length, take, drop}
-use lib.Seq.{drop-drop}
+use lib.ListN.{length, take, drop, length-drop}
+use lib.Seq.{drop-drop, length-take-le}
 use mir.Syntax.{w32}
 use mir.Val.{toZ, ofZ}
 use borrow.Author.Tests.{eq-eqb, ne-eqb, le-leb, lt-leb, lt-ltb, le-ltb}
 use Rattle.numbers.specs.Meaning.{big, number, beAt, same, signBit}
-use Rattle.numbers.proofs.SameBytes.{same→eq}
+use Rattle.numbers.proofs.SameBytes.{same→eq, same-other}
 use Rattle.refusal.specs.declared.Refusal.{Refusal}
 use Rattle.refusal.specs.declared.Refusal.the-variants.{Short, Dict}
 use Rattle.refusal.specs.Reading.{refuse, ok, check}
@@ -85,6 +85,12 @@ module _ {t : ℕ} {literal : List ℕ} {n : ℕ} {s : List ℕ} {at i p : ℕ} 
 
         pub searching-next : same v literal ≡ false → Searching t literal n s at (i + 1) (e + 8)
         searching-next q = record { some = omega arith; inside = l; whole = read ∙ rw q }
+
+        -- a value of another length than the literal's is another value
+        pub searching-other : (e - p ≡ length literal → ⊥) → Searching t literal n s at (i + 1) (e + 8)
+        searching-other q =
+            let k : length v ≡ e - p = length-take-le (e - p) (drop p s) (rw (length-drop p s) (omega arith)) in
+            searching-next (same-other v literal (λ h. q (sym k ∙ h)))
 
 -- ---- the block's number
 

@@ -219,15 +219,20 @@ fn search_entries(body: &[u8], t: u32, literal: &[u8], n: u64, at: Position) -> 
                     return Search::Refused(Refusal::Short);
                 }
                 i = i + 1;
-                if numbers::same(&body[p..e], literal) {
-                    return Search::Done(Found {
-                        hit: true,
-                        offset: dictionary::offset_at(body, end),
-                        extent: numbers::be32(body, Position(e + WORD)),
-                        compared: i,
-                    });
+                if e - p == literal.len() {
+                    if numbers::same(&body[p..e], literal) {
+                        return Search::Done(Found {
+                            hit: true,
+                            offset: dictionary::offset_at(body, end),
+                            extent: numbers::be32(body, Position(e + WORD)),
+                            compared: i,
+                        });
+                    }
+                    // The same position as below: here the next entry doesn't wait until this one's length is read.
+                    p = p + literal.len() + TWO_WORDS;
+                } else {
+                    p = e + TWO_WORDS;
                 }
-                p = e + TWO_WORDS;
             }
         }
     }
