@@ -1,5 +1,5 @@
 //! Each call made of the library and of the reference reader, the answers compared: number, counts or record, fault, and what is left in
-//! lent memory.
+//! lent memory. The plain reader's are held against them too, where it has the call.
 
 // Each test file takes what it needs.
 #![allow(dead_code)]
@@ -7,6 +7,7 @@
 pub mod kinds;
 pub mod lookups;
 pub mod names;
+mod plain;
 pub mod windows;
 
 use kinds::{Kinds, Subtracted};
@@ -160,6 +161,7 @@ impl Comparison {
             ];
             self.fail("Audit", &inputs, &format!("type {ty}: library {found:?}, reference reader {expected:?}"));
         }
+        self.plain_audits(body, ty, field, expected, &expected_field);
         self.tally.add(AUDIT, found.0);
         (found.0, found.1, expected_field, found.2)
     }
@@ -183,6 +185,7 @@ impl Comparison {
             let answers = format!("{asked}: library {found:?}, reference reader {expected:?}");
             self.fail("Ask", &inputs, &answers);
         }
+        self.plain_asks(body, ty, edition, question, literals, field, expected, &expected_field);
         self.tally.add(ASK, found.0);
         if found.0 == ACCEPTED {
             self.kinds.add_asked(&kinds::Asked { edition, question, record: found.1 });
@@ -246,6 +249,7 @@ impl Comparison {
             ];
             self.fail("Open", &inputs, &format!("type {ty}: library {found:?}, reference reader {expected:?}"));
         }
+        self.plain_opens(body, ty, (field, table), expected, (&expected_field, &expected_table));
         let (answer, rows, blocks, fault) = found;
         self.tally.add(OPEN, answer);
         Opened { answer, rows, blocks, fault, field: expected_field, table: expected_table }
@@ -286,6 +290,7 @@ impl Comparison {
             let answers = format!("{asked}: library {found:?}, reference reader {expected:?}{broken}");
             self.fail("Look up", &inputs, &answers);
         }
+        self.plain_looks_up(body, ty, edition, literals, table, field, expected, &expected_field);
         self.tally.add(LOOK_UP, answer);
         self.kinds.add_looked_up(&looked_up);
         ((answer, record, expected_field, fault), compared)
