@@ -285,7 +285,7 @@ pub fn literals(s: &[u8], t: u32) -> Counted
     Counted::Count(i)
 }
 
-// Whether v is one of the literals of type t, which were accepted: compared with each. Where there are few, that takes less than entering them in a table.
+// Whether v is one of the literals of type t, which were accepted: it is compared with each. For few values that takes less time than a hash table.
 pub fn listed(literals: &[u8], t: u32, v: &[u8]) -> bool
     requires { ⌜ Accepted t (now literals) ⌝ }
     ensures { λ r. ⌜ Lists t (now (literals .entry)) (now (v .entry)) r ⌝ }
