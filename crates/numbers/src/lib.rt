@@ -122,12 +122,15 @@ fn same_bytes(a: &[u8], b: &[u8]) -> bool
     true
 }
 
-// The last word may overlap the one before, here and in `same_halves`.
+// The last word may overlap the one before, here and in `same_halves`. Here it is compared first: names often differ in their last bytes alone.
 fn same_words(a: &[u8], b: &[u8]) -> bool
     requires { ⌜ (length (now a) ≡ length (now b)) × (8 ≤ length (now a)) ⌝ }
     ensures { λ r. ⌜ r ≡ meaning.same (now (a .entry)) (now (b .entry)) ⌝ }
 {
     let last = a.len() - WORD;
+    if le64(a, Position(last)) != le64(b, Position(last)) {
+        return false;
+    }
     let mut i = 0;
     while i < last {
         if le64(a, Position(i)) != le64(b, Position(i)) {
@@ -135,7 +138,7 @@ fn same_words(a: &[u8], b: &[u8]) -> bool
         }
         i += WORD;
     }
-    le64(a, Position(last)) == le64(b, Position(last))
+    true
 }
 
 fn same_halves(a: &[u8], b: &[u8]) -> bool
