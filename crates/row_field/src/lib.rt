@@ -68,13 +68,17 @@ pub fn test(field: &[u8], row: Row) -> bool
     bit_at(field, row.0)
 }
 
+// The weights of a byte's bits. A shift of a byte makes each wait for the one before; what is read from here doesn't.
+pub const WEIGHTS: [u8; 8] = [1, 2, 4, 8, 16, 32, 64, 128];
+
 // Sets a row whose byte is there, and answers its weight if it was set already, else 0: what many calls answer is gathered by `|`, without a test of each.
-pub fn mark_within(field: &mut [u8], row: Row) -> u8
-    requires { ⌜ row .0 / 8 < length (now field) ⌝ }
+// The table is lent, so that a loop looks it up where it stands.
+pub fn mark_within(field: &mut [u8], row: Row, weights: &[u8; 8]) -> u8
+    requires { ⌜ (row .0 / 8 < length (now field)) × (now weights ≡ meaning.weights) ⌝ }
     ensures { λ r. ⌜ (not (eqb r 0) ≡ bit (now (field .entry)) (row .0)) × (now (field .exit) ≡ meaning.mark (now (field .entry)) (row .0)) ⌝ }
 {
     let at = (row.0 / 8) as usize;
-    let weight = 1u8 << (row.0 % 8);
+    let weight = weights[(row.0 % 8) as usize];
     let old = field[at];
     field[at] = old | weight;
     old & weight
@@ -85,7 +89,8 @@ pub fn mark(field: &mut [u8], row: Row) -> bool
     ensures { λ r. ⌜ (r ≡ bit (now (field .entry)) (row .0)) × (now (field .exit) ≡ meaning.mark (now (field .entry)) (row .0)) ⌝ }
 {
     if row.0 / 8 < field.len() as u64 {
-        return mark_within(field, row) != 0;
+        let weights = WEIGHTS;
+        return mark_within(field, row, &weights) != 0;
     }
     false
 }
