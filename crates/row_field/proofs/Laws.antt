@@ -13,10 +13,11 @@ use lib.ListN.{length, getD, set, replicate, length-set, List·getD-eq-default}
 use lib.Seq.{ext-getD, getD-set-same, getD-set-other, set-out}
 use lib.Pow.{pow-pos, pow-lt, pow-add, shl-shr, shr-shr}
 use lib.Bits.{bitOr, bitAnd, or-shr, or-step, or-lt, or-add-and, and-high, and-le-r}
-use borrow.Author.Tests.{ne-eqb}
+use borrow.Author.Tests.{ne-eqb, eqb-true}
 use Rattle.numbers.specs.Meaning.{Bytes}
 use Rattle.numbers.proofs.ByteLists.{bytes-set}
-use Rattle.row_field.specs.Meaning.{bit, mark}
+use Rattle.numbers.proofs.Tables.{at-place}
+use Rattle.row_field.specs.Meaning.{weights, bit, mark}
 
 -- the binary digit of b of weight 2 ^ k
 abbrev pub digit : ℕ → ℕ → ℕ
@@ -96,14 +97,23 @@ weight r =
     let m : r % 8 < 8 = omega arith in
     rw one-mul (mod-eq-of-lt (pow-lt m))
 
+-- and its weight in the table
+weight-at : (r : ℕ) → getD weights (r % 8) 0 ≡ 2 ^ (r % 8)
+weight-at r = eqb-true _ _ (at-place (λ (i x : ℕ). eqb x (2 ^ i)) weights refl (r % 8) (omega arith))
+
 -- what the code computes of a row, said by the definitions
 pub mark-answer : (s : List ℕ) (r : ℕ) → not (eqb (bitAnd (getD s (r / 8) 0) (1 * 2 ^ (r % 8) % 256)) 0) ≡ bit s r
 unfolding bit
 mark-answer s r = rw (weight r) (and-test (getD s (r / 8) 0) (r % 8))
 
-pub mark-store : (s : List ℕ) (r : ℕ) → set s (r / 8) (bitOr (getD s (r / 8) 0) (1 * 2 ^ (r % 8) % 256)) ≡ mark s r
-unfolding mark
-mark-store s r = rw (weight r)
+module _ (s : List ℕ) (r : ℕ) {table : List ℕ} (e : table ≡ weights) where
+  pub within-answer : not (eqb (bitAnd (getD s (r / 8) 0) (getD table (r % 8) 0)) 0) ≡ bit s r
+  unfolding bit
+  within-answer = rw (e, weight-at r) (and-test (getD s (r / 8) 0) (r % 8))
+
+  pub within-store : set s (r / 8) (bitOr (getD s (r / 8) 0) (getD table (r % 8) 0)) ≡ mark s r
+  unfolding mark
+  within-store = rw (e, weight-at r)
 
 -- of answers that are gathered by `or` one is not 0 exactly if what they come to is not
 pub or-some : (a b : ℕ) → not (eqb (bitOr a b) 0) ≡ not (eqb a 0) || not (eqb b 0)

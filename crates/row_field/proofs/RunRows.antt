@@ -3,18 +3,18 @@ use Prim.Native.Nat.{ℕ, zero, suc, _+_, _-_, _*_, _/_, _%_, _^_, _<_, _≤_, m
 use mathlib.Core.Path.{_≡_, refl, sym, _∙_, subst}
 use mathlib.Core.Bool.{Bool, false}
 use mathlib.Core.List.{List, [], _++_}
-use native.Mathlib.Nat.{pow-suc, zero-add, add-zero, suc-add, mul-one, sub-zero}
+use native.Mathlib.Nat.{pow-suc, zero-add, add-zero, suc-add, mul-one, sub-zero, mod-eq-of-lt}
 use native.Mathlib.Decide.{decLe}
 use native.Mathlib.Omega.{arith}
-use lib.ListN.{length}
+use lib.ListN.{length, getD, set}
 use lib.Pow.{pow-pos, high-ones}
-use lib.Bits.{shifted-half, shifted-even}
+use lib.Bits.{bitOr, shifted-half, shifted-even, or-add-and, and-mask}
 use Rattle.row_field.specs.Meaning.{markAll, anySet, upTo}
 use Rattle.row_field.specs.Promises.{byteRows, MarkedRows, MarkedInTurn}
 use Rattle.row_field.proofs.RowLists.{upTo-rising, upTo-append}
-use Rattle.row_field.proofs.Marks.{Past, rising-past, anySet-past, markAll-past}
+use Rattle.row_field.proofs.Marks.{Past, markAll-append, rising-past, anySet-past, markAll-past}
 use Rattle.row_field.proofs.Loops.{at-once}
-use Rattle.row_field.proofs.ByteRows.{byteRows-odd, byteRows-even, byteRows-rising}
+use Rattle.row_field.proofs.ByteRows.{byteRows-odd, byteRows-even, byteRows-rising, byte-marked}
 
 -- ---- the rows of bits in a row
 
@@ -81,6 +81,16 @@ bytes-left f to i h (no l) =
 pub bytes-done : (f : List ℕ) (to i : ℕ) → min (length f) to ≤ i → Past f (upTo (i * 8) ((to - i) * 8))
 bytes-done f to i h = bytes-left f to i h (decLe (length f) i)
 
+-- a byte that is filled has all its rows marked, whatever it was
+or-full : (x : ℕ) → x < 256 → bitOr x 255 ≡ 255
+or-full x h = omega (arith, or-add-and x 255, and-mask x 8, mod-eq-of-lt h)
+
+pub fill-next : (f : List ℕ) (to i : ℕ) → i < to → i < length f → getD f i 0 < 256
+    → markAll (set f i 255) (upTo ((i + 1) * 8) ((to - (i + 1)) * 8)) ≡ markAll f (upTo (i * 8) ((to - i) * 8))
+fill-next f to i h l b =
+    let m : set f i 255 ≡ markAll f (byteRows 255 (i * 8) 8) = rw (or-full (getD f i 0) b) at (byte-marked f i 255 l (omega arith) .marked) in
+    rw (bytes-next to i h, markAll-append f (byteRows 255 (i * 8) 8) (upTo ((i + 1) * 8) ((to - (i + 1)) * 8)), m)
+
 -- ---- a run: within one byte, or in a first byte, whole bytes and a last byte
 
 abbrev pub run : ℕ → ℕ → List ℕ
@@ -112,6 +122,11 @@ module _ (a z : ℕ) (h : a ≤ z) where
       let p : a + (8 - a % 8) ≡ (a / 8 + 1) * 8 = omega arith in
       let q : (a / 8 + 1) * 8 + m ≡ z / 8 * 8 = omega arith in
       rw (b, e, k, upTo-append a (8 - a % 8) (m + (z % 8 + 1)), p, upTo-append ((a / 8 + 1) * 8) m (z % 8 + 1), q)
+
+  -- where the first byte and the whole bytes are marked the last byte is to come
+  pub last-left : a / 8 < z / 8 → (f g m : List ℕ) → g ≡ markAll f (head a) → m ≡ markAll g (middle a z) → markAll m (tail z) ≡ markAll f (run a z)
+  last-left l f g m first whole =
+      rw (whole, first, run-parts l, markAll-append f (head a) (middle a z ++ tail z), markAll-append (markAll f (head a)) (middle a z) (tail z))
 
 -- ---- what the code computes of a run, said by the definitions
 

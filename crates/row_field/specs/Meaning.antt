@@ -11,6 +11,10 @@ use Rattle.numbers.specs.Meaning.{All}
 abbrev pub size : ℕ → ℕ
 size n = (n + 7) / 8
 
+-- the weight of each bit of a byte
+abbrev pub weights : List ℕ
+weights = 1 ∷ 2 ∷ 4 ∷ 8 ∷ 16 ∷ 32 ∷ 64 ∷ 128 ∷ []
+
 -- whether row r is set; a row past the end is not
 unfoldable pub bit : List ℕ → ℕ → Bool
 bit f r = eqb (getD f (r / 8) 0 / 2 ^ (r % 8) % 2) 1

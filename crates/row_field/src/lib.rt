@@ -4,7 +4,7 @@ ghost use Prim.Native.Nat.{ℕ, _+_, _-_, _*_, _/_, _%_, _^_, _<_, _≤_, min};
 ghost use mathlib.Core.Bool.{true, not};
 ghost use lib.Dec.{leb, eqb};
 ghost use lib.ListN.{length};
-ghost use Rattle.row_field.specs.Meaning.{size, bit, cleared, upTo, rowsOf, firstClear};
+ghost use Rattle.row_field.specs.Meaning.{size, bit, markAll, cleared, upTo, rowsOf, firstClear};
 ghost use Rattle.row_field.specs.Meaning as meaning;
 ghost use Rattle.row_field.specs.Promises.{byteRows, MarkedRows, MarkedInTurn};
 use numbers::Position;
@@ -68,13 +68,17 @@ pub fn test(field: &[u8], row: Row) -> bool
     bit_at(field, row.0)
 }
 
+// The weights of a byte's bits. A shift of a byte makes each wait for the one before; what is read from here doesn't.
+pub const WEIGHTS: [u8; 8] = [1, 2, 4, 8, 16, 32, 64, 128];
+
 // Sets a row whose byte is there, and answers its weight if it was set already, else 0: what many calls answer is gathered by `|`, without a test of each.
-pub fn mark_within(field: &mut [u8], row: Row) -> u8
-    requires { ⌜ row .0 / 8 < length (now field) ⌝ }
+// The table is lent, so that a loop looks it up where it stands.
+pub fn mark_within(field: &mut [u8], row: Row, weights: &[u8; 8]) -> u8
+    requires { ⌜ (row .0 / 8 < length (now field)) × (now weights ≡ meaning.weights) ⌝ }
     ensures { λ r. ⌜ (not (eqb r 0) ≡ bit (now (field .entry)) (row .0)) × (now (field .exit) ≡ meaning.mark (now (field .entry)) (row .0)) ⌝ }
 {
     let at = (row.0 / 8) as usize;
-    let weight = 1u8 << (row.0 % 8);
+    let weight = weights[(row.0 % 8) as usize];
     let old = field[at];
     field[at] = old | weight;
     old & weight
@@ -85,7 +89,8 @@ pub fn mark(field: &mut [u8], row: Row) -> bool
     ensures { λ r. ⌜ (r ≡ bit (now (field .entry)) (row .0)) × (now (field .exit) ≡ meaning.mark (now (field .entry)) (row .0)) ⌝ }
 {
     if row.0 / 8 < field.len() as u64 {
-        return mark_within(field, row) != 0;
+        let weights = WEIGHTS;
+        return mark_within(field, row, &weights) != 0;
     }
     false
 }
@@ -162,6 +167,45 @@ pub fn mark_run(field: &mut [u8], first: Row, last: Row) -> bool
     }
     let tail = mark_byte(field, Position(to), bits_between(0, z % 8));
     head | middle | tail
+}
+
+// Sets all rows of the bytes from `from` up to `to`, as far as the field goes, without reading them.
+fn fill_bytes(field: &mut [u8], from: Position, to: Position)
+    ensures { λ _. ⌜ now (field .exit) ≡ markAll (now (field .entry)) (upTo (from .0 * 8) ((to .0 - from .0) * 8)) ⌝ }
+{
+    let stop = to.0;
+    let end = smaller(field.len() as u64, stop as u64) as usize;
+    let mut i = from.0;
+    while i < end {
+        field[i] = 255;
+        i += 1;
+    }
+}
+
+// Sets the rows from `first` to `last` as `mark_run` does, but tells nothing of them, and so reads no whole byte.
+pub fn set_run(field: &mut [u8], first: Row, last: Row)
+    ensures { λ _. ⌜ now (field .exit) ≡ markAll (now (field .entry)) (upTo (first .0) (last .0 + 1 - first .0)) ⌝ }
+{
+    let a = first.0;
+    let z = last.0;
+    if z < a {
+        return;
+    }
+    let from = (a / 8) as usize;
+    let to = (z / 8) as usize;
+    if field.len() <= from {
+        return;
+    }
+    if from == to {
+        let _ = mark_byte(field, Position(from), bits_between(a % 8, z % 8));
+        return;
+    }
+    let _ = mark_byte(field, Position(from), bits_between(a % 8, 7));
+    fill_bytes(field, Position(from + 1), Position(to));
+    if field.len() <= to {
+        return;
+    }
+    let _ = mark_byte(field, Position(to), bits_between(0, z % 8));
 }
 
 // How many rows of the first `words` words of 8 bytes are set, by the count of ones of each.
