@@ -55,6 +55,9 @@ const FEW_LITERAL_BYTES: usize = 256;
 
 const FEW_VALUES: u64 = 8;
 
+// Nor do they with up to so many values, whatever the literals: entering these takes longer than comparing each value with them.
+const VERY_FEW_VALUES: u64 = 2;
+
 // The number of null's entry, and that of the first value's (document 02, Ticket 2).
 const NULL_NUMBER: u64 = 0;
 
@@ -439,7 +442,7 @@ fn mark_at(field: &mut [u8], region: &[u8], offset: i32, rows: u64)
         return;
     }
     let start = offset as usize;
-    let _ = roaring_mark::mark(field, &region[start..], rows);
+    roaring_mark::set(field, &region[start..], rows);
 }
 
 // Marks the rows of an entry, if the question chooses its value.
@@ -541,8 +544,11 @@ fn mark_listed(
     mark_chosen(field, body, summary, t, question, literals, &table);
 }
 
-// Whether values and literals are few.
+// Whether values are very few, or both values and literals few.
 fn few(summary: Summary, literals: &[u8]) -> bool {
+    if summary.values <= VERY_FEW_VALUES {
+        return true;
+    }
     if FEW_VALUES < summary.values {
         return false;
     }
