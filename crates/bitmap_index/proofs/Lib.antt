@@ -20,6 +20,7 @@ pub mod PlacingEntries
 pub mod Marking
 pub mod NullRows
 pub mod Auditing
+pub mod QuickAudit
 pub mod Choosing
 pub mod Answering
 pub mod Asking

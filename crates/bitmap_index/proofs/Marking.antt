@@ -13,7 +13,6 @@ use mir.Val.{SFits, toZ, ofZ}
 use Rattle.numbers.specs.Meaning.{All, number}
 use Rattle.refusal.proofs.Laws.{not-ok}
 use Rattle.row_field.specs.Meaning.{mark, markAll}
-use Rattle.row_field.specs.Promises.{MarkedRows}
 use Rattle.roaring.specs.Reading.{read, rowsRead}
 use Rattle.roaring.specs.Promises.{SoundBelow}
 use Rattle.stored_value.specs.Meaning.{null}
@@ -57,10 +56,9 @@ module _ (z : ℤ) (n : ℕ) (region f : List ℕ) (k : SFits w32 z) where
     pub there-inside : natAbs (toZ w32 (ofZ w32 z)) ≤ length region
     there-inside = sound-inside n (natAbs (toZ w32 (ofZ w32 z))) region sound-there
 
-    pub as-bitmap : {after : List ℕ} {seen : Bool} → MarkedRows f after (rowsRead (read (drop (natAbs (toZ w32 (ofZ w32 z))) region))) seen
-        → after ≡ markAll f (rowsFor z region)
+    pub as-bitmap : {after : List ℕ} → after ≡ markAll f (rowsRead (read (drop (natAbs (toZ w32 (ofZ w32 z))) region))) → after ≡ markAll f (rowsFor z region)
     unfolding rowsFor
-    as-bitmap m = rw (at z k t .so) ((rw (place-is z k t) at m) .marked)
+    as-bitmap m = rw (at z k t .so) (rw (place-is z k t) at m)
 
 -- ---- chosen entries
 

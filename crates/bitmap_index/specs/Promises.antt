@@ -31,6 +31,10 @@ use Rattle.bitmap_index.specs.declared.Outcome.{Outcome}
 use Rattle.bitmap_index.specs.declared.Outcome.the-variants.{Done}
 use Rattle.bitmap_index.specs.declared.Placing.{Placing}
 use Rattle.bitmap_index.specs.declared.Placing.the-variants.{Placed}
+use Rattle.bitmap_index.specs.declared.Setting.{Setting}
+use Rattle.bitmap_index.specs.declared.Setting.the-variants.{Set}
+use Rattle.bitmap_index.specs.declared.Quick.{Quick}
+use Rattle.bitmap_index.specs.declared.Quick.the-variants.{Unknown}
 use Rattle.bitmap_index.specs.Meaning.{isIn, scan, nullQuestion, scanRecord}
 use Rattle.bitmap_index.specs.Reading.{firstNumber, placeEntries, prepared, audited, audit, auditBuffer, chosenOf, markEntries, matchedFor, Answer, answered, auditedAnswer, wellFormed, ask, answerBuffer, askBuffer, auditedBy, auditOut, auditNumbers, auditFault, answeredBy, askOut, askNumbers, askFault}
 
@@ -109,6 +113,22 @@ PlacesNull body h before after r = Places (h .rows) (placeIn firstNumber body h 
 abbrev pub PlacesValues : ℕ → List ℕ → Summary → List ℕ → List ℕ → Placing → Type 0
 PlacesValues t body h before after r = ForEntries t body h (λ es. Places (h .rows) (placeIn firstNumber body h es) before after r)
 
+-- ---- setting rows in a field of n rows, without a test whether one was set already
+
+-- what it comes to: nothing that is told; or up to so many more rows are set, and where they are so many, placing them leaves the same
+abbrev pub SetTo : ℕ → Out Refusal (List ℕ) → List ℕ → List ℕ → Setting → Type 0
+SetTo n o before after Setting.Refused = Unit {0}
+SetTo n o before after (Set k) = (count after n ≤ count before n + k) × (count after n ≡ count before n + k → o ≡ ok after)
+
+-- the rows are set that `step` would place; and refused or not, no byte behind the field has changed
+pub record Sets (n : ℕ) (step : List ℕ → Out Refusal (List ℕ)) (before after : List ℕ) (r : Setting) : Type 0 where
+  pub outcome : SetTo n (step before) before after r
+  pub behind : cleared n after ≡ cleared n before
+
+-- those of the values' entries
+abbrev pub SetsValues : ℕ → List ℕ → Summary → List ℕ → List ℕ → Setting → Type 0
+SetsValues t body h before after r = ForEntries t body h (λ es. Sets (h .rows) (placeIn firstNumber body h es) before after r)
+
 -- ---- marking the rows of chosen entries, once an audit has placed every entry's
 
 -- where an offset is not negative, a bitmap stands at its place, with all its rows below n
@@ -176,6 +196,15 @@ AuditComesTo d zero (Nulls k) = (audited d zero ≡ ok (d .rows)) × (k ≡ matc
 -- an audit in a field that is zero, after which no byte behind the field has changed
 pub record AuditsZero (d : Dictionary) (zero after : List ℕ) (r : BitmapsAudited) : Type 0 where
   pub outcome : AuditComesTo d zero r
+  pub behind : cleared (d .rows) after ≡ cleared (d .rows) zero
+
+-- the same of an audit that may tell nothing
+abbrev pub QuickComesTo : Dictionary → List ℕ → Quick → Type 0
+QuickComesTo d zero Unknown = Unit {0}
+QuickComesTo d zero (Quick.Nulls k) = AuditComesTo d zero (BitmapsAudited.Nulls k)
+
+pub record AuditsQuick (d : Dictionary) (zero after : List ℕ) (r : Quick) : Type 0 where
+  pub outcome : QuickComesTo d zero r
   pub behind : cleared (d .rows) after ≡ cleared (d .rows) zero
 
 -- an audit in any field, which it leaves zero

@@ -10,7 +10,7 @@ ghost use Rattle.dictionary.specs.Promises.{nullsOf, entryAt};
 ghost use Rattle.bitmap_index.specs.Meaning as meaning;
 ghost use Rattle.bitmap_index.specs.Reading.{extentOf, placeAt, rowsFor};
 ghost use Rattle.bitmap_index.specs.Promises.{AuditPromise, AskPromise, ForEntries, ForDictionary, Prepares, Ready, Asked, TestsQuestion};
-ghost use Rattle.bitmap_index.specs.Promises.{Places, PlacesNull, PlacesValues, AuditsZero, AuditsField};
+ghost use Rattle.bitmap_index.specs.Promises.{Places, PlacesNull, PlacesValues, Sets, SetsValues, AuditsZero, AuditsQuick, AuditsField};
 ghost use Rattle.bitmap_index.specs.Promises.{SoundAt, SoundEntryAt, SoundNull, AllSound, MarksChosen, MarksAsked};
 ghost use Rattle.bitmap_index.specs.Promises.{SomeListing, FindsListed, SomeLookup, ForLookup};
 ghost use Rattle.bitmap_index.specs.Promises.{AuditAccepts, AnswersZero, AnswersField};
@@ -54,6 +54,9 @@ const TABLE: usize = hash_table::CHAINS
 const FEW_LITERAL_BYTES: usize = 256;
 
 const FEW_VALUES: u64 = 8;
+
+// Nor do they with up to so many values, whatever the literals: entering these takes longer than comparing each value with them.
+const VERY_FEW_VALUES: u64 = 2;
 
 // The number of null's entry, and that of the first value's (document 02, Ticket 2).
 const NULL_NUMBER: u64 = 0;
@@ -100,6 +103,18 @@ pub enum Placing {
 // What an audit of the bitmaps comes to: a refusal, or how many rows null has.
 pub enum BitmapsAudited {
     Refused(Refusal),
+    Nulls(u64),
+}
+
+// What setting rows without a test of each comes to: nothing that an audit can accept, or how many they are, those set already among them.
+pub enum Setting {
+    Refused,
+    Set(u64),
+}
+
+// What an audit that looks only at the whole comes to: nothing is known, or how many rows null has in a body that is sound.
+pub enum Quick {
+    Unknown,
     Nulls(u64),
 }
 
@@ -281,7 +296,111 @@ fn audit_zero(
     }
 }
 
-// Audits the bitmaps of a dictionary in a field that has room, and leaves the field zero.
+// Sets the single row of an entry in a field for `rows` rows, if it is one of them.
+fn set_row(field: &mut [u8], row: Row, rows: u64) -> Setting
+    requires { ⌜ size rows ≤ length (now field) ⌝ }
+    ensures { λ r. ⌜ ((entry : ℕ) → Sets rows (placeAt entry (negsuc (row .0)) 0 rows []) (now (field .entry)) (now (field .exit)) r) ⌝ }
+{
+    if rows <= row.0 {
+        return Setting::Refused;
+    }
+    let _ = row_field::mark(field, row);
+    Setting::Set(1)
+}
+
+// Sets the rows of an entry's bitmap, at a position of the region of bitmaps, if it is sound and they are in range.
+fn set_bitmap(field: &mut [u8], region: &[u8], at: Position, extent: u64, rows: u64) -> Setting
+    requires { ⌜ size rows ≤ length (now field) ⌝ }
+    ensures { λ r. ⌜ ((entry : ℕ) → Sets rows (placeAt entry (pos (at .0)) extent rows (now (region .entry))) (now (field .entry)) (now (field .exit)) r) ⌝ }
+{
+    let start = at.0;
+    if region.len() < start {
+        return Setting::Refused;
+    }
+    let measured = roaring::measure(&region[start..], extent_of(extent));
+    match measured {
+        Measured::Unsound(_) => Setting::Refused,
+        Measured::Sound {
+            length: _,
+            rows: many,
+            end: last,
+        } => {
+            if rows < last {
+                return Setting::Refused;
+            }
+            roaring_mark::set(field, &region[start..], rows);
+            Setting::Set(many)
+        }
+    }
+}
+
+// Sets an entry's rows, as `place_at` places them, but for the test whether one was set already.
+fn set_at(field: &mut [u8], region: &[u8], offset: i32, extent: u64, rows: u64) -> Setting
+    requires { ⌜ size rows ≤ length (now field) ⌝ }
+    ensures { λ r. ⌜ ((entry : ℕ) → Sets rows (placeAt entry offset extent rows (now (region .entry))) (now (field .entry)) (now (field .exit)) r) ⌝ }
+{
+    if offset < 0 {
+        return set_row(field, Row((-1 - offset) as u64), rows);
+    }
+    set_bitmap(field, region, Position(offset as usize), extent, rows)
+}
+
+// Sets the rows of the values' entries, and adds up how many they are. Where they are more than there are rows, one is among them twice.
+fn set_values(field: &mut [u8], body: &[u8], summary: Summary, t: u32) -> Setting
+    requires { ⌜ Ready t (now body) summary (now field) ⌝ }
+    ensures { λ r. ⌜ SetsValues t (now (body .entry)) summary (now (field .entry)) (now (field .exit)) r ⌝ }
+{
+    let region = summary.region.0;
+    let mut cursor = summary.first;
+    let mut i: u64 = 0;
+    let mut sum: u64 = 0;
+    while i < summary.values {
+        let at = dictionary::next(body, t, summary.version2, cursor);
+        let setting = set_at(field, &body[region..], at.offset, at.extent, summary.rows);
+        match setting {
+            Setting::Refused => return Setting::Refused,
+            Setting::Set(n) => {
+                if summary.rows - sum < n {
+                    return Setting::Refused;
+                }
+                sum += n;
+                cursor = at.next;
+                i += 1;
+            }
+        }
+    }
+    Setting::Set(sum)
+}
+
+// An audit that looks at the whole, in a field that is clear: null's rows are placed and all others set. Where they are as many as there are rows, and all rows
+// are set then, none was set twice and none is missing.
+fn audit_quick(field: &mut [u8], body: &[u8], summary: Summary, t: u32, counted: bool) -> Quick
+    requires { ⌜ Ready t (now body) summary (now field) × (count (now field) (summary .rows) ≡ 0) ⌝ }
+    ensures { λ r. ⌜ ForDictionary t (now (body .entry)) summary (λ d. AuditsQuick d (now (field .entry)) (now (field .exit)) r) ⌝ }
+{
+    let nulls = place_null(field, body, summary, counted);
+    match nulls {
+        Placing::Refused(_) => Quick::Unknown,
+        Placing::Placed(n) => {
+            let values = set_values(field, body, summary, t);
+            match values {
+                Setting::Refused => Quick::Unknown,
+                Setting::Set(others) => {
+                    if others != summary.rows - n {
+                        return Quick::Unknown;
+                    }
+                    if !row_field::all_set(field, summary.rows) {
+                        return Quick::Unknown;
+                    }
+                    Quick::Nulls(n)
+                }
+            }
+        }
+    }
+}
+
+// Audits the bitmaps of a dictionary in a field that has room, and leaves the field zero. Most bodies are sound, and the whole tells it; only where it doesn't,
+// every row is tested, to find the refusal.
 pub fn audit_field(
     field: &mut [u8],
     body: &[u8],
@@ -294,9 +413,16 @@ pub fn audit_field(
 {
     let rows = summary.rows;
     row_field::clear(field, rows);
-    let answer = audit_zero(field, body, summary, t, counted);
+    let quick = audit_quick(field, body, summary, t, counted);
     row_field::clear(field, rows);
-    answer
+    match quick {
+        Quick::Nulls(n) => BitmapsAudited::Nulls(n),
+        Quick::Unknown => {
+            let answer = audit_zero(field, body, summary, t, counted);
+            row_field::clear(field, rows);
+            answer
+        }
+    }
 }
 
 // The limit, the dictionary, which tests the type first, and ROOM: all that comes before a byte of the field is written.
@@ -439,7 +565,7 @@ fn mark_at(field: &mut [u8], region: &[u8], offset: i32, rows: u64)
         return;
     }
     let start = offset as usize;
-    let _ = roaring_mark::mark(field, &region[start..], rows);
+    roaring_mark::set(field, &region[start..], rows);
 }
 
 // Marks the rows of an entry, if the question chooses its value.
@@ -541,8 +667,11 @@ fn mark_listed(
     mark_chosen(field, body, summary, t, question, literals, &table);
 }
 
-// Whether values and literals are few.
+// Whether values are very few, or both values and literals few.
 fn few(summary: Summary, literals: &[u8]) -> bool {
+    if summary.values <= VERY_FEW_VALUES {
+        return true;
+    }
     if FEW_VALUES < summary.values {
         return false;
     }

@@ -292,3 +292,10 @@ pub fn first_clear(field: &[u8], rows: u64) -> Row
     }
     Row(rows)
 }
+
+// Whether all rows below `rows` are set.
+pub fn all_set(field: &[u8], rows: u64) -> bool
+    ensures { λ r. ⌜ (r ≡ true → meaning.count (now (field .entry)) rows ≡ rows) ⌝ }
+{
+    count(field, rows) == rows
+}

@@ -23,22 +23,22 @@ returns c =
 cast-start : tie.Need-cast-start
 cast-start c = place-cast (c .before .before .before .args .offset) (c .before .before .before .fits .offset) (c .if1 .left)
 
-sub-mark : tie.Need-sub-mark
-sub-mark c =
+sub-set : tie.Need-sub-set
+sub-set c =
     let left = c .before in
     let start = left .before .before .before in
     let a = start .args in
     there-inside (a .offset) (a .rows) (a .region .now) (a .field .now) (start .fits .offset) (left .if1 .left) (start .pre)
 
-part-mark-start : tie.Need-part-mark-start
-part-mark-start c =
+part-set-start : tie.Need-part-set-start
+part-set-start c =
     let left = c .before in
     let start = left .before .before .before in
     let a = start .args in
     there-inside (a .offset) (a .rows) (a .region .now) (a .field .now) (start .fits .offset) (left .if1 .left) (start .pre)
 
-mark-requires-2 : tie.Need-mark-requires-2
-mark-requires-2 c κs =
+set-requires : tie.Need-set-requires
+set-requires c κs =
     let left = c .before .before in
     let start = left .before .before .before in
     let a = start .args in
@@ -51,11 +51,11 @@ returns-2 c =
     let start = left .before .before .before in
     let a = start .args in
     as-bitmap (a .offset) (a .rows) (a .region .now) (a .field .now) (start .fits .offset) (left .if1 .left) (start .pre)
-    (rw (to-end _ (a .region .now)) at (marked .mark2 .ensures))
+    (rw (to-end _ (a .region .now)) at (marked .set .ensures))
 
 pub mark-at-spec : {M : Type 1} → statement M
 mark-at-spec =
     tie.close
     (tie.spec
-    sub-t10 cast-t11 (λ c κs. search needs) (λ c. search needs) returns cast-start sub-mark part-mark-start (λ c. search needs) mark-requires-2
+    sub-t10 cast-t11 (λ c κs. search needs) (λ c. search needs) returns cast-start sub-set part-set-start (λ c. search needs) set-requires
     (λ c. search needs) returns-2)
