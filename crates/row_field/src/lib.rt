@@ -262,6 +262,35 @@ pub fn count(field: &[u8], rows: u64) -> u64
     total
 }
 
+// Whether all bytes before `end` are 255. They are gathered by `&`, without a test of each.
+fn all_full(field: &[u8], end: Position) -> bool
+    requires { ⌜ end .0 ≤ length (now field) ⌝ }
+    ensures { λ r. ⌜ r ≡ eqb (meaning.count (now (field .entry)) (end .0 * 8)) (end .0 * 8) ⌝ }
+{
+    let stop = end.0;
+    let mut all: u8 = 255;
+    let mut i = 0;
+    while i < stop {
+        all = all & field[i];
+        i += 1;
+    }
+    all == 255
+}
+
+// Whether every row below `rows` is set: those of whole bytes, then those of the last one's bits that stand for rows. A row past the end is not.
+pub fn all_set(field: &[u8], rows: u64) -> bool
+    ensures { λ r. ⌜ r ≡ eqb (meaning.count (now (field .entry)) rows) rows ⌝ }
+{
+    let whole = smaller(rows / 8, field.len() as u64) as usize;
+    if !all_full(field, Position(whole)) {
+        return false;
+    }
+    if whole < field.len() {
+        return low_bits(field[whole], rows % 8) == low_bits(255, rows % 8);
+    }
+    whole as u64 * 8 == rows
+}
+
 // How many of the bytes before `end` come before the first that is not full.
 fn full_bytes(field: &[u8], end: Position) -> usize
     requires { ⌜ end .0 ≤ length (now field) ⌝ }
