@@ -9,3 +9,4 @@ pub mod LowestClear
 pub mod ByteRows
 pub mod RunRows
 pub mod FirstClear
+pub mod FullFields

@@ -1,10 +1,13 @@
 -- Loops that mark rows: what is left to mark, from the field as it is, gives the whole.
 use Prim.Native.Nat.{ℕ}
 use mathlib.Core.Path.{_≡_, refl, sym, _∙_}
-use mathlib.Core.Bool.{Bool, false, _||_, or-assoc, or-false}
+use mathlib.Core.Bool.{Bool, false, not, _||_, or-assoc, or-false}
 use mathlib.Core.List.{List, [], _∷_, _++_}
+use lib.Bits.{bitOr}
+use lib.Dec.{eqb}
 use Rattle.row_field.specs.Meaning.{bit, mark, markAll, Rising}
 use Rattle.row_field.specs.Promises.{anySeen, MarkedRows, MarkedInTurn}
+use Rattle.row_field.proofs.Laws.{or-some}
 use Rattle.row_field.proofs.Marks.{Past, markAll-append, anySeen-append, anySeen-rising, markAll-past, anySeen-past}
 
 -- of rows that rise, none is set by marking one before it
@@ -44,3 +47,8 @@ module _ {whole f₀ rest f : List ℕ} {seen : Bool} (st : Marks whole f₀ res
 
   pub marks-done : rest ≡ [] → MarkedInTurn f₀ f whole seen
   marks-done e = marks-past (rw e tt)
+
+-- a part of them more, where what was seen is gathered in bits
+pub marks-bits : (a b : ℕ) {whole f₀ rest f : List ℕ} → Marks whole f₀ rest f (not (eqb a 0)) → {part rest′ f′ : List ℕ} → rest ≡ part ++ rest′
+    → MarkedInTurn f f′ part (not (eqb b 0)) → Marks whole f₀ rest′ f′ (not (eqb (bitOr a b) 0))
+marks-bits a b st e m = rw (or-some a b) (marks-part st e m)

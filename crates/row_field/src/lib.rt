@@ -95,15 +95,23 @@ pub fn mark(field: &mut [u8], row: Row) -> bool
     false
 }
 
-// Sets the rows that the bits of one byte stand for, and answers whether one of them was set already.
-pub fn mark_byte(field: &mut [u8], at: Position, bits: u8) -> bool
+// Sets the rows that the bits of one byte stand for, and answers the bits of those that were set already: what many calls answer is gathered by `|`.
+fn mark_bits(field: &mut [u8], at: Position, bits: u8) -> u8
     requires { ⌜ at .0 < length (now field) ⌝ }
-    ensures { λ r. ⌜ MarkedInTurn (now (field .entry)) (now (field .exit)) (byteRows bits (at .0 * 8) 8) r ⌝ }
+    ensures { λ r. ⌜ MarkedInTurn (now (field .entry)) (now (field .exit)) (byteRows bits (at .0 * 8) 8) (not (eqb r 0)) ⌝ }
 {
     let p = at.0;
     let old = field[p];
     field[p] = old | bits;
-    old & bits != 0
+    old & bits
+}
+
+// The same, and answers whether one of them was set already.
+pub fn mark_byte(field: &mut [u8], at: Position, bits: u8) -> bool
+    requires { ⌜ at .0 < length (now field) ⌝ }
+    ensures { λ r. ⌜ MarkedInTurn (now (field .entry)) (now (field .exit)) (byteRows bits (at .0 * 8) 8) r ⌝ }
+{
+    mark_bits(field, at, bits) != 0
 }
 
 // Sets every row that is set in the field `rows`, as far as `field` goes, whole bytes at a time, and answers whether one of them was set already.
@@ -111,13 +119,13 @@ pub fn merge(field: &mut [u8], rows: &[u8]) -> bool
     ensures { λ r. ⌜ MarkedRows (now (field .entry)) (now (field .exit)) (rowsOf (now (rows .entry))) r ⌝ }
 {
     let end = smaller(field.len() as u64, rows.len() as u64) as usize;
-    let mut seen = false;
+    let mut seen: u8 = 0;
     let mut i = 0;
     while i < end {
-        seen = seen | mark_byte(field, Position(i), rows[i]);
+        seen = seen | mark_bits(field, Position(i), rows[i]);
         i += 1;
     }
-    seen
+    seen != 0
 }
 
 // The bits of a byte from weight 2^low to weight 2^high.
@@ -134,13 +142,13 @@ fn mark_bytes(field: &mut [u8], from: Position, to: Position) -> bool
 {
     let stop = to.0;
     let end = smaller(field.len() as u64, stop as u64) as usize;
-    let mut seen = false;
+    let mut seen: u8 = 0;
     let mut i = from.0;
     while i < end {
-        seen = seen | mark_byte(field, Position(i), 255);
+        seen = seen | mark_bits(field, Position(i), 255);
         i += 1;
     }
-    seen
+    seen != 0
 }
 
 // Sets the rows from `first` to `last`, none if `last` is before `first`, whole bytes at a time, and answers whether one of them was set already.
@@ -262,6 +270,35 @@ pub fn count(field: &[u8], rows: u64) -> u64
     total
 }
 
+// Whether all bytes before `end` are 255. They are gathered by `&`, without a test of each.
+fn all_full(field: &[u8], end: Position) -> bool
+    requires { ⌜ end .0 ≤ length (now field) ⌝ }
+    ensures { λ r. ⌜ r ≡ eqb (meaning.count (now (field .entry)) (end .0 * 8)) (end .0 * 8) ⌝ }
+{
+    let stop = end.0;
+    let mut all: u8 = 255;
+    let mut i = 0;
+    while i < stop {
+        all = all & field[i];
+        i += 1;
+    }
+    all == 255
+}
+
+// Whether every row below `rows` is set: those of whole bytes, then those of the last one's bits that stand for rows. A row past the end is not.
+pub fn all_set(field: &[u8], rows: u64) -> bool
+    ensures { λ r. ⌜ r ≡ eqb (meaning.count (now (field .entry)) rows) rows ⌝ }
+{
+    let whole = smaller(rows / 8, field.len() as u64) as usize;
+    if !all_full(field, Position(whole)) {
+        return false;
+    }
+    if whole < field.len() {
+        return low_bits(field[whole], rows % 8) == low_bits(255, rows % 8);
+    }
+    whole as u64 * 8 == rows
+}
+
 // How many of the bytes before `end` come before the first that is not full.
 fn full_bytes(field: &[u8], end: Position) -> usize
     requires { ⌜ end .0 ≤ length (now field) ⌝ }
@@ -291,11 +328,4 @@ pub fn first_clear(field: &[u8], rows: u64) -> Row
         row += 1;
     }
     Row(rows)
-}
-
-// Whether all rows below `rows` are set.
-pub fn all_set(field: &[u8], rows: u64) -> bool
-    ensures { λ r. ⌜ (r ≡ true → meaning.count (now (field .entry)) rows ≡ rows) ⌝ }
-{
-    count(field, rows) == rows
 }

@@ -1,18 +1,20 @@
 -- `mark_bytes` meets its contract. The loop's invariant: the rows of the bytes that are left, marked from here, give the whole (`bytes-next`, `bytes-done`).
 use Prim.Native.Nat.{_-_, _*_}
 use mathlib.Core.Path.{_≡_, refl}
+use mathlib.Core.Bool.{not}
 use native.Mathlib.Omega.{arith}
+use lib.Dec.{eqb}
 use borrow.Author.Needs.{needs}
 use lib.ListN.{length}
 use Rattle.row_field.specs.Meaning.{upTo}
-use Rattle.row_field.proofs.Loops.{Marks, marks-first, marks-part, marks-past}
+use Rattle.row_field.proofs.Loops.{Marks, marks-first, marks-bits, marks-past}
 use Rattle.row_field.proofs.RunRows.{bytes-next, bytes-done}
 use Rattle.row_field.proofs.mark_bytes.Statement.{statement}
 use Rattle.row_field.proofs.mark_bytes.Tie as tie
 
 abbrev Inv-loop : tie.InvT-loop
 Inv-loop field₀ stop end seen₀ i₀ field seen i =
-    (length field ≡ length field₀) × Marks (upTo (i₀ * 8) ((stop - i₀) * 8)) field₀ (upTo (i * 8) ((stop - i) * 8)) field seen
+    (length field ≡ length field₀) × Marks (upTo (i₀ * 8) ((stop - i₀) * 8)) field₀ (upTo (i * 8) ((stop - i) * 8)) field (not (eqb seen 0))
 
 abbrev μ-loop : tie.MeasureT-loop
 μ-loop field₀ stop end seen₀ i₀ field seen i = end - i
@@ -24,7 +26,8 @@ loop-again : tie.Need-loop-again Inv-loop μ-loop
 loop-again c =
     let called = c .before .before in
     let at = called .before .before .before in
-    (omega arith, marks-part (at .loop .inv .1) (bytes-next (at .before .before .before .args .to .0) (at .loop .i) (omega arith)) (called .mark-byte .ensures))
+    let next = bytes-next (at .before .before .before .args .to .0) (at .loop .i) (omega arith) in
+    (omega arith, marks-bits (at .loop .seen) (called .mark-bits .result) (at .loop .inv .1) next (called .mark-bits .ensures))
 
 returns : tie.Need-returns Inv-loop μ-loop
 returns c =

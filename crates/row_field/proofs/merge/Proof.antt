@@ -1,20 +1,22 @@
 -- `merge` meets its contract. The loop's invariant: the rows of the bytes that are left, marked from here, give the whole (`rows-next`, `rows-done`).
 use Prim.Native.Nat.{_-_, _*_, _≤_}
 use mathlib.Core.Path.{_≡_, refl}
+use mathlib.Core.Bool.{not}
 use native.Mathlib.Nat.{sub-zero}
 use native.Mathlib.Omega.{arith}
+use lib.Dec.{eqb}
 use borrow.Author.Needs.{needs}
 use lib.ListN.{length}
 use Rattle.row_field.specs.Meaning.{rowsFrom, rowsOf}
 use Rattle.row_field.proofs.RowLists.{rowsOf-rising}
-use Rattle.row_field.proofs.Loops.{Marks, marks-first, marks-part, marks-past, at-once}
+use Rattle.row_field.proofs.Loops.{Marks, marks-first, marks-bits, marks-past, at-once}
 use Rattle.row_field.proofs.ByteRows.{rows-next, rows-done}
 use Rattle.row_field.proofs.merge.Statement.{statement}
 use Rattle.row_field.proofs.merge.Tie as tie
 
 abbrev Inv-loop : tie.InvT-loop
 Inv-loop field₀ rows end seen₀ i₀ field seen i =
-    (i ≤ end) × (length field ≡ length field₀) × Marks (rowsOf rows) field₀ (rowsFrom rows (i * 8) ((length rows - i) * 8)) field seen
+    (i ≤ end) × (length field ≡ length field₀) × Marks (rowsOf rows) field₀ (rowsFrom rows (i * 8) ((length rows - i) * 8)) field (not (eqb seen 0))
 
 abbrev μ-loop : tie.MeasureT-loop
 μ-loop field₀ rows end seen₀ i₀ field seen i = end - i
@@ -27,7 +29,8 @@ loop-again c =
     let called = c .before .before in
     let at = called .before .before .before .before in
     let rows = at .before .before .before .before .args .rows .now in
-    (omega arith, omega arith, marks-part (at .loop .inv .2) (rows-next rows (length rows) (at .loop .i) (omega arith)) (called .mark-byte .ensures))
+    let next = rows-next rows (length rows) (at .loop .i) (omega arith) in
+    (omega arith, omega arith, marks-bits (at .loop .seen) (called .mark-bits .result) (at .loop .inv .2) next (called .mark-bits .ensures))
 
 returns : tie.Need-returns Inv-loop μ-loop
 returns c =
