@@ -1,6 +1,7 @@
 -- `audit_quick` meets its contract: where as many rows were set as there are, and all of them are set, they were placed.
+use mathlib.Core.Path.{sym, _∙_}
 use native.Mathlib.Omega.{arith}
-use borrow.Author.Tests.{not-false}
+use borrow.Author.Tests.{not-false, eqb-true}
 use Rattle.bitmap_index.proofs.QuickAudit.{nulls-unknown, nulls-below, values-unknown, whole-known}
 use borrow.Author.Needs.{needs}
 use Rattle.bitmap_index.proofs.audit_quick.Statement.{statement}
@@ -63,7 +64,7 @@ returns-5 c =
     let a = start .args in
     λ es l. whole-known (a .summary) (a .body .now) (a .field .now) (nulls .place-null .ensures) es (values .set-values .ensures es l)
     (told .nulls .given .1) (as-many .before .before .before .values .given .1) (start .pre .1) (as-many .if1 .left)
-    (c .before .all-set .ensures (not-false _ (c .if2 .left))) (a .t) (λ i. nulls .before .before .shared-slice-known .given i .fits) l
+    (eqb-true _ _ (sym (c .before .all-set .ensures) ∙ not-false _ (c .if2 .left))) (a .t) (λ i. nulls .before .before .shared-slice-known .given i .fits) l
 
 pub audit-quick-spec : {M : Type 1} → statement M
 audit-quick-spec =
