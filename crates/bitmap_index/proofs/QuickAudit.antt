@@ -60,13 +60,13 @@ mark-again f r n l e =
     let t = tally-split (bit (mark f r)) (bit f) (λ q. false) 0 n (λ q a b. again-go f r q l e (ℕ-discrete q r)) in
     omega (arith, rows-tally (mark f r) 0 n, rows-tally f 0 n, tally-none (λ q. false) 0 n (λ q a b. refl))
 
--- so many rows add no more than they are, and as many only if none was set
-pub record AddsTo (n : ℕ) (f : List ℕ) (rs after : List ℕ) : Type 0 where
+-- rows add no more than they are, and as many only if none was set
+record AddsTo (n : ℕ) (f : List ℕ) (rs after : List ℕ) : Type 0 where
   pub most : count after n ≤ count f n + length rs
   pub free : count after n ≡ count f n + length rs → anySet f rs ≡ false
 
 -- one row
-pub row-adds : (f : List ℕ) (r n : ℕ) → r < n → size n ≤ length f
+row-adds : (f : List ℕ) (r n : ℕ) → r < n → size n ≤ length f
     → (count (mark f r) n ≤ count f n + 1) × (count (mark f r) n ≡ count f n + 1 → bit f r ≡ false)
 row-adds f r n h room = go (bit f r) refl
   where
@@ -76,7 +76,7 @@ row-adds f r n h room = go (bit f r) refl
         (omega (arith, same), λ more. absurd (omega (arith, same)))
     go false e = (omega (arith, count-mark f r n h (omega arith) e), λ more. e)
 
-pub rows-add : (f : List ℕ) (lo n : ℕ) (rs : List ℕ) → Rising lo n rs → size n ≤ length f → AddsTo n f rs (markAll f rs)
+rows-add : (f : List ℕ) (lo n : ℕ) (rs : List ℕ) → Rising lo n rs → size n ≤ length f → AddsTo n f rs (markAll f rs)
 unfolding markAll anySet
 rows-add f lo n [] h room = record { most = omega arith; free = λ e. refl }
 rows-add f lo n (r ∷ rs) h room =
@@ -89,9 +89,6 @@ rows-add f lo n (r ∷ rs) h room =
     }
 
 -- ---- the rows of one entry
-
-pub nothing-set : (n : ℕ) (step : List ℕ → Out Refusal (List ℕ)) (f : List ℕ) → Sets n step f f Setting.Refused
-nothing-set n step f = record { outcome = tt; behind = refl }
 
 pub row-set : (r n : ℕ) (f : List ℕ) {after : List ℕ} → r < n → size n ≤ length f → after ≡ mark f r → (entry : ℕ)
     → Sets n (placeAt entry (negsuc r) 0 n []) f after (Set 1)
