@@ -49,11 +49,10 @@ pub const SECOND_EDITION: u32 = 2;
 const TABLE: usize = hash_table::CHAINS
     + hash_table::NUMBERS * stored_value::MOST_LITERALS as usize;
 
-// IN and NOT IN take no table where literals have up to so many bytes and there are up to so many values: clearing it takes as long as comparing each of these
-// with each of those.
+// Up to so many bytes of literals and so many values, IN and NOT IN compare each value with each literal: clearing a table would take longer.
 const FEW_LITERAL_BYTES: usize = 256;
 
-const FEW_VALUES: u64 = 8;
+const FEW_VALUES: u64 = 4;
 
 // Nor do they with up to so many values, whatever the literals: entering these takes longer than comparing each value with them.
 const VERY_FEW_VALUES: u64 = 2;
@@ -678,7 +677,7 @@ fn few(summary: Summary, literals: &[u8]) -> bool {
     literals.len() <= FEW_LITERAL_BYTES
 }
 
-// Whether the question is worth a table: IN and NOT IN are, but for few values and literals. What is answered doesn't depend on it.
+// Whether the question is worth a table: IN and NOT IN are, unless literals and values are few. The answer is the same with and without one.
 fn worth_table(summary: Summary, question: Question, literals: &[u8]) -> bool {
     let name = question.name;
     match name {
@@ -687,7 +686,7 @@ fn worth_table(summary: Summary, question: Question, literals: &[u8]) -> bool {
     }
 }
 
-// The same with a table only where it is worth one.
+// The same for any question, with a table where it is worth one.
 fn mark_asked(
     field: &mut [u8],
     body: &[u8],
