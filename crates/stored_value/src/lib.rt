@@ -11,7 +11,7 @@ ghost use mir.Val.{SFits};
 ghost use Rattle.stored_value.specs.Meaning.{width, signedNumber, bytesLess, mostLiterals};
 ghost use Rattle.stored_value.specs.Meaning as meaning;
 ghost use Rattle.stored_value.specs.Promises.{SizePromise, Stands, Takes, CountPromise, Accepted, Lists, Enterable, Enters};
-ghost use Rattle.stored_value.specs.Reading.{stringSize, valueSize};
+ghost use Rattle.stored_value.specs.Reading.{valueSize};
 ghost use Rattle.stored_value.specs.Reading as reading;
 use numbers::Position;
 use refusal::Refusal;
@@ -75,27 +75,6 @@ fn width_of(t: u32) -> usize
     0
 }
 
-// The size of the string at `at`: its length is tested before its bytes. In a string that is accepted the upper half is 0, so where the next value begins
-// waits for the lower half alone.
-fn string_size(s: &[u8], at: Position, short: Refusal, broken: Refusal) -> Sized
-    requires { ⌜ at .0 + 4 ≤ length (now s) ⌝ }
-    ensures { λ r. ⌜ SizePromise (stringSize short broken (beAt 4 (now (s .entry)) (at .0)) (drop (at .0 + 4) (now (s .entry)))) r ⌝ }
-{
-    let p = at.0;
-    let high = numbers::be16(s, at);
-    if 0 < high {
-        if HALF_SIGN <= high {
-            return Sized::Refused(broken);
-        }
-        return Sized::Refused(Refusal::Limit);
-    }
-    let n = numbers::be16(s, Position(p + HALF_LENGTH));
-    if ((s.len() - p - 4) as u64) < n {
-        return Sized::Refused(short);
-    }
-    Sized::Bytes(4 + n as usize)
-}
-
 // The size of the value at `at`. An unknown type is LITERAL.
 pub fn size(s: &[u8], at: Position, t: u32, short: Refusal, broken: Refusal) -> Sized
     ensures { λ r. ⌜ SizePromise (valueSize short broken t (drop (at .0) (now (s .entry)))) r ⌝ }
@@ -113,7 +92,19 @@ pub fn size(s: &[u8], at: Position, t: u32, short: Refusal, broken: Refusal) -> 
         if left < 4 {
             return Sized::Refused(short);
         }
-        return string_size(s, at, short, broken);
+        // In a string that is accepted the upper half is 0, so where the next value begins waits for the lower half alone.
+        let high = numbers::be16(s, at);
+        if 0 < high {
+            if HALF_SIGN <= high {
+                return Sized::Refused(broken);
+            }
+            return Sized::Refused(Refusal::Limit);
+        }
+        let n = numbers::be16(s, Position(p + HALF_LENGTH));
+        if ((left - 4) as u64) < n {
+            return Sized::Refused(short);
+        }
+        return Sized::Bytes(4 + n as usize);
     }
     if left < w {
         return Sized::Refused(short);
