@@ -55,7 +55,7 @@ fn answer<'a, V: Value<'a>>(dictionary: &Dictionary<'a>, found: &[Place], field:
     let mut field = RowField::new(field, rows)?;
     let mut nulls = 0;
     let placed = place_all::<V>(dictionary, &mut field, |field| nulls = field.count());
-    // All rows are set, or it is a refusal.
+    // All rows are set, or it is a refusal, which leaves the field zero.
     field.clear();
     placed?;
     for place in found {

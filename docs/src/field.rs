@@ -56,7 +56,7 @@ impl<'f> RowField<'f> {
         (&mut part[..CONTAINER_BYTES], rows.min(CONTAINER_ROWS))
     }
 
-    /// Whether every row is set.
+    /// Whether every row is set. By itself, since it is called once and its loop would crowd others out of the registers.
     #[inline(never)]
     pub fn is_full(&self) -> bool {
         let Some((last, before)) = self.bytes.split_last() else {

@@ -6,7 +6,7 @@ use crate::value::Value;
 use crate::Refusal;
 
 const MAX_LITERALS: usize = 1_024;
-/// With up to so many literals each value is compared.
+/// With up to so many literals each value is compared with each of them.
 const FEW_LITERALS: usize = 8;
 /// With more, so many values are, before a set is made, which takes about as long.
 const FEW_VALUES: usize = 8;

@@ -1,4 +1,4 @@
-//! The cases that document 01 writes out, for Audit, EQUAL and IN.
+//! The cases that document 01 writes out, for Audit, EQUAL and IN, and a few more: room, limits, Open and Look up.
 
 use plain_reader::{ask, audit, look_up, open, Question, Record, Refusal};
 
@@ -152,7 +152,7 @@ fn no_rows() {
 
 #[test]
 fn arrays_and_bits() {
-    /// The most rows of an array, and one more.
+    /// The most rows of an array.
     const MOST: u16 = 4_096;
     let mut field = [ANY; 513];
     let most: Vec<u16> = (0..MOST).collect();

@@ -16,8 +16,9 @@ use reference::writer::{body_traced, Column, Groups, Layout, Traced};
 
 const DEFAULT_SEED: u64 = 20_240_101;
 const DEFAULT_CASES: u64 = 400_000;
-/// Of so many calls at least so many must have been given each answer that the call can give.
+/// At least so many calls must have been given each answer that the call can give,
 const FEWEST_OF_EACH: u64 = 100;
+/// of so many calls.
 const FEWEST_PER: u64 = 150_000;
 
 const ACCEPTED: u8 = 0;
@@ -136,7 +137,7 @@ fn question(random: &mut Random, groups: &Groups) -> (u32, Vec<Vec<u8>>) {
     }
 }
 
-/// Words of anything: about as many as the body's blocks, mostly positions within it.
+/// A few words of anything, mostly positions within the body.
 fn any_table(random: &mut Random, body: &[u8]) -> Vec<u32> {
     let words = random.below(40);
     (0..words)
@@ -394,6 +395,7 @@ fn plain_reader_and_reference_reader_agree() {
     }
 
     println!("{} calls of plain reader and reference reader agree", both.calls());
+    assert_ne!(both.calls(), 0, "nothing was compared");
     let fewest = FEWEST_OF_EACH * (cases / FEWEST_PER);
     for ((name, possible), answers) in CALLS.iter().zip(&both.answers) {
         for answer in *possible {

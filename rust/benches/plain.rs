@@ -89,7 +89,11 @@ fn measure_all() -> ExitCode {
     let is_slow = |ratio: f64| !(ratio > 0.0 && ratio <= LIMIT);
     let ratios = measured.iter().map(|times| median_by(times, Times::ratio).ratio());
     let slow: Vec<(&Line, f64)> = lines.iter().zip(ratios).filter(|(line, ratio)| line.named && is_slow(*ratio)).collect();
-    if quick || slow.is_empty() {
+    if quick {
+        println!("\nA few calls were timed, to see that everything runs: no ratio is judged.");
+        return ExitCode::SUCCESS;
+    }
+    if slow.is_empty() {
         return ExitCode::SUCCESS;
     }
     for (Line { what, call, .. }, ratio) in slow {

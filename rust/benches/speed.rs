@@ -1,4 +1,4 @@
-//! How long the library's calls take beside those of the reference reader: `cargo bench`.
+//! How long the library's calls take beside those of the reference reader: `cargo bench --bench speed`.
 //!
 //! Both are given the same bytes and a cleared field, one call at a time and in changing order, and the median of all times counts.
 //! Clearing the field is not timed. Before that, answers, counts and fields of both are compared.

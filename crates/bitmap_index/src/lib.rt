@@ -54,7 +54,7 @@ const FEW_LITERAL_BYTES: usize = 256;
 
 const FEW_VALUES: u64 = 4;
 
-// Nor do they with up to so many values, whatever the literals: entering these takes longer than comparing each value with them.
+// So they do with up to so many values, whatever the literals: entering these takes longer than comparing each value with them.
 const VERY_FEW_VALUES: u64 = 2;
 
 // The number of null's entry, and that of the first value's (document 02, Ticket 2).
@@ -677,7 +677,7 @@ fn few(summary: Summary, literals: &[u8]) -> bool {
     literals.len() <= FEW_LITERAL_BYTES
 }
 
-// Whether the question is worth a table: IN and NOT IN are, unless literals and values are few. The answer is the same with and without one.
+// Whether the question is worth a table: IN and NOT IN are, unless it is about `few`. The answer is the same with and without one.
 fn worth_table(summary: Summary, question: Question, literals: &[u8]) -> bool {
     let name = question.name;
     match name {

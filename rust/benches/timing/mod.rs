@@ -54,7 +54,7 @@ pub fn time<R>(call: impl FnOnce() -> R) -> Duration {
     taken
 }
 
-/// The one whose ratio is the median.
+/// The one whose ratio, or whatever number counts, is the median.
 pub fn median_by<T: Copy>(times: &[T], ratio: impl Fn(&T) -> f64) -> T {
     let mut times = times.to_vec();
     times.sort_by(|one, other| ratio(one).total_cmp(&ratio(other)));

@@ -80,8 +80,15 @@ impl Comparison {
         let (answer, (rows, blocks), fault) = said(plain_reader::open(body, ty, &mut found_field, &mut found_table), (0, 0));
         let found = (answer, rows, blocks, fault);
         if found != expected || (&found_field[..], &found_table[..]) != left {
-            let inputs =
-                [("body", body), ("field before", field), ("table before", &bytes_of(table)), ("field after", &found_field)];
+            let inputs = [
+                ("body", body),
+                ("field before", field),
+                ("field after", &found_field),
+                ("field expected", left.0),
+                ("table before", &bytes_of(table)),
+                ("table after", &bytes_of(&found_table)),
+                ("table expected", &bytes_of(left.1)),
+            ];
             self.fail("Open of the plain reader", &inputs, &format!("type {ty}: {found:?}, expected {expected:?}"));
         }
     }
