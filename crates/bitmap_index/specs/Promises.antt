@@ -120,7 +120,7 @@ abbrev pub SetTo : ℕ → Out Refusal (List ℕ) → List ℕ → List ℕ → 
 SetTo n o before after Setting.Refused = Unit {0}
 SetTo n o before after (Set k) = (count after n ≤ count before n + k) × (count after n ≡ count before n + k → o ≡ ok after)
 
--- the rows are set that `step` would place; and refused or not, no byte behind the field has changed
+-- rows are set in place of `step`, as `SetTo` says; and refused or not, no byte behind the field has changed
 pub record Sets (n : ℕ) (step : List ℕ → Out Refusal (List ℕ)) (before after : List ℕ) (r : Setting) : Type 0 where
   pub outcome : SetTo n (step before) before after r
   pub behind : cleared n after ≡ cleared n before

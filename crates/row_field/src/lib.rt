@@ -68,10 +68,10 @@ pub fn test(field: &[u8], row: Row) -> bool
     bit_at(field, row.0)
 }
 
-// The weights of a byte's bits. A shift of a byte makes each wait for the one before; what is read from here doesn't.
+// The weights of a byte's bits. Where a loop shifts a byte for each row, each row waits for the one before; a weight that is read from here doesn't.
 pub const WEIGHTS: [u8; 8] = [1, 2, 4, 8, 16, 32, 64, 128];
 
-// Sets a row whose byte is there, and answers its weight if it was set already, else 0: what many calls answer is gathered by `|`, without a test of each.
+// Sets a row whose byte is there. The answer is not 0 if it was set already, and 0 if not: what many calls answer is gathered by `|`, without a test of each.
 // The table is lent, so that a loop looks it up where it stands.
 pub fn mark_within(field: &mut [u8], row: Row, weights: &[u8; 8]) -> u8
     requires { ⌜ (row .0 / 8 < length (now field)) × (now weights ≡ meaning.weights) ⌝ }

@@ -88,7 +88,7 @@ module _ (t : ℕ) (a b : List ℕ) (k : t < types) (w : ℕ) (e : w ≡ width t
   unfolding less isString
   less-number n x y f g = rw (lt-ltb t types k, toZ-ofZ (f .1), toZ-ofZ (g .1), ← e, ne-eqb w 0 n, ← f .0, ← g .0)
 
--- ---- `string_size`: what each answer goes by, said of the two halves of the length at p
+-- ---- strings in `size`: what each answer goes by, said of the two halves of the length at p
 
 -- from here on the upper half has the length's sign
 abbrev halfSign : ℕ

@@ -75,7 +75,7 @@ fn width_of(t: u32) -> usize
     0
 }
 
-// The size of the value at `at`. An unknown type is LITERAL.
+// The size of the value at `at`. An unknown type is LITERAL. A string's length is tested before its bytes.
 pub fn size(s: &[u8], at: Position, t: u32, short: Refusal, broken: Refusal) -> Sized
     ensures { λ r. ⌜ SizePromise (valueSize short broken t (drop (at .0) (now (s .entry)))) r ⌝ }
 {
@@ -205,7 +205,7 @@ fn least(x: usize, y: usize) -> usize
     y
 }
 
-// How far a and b are the same from a position on, in whole words: from there on they compare as from that position on.
+// Where whole words of a and b, from a position on, are no longer the same: from there on a and b compare as they do from that position on.
 fn same_front(a: &[u8], b: &[u8], from: Position) -> usize
     ensures { λ r. ⌜ bytesLess (drop r (now (a .entry))) (drop r (now (b .entry))) ≡ bytesLess (drop (from .0) (now (a .entry))) (drop (from .0) (now (b .entry))) ⌝ }
 {
