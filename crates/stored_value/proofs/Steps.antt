@@ -61,17 +61,6 @@ module _ (a b : List ℕ) (i : ℕ) where
     pub less-next : getD a i 0 ≡ getD b i 0 → bytesLess (drop i a) (drop i b) ≡ bytesLess (drop (i + 1) a) (drop (i + 1) b)
     less-next e = less-step ∙ rw (le-ltb (getD a i 0) (getD b i 0) (omega arith), eq-eqb (getD a i 0) (getD b i 0) e)
 
-less-same : (x s t : List ℕ) → bytesLess (x ++ s) (x ++ t) ≡ bytesLess s t
-unfolding bytesLess
-less-same [] s t = refl
-less-same (y ∷ x) s t = rw (le-ltb y y (omega arith), eq-eqb y y refl) (less-same x s t)
-
--- w bytes that are the same in both
-pub less-word : (w : ℕ) (a b : List ℕ) → Bytes a → Bytes b → (i : ℕ) → i + w ≤ length a → i + w ≤ length b → leAt w a i ≡ leAt w b i
-    → bytesLess (drop i a) (drop i b) ≡ bytesLess (drop (i + w) a) (drop (i + w) b)
-less-word w a b p q i h g e =
-    rw (word-back w i a p h, word-back w i b q g, e) (less-same (le w (leAt w b i)) (drop (i + w) a) (drop (i + w) b))
-
 -- ---- `less`, by the width w that the code found
 
 pub less-unknown : (t : ℕ) (a b : List ℕ) → types ≤ t → false ≡ less t a b

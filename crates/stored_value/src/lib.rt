@@ -5,7 +5,7 @@ ghost use mathlib.Core.Logic.{_⊎_};
 ghost use Rattle.numbers.specs.Meaning.{beAt};
 ghost use mathlib.Core.Bool.{cond};
 ghost use mathlib.Core.List.{[]};
-ghost use lib.ListN.{length, getD, drop};
+ghost use lib.ListN.{getD, drop};
 ghost use mir.Syntax.{w64};
 ghost use mir.Val.{SFits};
 ghost use Rattle.stored_value.specs.Meaning.{width, signedNumber, bytesLess, mostLiterals};
@@ -43,9 +43,6 @@ const LASTS: [u64; 9] = [
     72_057_594_037_927_935,
     18_446_744_073_709_551_615,
 ];
-
-// The bytes of strings that are compared at once.
-const WORD: usize = 8;
 
 // How many bytes a value takes, or why it is none.
 pub enum Sized {
@@ -205,31 +202,12 @@ fn least(x: usize, y: usize) -> usize
     y
 }
 
-// Where whole words of a and b, from a position on, are no longer the same: from there on a and b compare as they do from that position on.
-fn same_front(a: &[u8], b: &[u8], from: Position) -> usize
-    ensures { λ r. ⌜ bytesLess (drop r (now (a .entry))) (drop r (now (b .entry))) ≡ bytesLess (drop (from .0) (now (a .entry))) (drop (from .0) (now (b .entry))) ⌝ }
-{
-    let end = least(a.len(), b.len());
-    let mut i = from.0;
-    if end < WORD {
-        return i;
-    }
-    let last = end - WORD;
-    while i <= last {
-        if numbers::le64(a, Position(i)) != numbers::le64(b, Position(i)) {
-            return i;
-        }
-        i += WORD;
-    }
-    i
-}
-
 // Whether a comes before b from a position on: by unsigned bytes, a prefix first.
 fn bytes_less(a: &[u8], b: &[u8], from: Position) -> bool
     ensures { λ r. ⌜ r ≡ bytesLess (drop (from .0) (now (a .entry))) (drop (from .0) (now (b .entry))) ⌝ }
 {
     let end = least(a.len(), b.len());
-    let mut i = same_front(a, b, from);
+    let mut i = from.0;
     while i < end {
         if a[i] != b[i] {
             return a[i] < b[i];

@@ -1,4 +1,4 @@
--- `bytes_less` meets its contract: what is left of both behind their same front, compared, gives the whole.
+-- `bytes_less` meets its contract: what is left of both, compared, gives the whole.
 use Prim.Native.Nat.{_-_}
 use mathlib.Core.Path.{_≡_, refl, sym, _∙_}
 use mathlib.Core.Logic.{⊎-elim, inl, inr}
@@ -22,30 +22,25 @@ loop-holds c = refl
 returns : tie.Need-returns Inv-loop μ-loop
 returns c =
     let l = c .before .before .before .before .before .before .loop in
-    let f = c .before .before .before .before .before .before .before in
-    let a = f .before .before .before .before .args in
-    let q = f .same-front .result in
-    let e : bytesLess (drop q (a .a .now)) (drop q (a .b .now)) ≡ bytesLess (drop (a .from .0) (a .a .now)) (drop (a .from .0) (a .b .now)) = f .same-front .ensures in
-    rw (← e, ← l .inv) (sym (less-differ (a .a .now) (a .b .now) (l .i) (omega arith) (omega arith) (c .before .before .if1 .taken)))
+    let a = c .before .before .before .before .before .before .before .before .before .before .args in
+    sym (less-differ (a .a .now) (a .b .now) (l .i) (omega arith) (omega arith) (c .before .before .if1 .taken)) ∙ l .inv
 
 loop-again : tie.Need-loop-again Inv-loop μ-loop
 loop-again c =
     let l = c .before .before .before .before .loop in
-    let a = c .before .before .before .before .before .before .before .before .before .args in
+    let a = c .before .before .before .before .before .before .before .before .args in
     sym (less-next (a .a .now) (a .b .now) (l .i) (omega arith) (omega arith) (omega arith)) ∙ l .inv
 
 returns-2 : tie.Need-returns-2 Inv-loop μ-loop
 returns-2 c =
     let l = c .before .loop in
-    let f = c .before .before in
-    let a = f .before .before .before .before .args in
-    let q = f .same-front .result in
-    let e : bytesLess (drop q (a .a .now)) (drop q (a .b .now)) ≡ bytesLess (drop (a .from .0) (a .a .now)) (drop (a .from .0) (a .b .now)) = f .same-front .ensures in
-    rw (← e, ← l .inv) (sym (less-end (a .a .now) (a .b .now) (l .i) (⊎-elim (λ h. inl (omega arith)) (λ h. inr (omega arith)) (f .before .least .ensures .2))))
+    let a = c .before .before .before .before .before .args in
+    let e = c .before .before .least .ensures .2 in
+    sym (less-end (a .a .now) (a .b .now) (l .i) (⊎-elim (λ h. inl (omega arith)) (λ h. inr (omega arith)) e)) ∙ l .inv
 
 pub bytes-less-spec : {M : Type 1} → statement M
 bytes-less-spec =
     tie.close
     (tie.spec
-    Inv-loop μ-loop (λ c κs. search needs) (λ c κs. search needs) loop-holds (λ c. omega arith) (λ c. omega arith) (λ c. omega arith) (λ c. omega arith) returns
+    Inv-loop μ-loop (λ c κs. search needs) loop-holds (λ c. omega arith) (λ c. omega arith) (λ c. omega arith) (λ c. omega arith) returns
     (λ c. omega arith) (λ c. omega arith) loop-again returns-2)
