@@ -1,5 +1,7 @@
 // Two loops that mark a run of rows, for the benchmark of rust/benchmark_loops and nothing else: the library's, and one that tests and sets bit by bit. Both keep the promise of
 // `row_field::mark_run`, so that they differ in their time alone.
+#![tactic(auto)]
+
 ghost use Rattle.std.specs.Prelude.{◌≡◌, ◌-◌, ◌*◌, min};
 ghost use Rattle.row_field.specs.Meaning.{up_to};
 ghost use Rattle.row_field.specs.Promises.{MarkedRows};
@@ -7,8 +9,7 @@ ghost use Rattle.row_field.specs.Promises.{MarkedRows};
 use numbers::Row;
 
 // The library's run marker: sets the rows from `first` up to `end`, none if `end` isn't behind `first`, whole bytes at a time, and answers whether one of them was set already.
-#[unsafe(no_mangle)]
-pub extern "C" fn benchmark_mark_run(field: &mut [u8], first: u64, end: u64) -> bool
+pub fn benchmark_mark_run(field: &mut [u8], first: u64, end: u64) -> bool
     ensures { MarkedRows field.old field.new (up_to first (end - first)) result }
 {
     if end <= first {
@@ -28,8 +29,7 @@ fn end_within(bytes: u64, end: u64) -> u64
 }
 
 // The same, bit by bit: each row is tested and set in its turn.
-#[unsafe(no_mangle)]
-pub extern "C" fn benchmark_mark_bits(field: &mut [u8], first: u64, end: u64) -> bool
+pub fn benchmark_mark_bits(field: &mut [u8], first: u64, end: u64) -> bool
     ensures { MarkedRows field.old field.new (up_to first (end - first)) result }
 {
     let stop = end_within(field.len() as u64, end);

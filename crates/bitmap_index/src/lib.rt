@@ -1,4 +1,6 @@
 // The bitmap body of one column (document 01, "Bitmap body" and "Questions"; document 02, Tickets 2, 4 and 7): Audit and Ask.
+#![tactic(auto)]
+
 ghost use Rattle.std.specs.Prelude.{◌≡◌, List, [], ◌∷◌, ◌++◌, ℕ, ◌≤◌, pos, negsuc, length};
 ghost use Rattle.row_field.specs.Meaning.{size, count, mark_all};
 ghost use Rattle.stored_value.specs.Meaning.{null, value};
@@ -62,21 +64,21 @@ pub const COUNT_NULLS: bool = true;
 pub const SUM_NULLS: bool = false;
 
 // What is asked, by the numbers of the edition and of the name. The literals are lent beside it.
-#[derive(Drop)]
+#[derive(Clone, Copy)]
 pub struct Question {
     pub edition: u32,
     pub name: u32,
 }
 
 // What Audit answers: a refusal, or the row count.
-#[derive(Drop)]
+#[derive(Clone, Copy)]
 pub enum Audited {
     Refused(Refusal),
     Rows(u64),
 }
 
 // What Ask answers: a refusal; or the record of its answer: skip where no row is chosen, else keep.
-#[derive(Drop)]
+#[derive(Clone, Copy)]
 pub enum Answered {
     Refused(Refusal),
     Skip(Record),
@@ -84,35 +86,35 @@ pub enum Answered {
 }
 
 // What a step comes to that has nothing to hand on.
-#[derive(Drop)]
+#[derive(Clone, Copy)]
 pub enum Outcome {
     Refused(Refusal),
     Done,
 }
 
 // What placing rows comes to: a refusal, or how many were placed.
-#[derive(Drop)]
+#[derive(Clone, Copy)]
 pub enum Placing {
     Refused(Refusal),
     Placed(u64),
 }
 
 // What an audit of the bitmaps comes to: a refusal, or how many rows null has.
-#[derive(Drop)]
+#[derive(Clone, Copy)]
 pub enum BitmapsAudited {
     Refused(Refusal),
     Nulls(u64),
 }
 
 // What setting rows without a test of each comes to: nothing that an audit can accept, or how many they are, those set already among them.
-#[derive(Drop)]
+#[derive(Clone, Copy)]
 pub enum Setting {
     Refused,
     Set(u64),
 }
 
 // What an audit that looks only at the whole comes to: nothing is known, or how many rows null has in a body that is sound.
-#[derive(Drop)]
+#[derive(Clone, Copy)]
 pub enum Quick {
     Unknown,
     Nulls(u64),

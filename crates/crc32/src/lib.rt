@@ -1,4 +1,6 @@
 // Java's CRC-32, a byte at a time, by a table.
+#![tactic(auto)]
+
 ghost use Rattle.std.specs.Prelude.{◌≡◌};
 ghost use Rattle.crc32.specs.Meaning.{checksum};
 

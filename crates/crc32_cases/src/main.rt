@@ -1,4 +1,6 @@
 // Prints checksums, each a line of a name and eight hexadecimal digits.
+#![tactic(auto)]
+
 use libc::STDOUT_FILENO;
 
 fn show(name: &[u8], bytes: &[u8]) {

@@ -4,6 +4,8 @@
 //   cuts    BIN ROWS ROOM: reads it in each proper prefix of the file
 //   through BIN ROWS ROOM FIRST: reads a bin through the window of ROWS rows from FIRST on
 //   ends    BIN ROWS ROOM FIRST: reads it so in each proper prefix of the file
+#![tactic(auto)]
+
 use deletion_file::Deletions;
 use numbers::{Position, Row};
 

@@ -1,4 +1,6 @@
 // Deletion files (document 01, "Deletion file"): the walk over the bins, and Read deletions.
+#![tactic(auto)]
+
 ghost use Rattle.std.specs.Prelude.{◌≤◌, ◌≡◌, length};
 ghost use Rattle.deletion_file.specs.Layout.{number_size};
 ghost use Rattle.deletion_file.specs.Reading.{begins_with_magic, is_true_checksum, bitmap_marked, bin_marked};
@@ -24,7 +26,7 @@ const FRAME_SIZE: usize = 2 * NUMBER_SIZE;
 pub const BIN_ENTRY: u64 = 0;
 
 // What Read deletions answers: a refusal, or how many rows are deleted.
-#[derive(Drop)]
+#[derive(Clone, Copy)]
 pub enum Deletions {
     Refused(Refusal),
     Deleted(u64),
@@ -32,7 +34,7 @@ pub enum Deletions {
 
 // What stands at a position of the file where a bin's size is due: the end of the file; a bin, from `start` to `end`, with its checksum right behind it; or
 // bytes that are too short for one. What follows a bin stands behind its checksum.
-#[derive(Drop)]
+#[derive(Clone, Copy)]
 enum NextBin {
     Short,
     End,
@@ -40,14 +42,14 @@ enum NextBin {
 }
 
 // A part of the file: from `start` to `end`.
-#[derive(Drop)]
+#[derive(Clone, Copy)]
 pub enum Place {
     Refused(Refusal),
     At { start: Position, end: Position },
 }
 
 // What comes before a byte of the field is written: a refusal, or the field is cleared.
-#[derive(Drop)]
+#[derive(Clone, Copy)]
 pub enum Prepared {
     Refused(Refusal),
     Cleared,

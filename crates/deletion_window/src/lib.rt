@@ -1,4 +1,6 @@
 // A deletion file's bin, 32-bit or 64-bit, read through a window (document 02, Ticket 8): row first + r of the bin is row r of the field.
+#![tactic(auto)]
+
 ghost use Rattle.std.specs.Prelude.{◌≡◌, ◌+◌, ◌*◌, ◌<◌, ◌≤◌, ltb, length};
 ghost use Rattle.row_field.specs.Meaning.{mark_all, above};
 ghost use Rattle.window.specs.Meaning.{rows_in_window};
@@ -39,7 +41,7 @@ const ROWS_END: u64 = 9_223_372_036_854_775_808;
 const ANY_CONTAINER: u64 = 0;
 
 // What a bin is by its magic.
-#[derive(Drop)]
+#[derive(Clone, Copy)]
 enum Kind {
     Unknown,
     Bits32,
@@ -47,7 +49,7 @@ enum Kind {
 }
 
 // What stands where an index is due: a bitmap from `start` to `end`, behind its index; or something else.
-#[derive(Drop)]
+#[derive(Clone, Copy)]
 enum NextBitmap {
     Unsound,
     At {

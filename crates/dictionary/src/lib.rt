@@ -1,4 +1,6 @@
 // A body's dictionary (document 01, "Bitmap body"), of either version: its fields and entries checked in byte order, and a cursor over the entries.
+#![tactic(auto)]
+
 ghost use Rattle.std.specs.Prelude.{◌≡◌, ◌+◌, ◌≤◌, true, false, cond, List, eqb, leb, length, drop};
 ghost use Rattle.refusal.specs.Meaning.{limit};
 ghost use Rattle.dictionary.specs.Layout.{Entry, most_values1, most_blocks};
@@ -26,7 +28,7 @@ const TABLE: usize = hash_table::CHAINS + hash_table::NUMBERS * MOST_VALUES_1 as
 
 // Where a walk over the values' entries stands: a position, and the number of entries left in the block that is open there, 0 where a block's number is
 // due. Version 1 has no blocks: all its entries are left from the start.
-#[derive(Drop)]
+#[derive(Clone, Copy)]
 pub struct Cursor {
     pub at: Position,
     pub left: u64,
@@ -34,7 +36,7 @@ pub struct Cursor {
 
 // What a sound dictionary says: the row count, the number of values, whether the version is 2; whether null has an entry, and that entry's offset and
 // extent, 0 where it has none; the cursor before the values' first entry, and where the region of bitmaps begins (01's "body of bitmaps").
-#[derive(Drop)]
+#[derive(Clone, Copy)]
 pub struct Summary {
     pub rows: u64,
     pub values: u64,
@@ -47,14 +49,14 @@ pub struct Summary {
 }
 
 // What is read of any bytes as a dictionary: the first rule that is broken, or what a sound one says.
-#[derive(Drop)]
+#[derive(Clone, Copy)]
 pub enum Checked {
     Refused(Refusal),
     Found(Summary),
 }
 
 // The entry at a cursor: where its value stands, its offset and extent; and the cursor behind it.
-#[derive(Drop)]
+#[derive(Clone, Copy)]
 pub struct EntryAt {
     pub start: Position,
     pub end: Position,
@@ -64,21 +66,21 @@ pub struct EntryAt {
 }
 
 // Where a value ends.
-#[derive(Drop)]
+#[derive(Clone, Copy)]
 pub enum ValueEnd {
     Refused(Refusal),
     To(Position),
 }
 
 // A count that was read.
-#[derive(Drop)]
+#[derive(Clone, Copy)]
 pub enum Count {
     Refused(Refusal),
     Is(u64),
 }
 
 // Null's two numbers, and where what follows begins.
-#[derive(Drop)]
+#[derive(Clone, Copy)]
 pub enum Null {
     Refused(Refusal),
     Numbers {
@@ -89,7 +91,7 @@ pub enum Null {
 }
 
 // The fields that every dictionary begins with.
-#[derive(Drop)]
+#[derive(Clone, Copy)]
 enum Fixed {
     Refused(Refusal),
     Fields {
@@ -101,28 +103,28 @@ enum Fixed {
 }
 
 // A value's place; none where it has no bytes.
-#[derive(Drop)]
+#[derive(Clone, Copy)]
 struct Span {
     start: Position,
     end: Position,
 }
 
 // Where a directory's listings end.
-#[derive(Drop)]
+#[derive(Clone, Copy)]
 enum Directory {
     Refused(Refusal),
     Ends(Position),
 }
 
 // Where entries of a block end, and the last one's value.
-#[derive(Drop)]
+#[derive(Clone, Copy)]
 enum BlockEntries {
     Refused(Refusal),
     To { next: Position, last: Span },
 }
 
 // Where a block and its listing end, its last value, and its number of entries.
-#[derive(Drop)]
+#[derive(Clone, Copy)]
 enum Block {
     Refused(Refusal),
     Ends {
@@ -134,14 +136,14 @@ enum Block {
 }
 
 // Where the last block ends, and the number of entries of all.
-#[derive(Drop)]
+#[derive(Clone, Copy)]
 enum Blocks {
     Refused(Refusal),
     End { next: Position, sum: u64 },
 }
 
 // The cursor before the first entry, and where the region of bitmaps begins.
-#[derive(Drop)]
+#[derive(Clone, Copy)]
 enum AllEntries {
     Refused(Refusal),
     Sound { first: Cursor, region: Position },

@@ -1,4 +1,6 @@
 // From an index file to an answer: Locate, and Locate and Ask in turn.
+#![tactic(auto)]
+
 ghost use Rattle.std.specs.Prelude.{◌≡◌, ◌+◌, ◌≤◌, length, take, drop};
 ghost use Rattle.refusal.specs.Reading.{ok};
 ghost use Rattle.index_file.specs.Reading.{found};
@@ -11,7 +13,7 @@ use index_file::Located;
 use numbers::Position;
 
 // What a question of a file comes to: the column or the kind is not listed; or an answer as Ask's, a refusal of Locate among them.
-#[derive(Drop)]
+#[derive(Clone, Copy)]
 pub enum FileAnswer {
     Absent,
     Answered(Answered),

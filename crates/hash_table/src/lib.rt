@@ -1,5 +1,7 @@
 // Finds a value among values that stand in a byte slice, by chains of equal hashes. One lent array of numbers holds all: it needs no heap, and the caller
 // says how many values it has room for. A hash that many values share makes it slow and not wrong.
+#![tactic(auto)]
+
 ghost use Rattle.std.specs.Prelude.{◌≡◌, ◌+◌, ◌<◌, ◌≤◌, length, drop};
 ghost use Rattle.numbers.specs.Meaning.{four_bytes};
 ghost use Rattle.hash_table.specs.Promises.{chains, slot, mixed, hash_of_bytes, hash_of, put, HoldsSome, Finds, Fits, Inserts};

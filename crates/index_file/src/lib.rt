@@ -1,4 +1,6 @@
 // The head of an index file (document 01): where in the file the asked index of the asked column lies. Which of two buffers is looked at is chosen above.
+#![tactic(auto)]
+
 ghost use Rattle.std.specs.Prelude.{◌≡◌, false, ◌&&◌, ◌≤◌, length, drop, leb};
 ghost use Rattle.names.specs.Layout.{name_limit};
 ghost use Rattle.names.specs.Reading.{matches};
@@ -24,7 +26,7 @@ pub const FOUND: u8 = 0;
 pub const ABSENT: u8 = 255;
 
 // Where the body is, ABSENT for a column or a kind that is not listed, or a refusal.
-#[derive(Drop)]
+#[derive(Clone, Copy)]
 pub enum Located {
     Found { start: Position, length: usize },
     Absent,
@@ -32,14 +34,14 @@ pub enum Located {
 }
 
 // How many bytes the asked names have in modified form.
-#[derive(Drop)]
+#[derive(Clone, Copy)]
 struct Sizes {
     column: usize,
     kind: usize,
 }
 
 // Where the asked kind stands, as far as the head was read: in no entry, in one; or it, or the asked column, is there twice.
-#[derive(Drop)]
+#[derive(Clone, Copy)]
 enum Place {
     Nowhere,
     At { start: Position, length: usize },
@@ -47,21 +49,21 @@ enum Place {
 }
 
 // A name: its bytes are not all there, or where they end.
-#[derive(Drop)]
+#[derive(Clone, Copy)]
 enum Name {
     Broken,
     Ends(Position),
 }
 
 // A number of four bytes: they are not all there or negative, or what it is.
-#[derive(Drop)]
+#[derive(Clone, Copy)]
 enum Count {
     Broken,
     Is(u64),
 }
 
 // A walk over entries or columns: a field is broken, or where the walk ended and the place that it found.
-#[derive(Drop)]
+#[derive(Clone, Copy)]
 enum Walk {
     Broken,
     Past { next: Position, place: Place },

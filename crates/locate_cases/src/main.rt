@@ -7,6 +7,8 @@
 //   long   KIND BYTE COUNT: asks for the column whose name is so many times the byte
 //   ask    COLUMN KIND TYPE EDITION NAME LITERALS: asks the file in a buffer of two bytes A5, and prints the answer and the buffer
 // A name is a word: `find  k` asks for the empty column, `find s` for the empty kind.
+#![tactic(auto)]
+
 use bitmap_index::{Answered, Question};
 use file_to_answers::FileAnswer;
 use index_file::Located;

@@ -37,7 +37,7 @@ marked_once f r q n rs l free once h = go (ℕ_discrete q r)
   where
     go : Dec (q ≡ r) → tick (bit (mark f r) q) + times q rs ≤ 1
     go (yes e) =
-        let i = rw (e, eq-eqb r r refl) at (once q h) in
+        let i = rw (eq-eqb r r refl) at (once r (omega arith)) in
         rw (e, bit-mark-same f r l) (omega arith)
     go (no e) =
         let i = rw (ne_eqb q r e) at (once q h) in

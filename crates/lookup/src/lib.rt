@@ -1,5 +1,7 @@
 // A lookup (document 02, Ticket 6): EQUAL on a version 2 body, without an audit. It halves the directory through the table that Open filled, and reads one block,
 // null's bitmap and one bitmap.
+#![tactic(auto)]
+
 ghost use Rattle.std.specs.Prelude.{◌≡◌, List, ℕ, ◌≤◌, ◌<◌, length, false};
 ghost use Rattle.numbers.specs.Meaning.{four_bytes};
 ghost use Rattle.refusal.specs.Meaning.{limit};
@@ -21,35 +23,35 @@ const WORD: usize = 4;
 const TWO_WORDS: usize = 8;
 
 // An answer as Ask's, and the values compared with the literal, 0 with a refusal.
-#[derive(Drop)]
+#[derive(Clone, Copy)]
 pub struct LookedUp {
     pub answer: Answered,
     pub compared: u64,
 }
 
 // An entry of the directory: where its value ends, and its block's offset.
-#[derive(Drop)]
+#[derive(Clone, Copy)]
 enum Listing {
     Refused(Refusal),
     Is { end: Position, offset: u64 },
 }
 
 // Where the directory ends.
-#[derive(Drop)]
+#[derive(Clone, Copy)]
 enum End {
     Refused(Refusal),
     At(Position),
 }
 
 // Where blocks' offsets count from, and where the region of bitmaps begins.
-#[derive(Drop)]
+#[derive(Clone, Copy)]
 enum Base {
     Refused(Refusal),
     At { base: Position, region: Position },
 }
 
 // How many blocks begin at or below the literal, the offset of the last of them, and how many first values were compared.
-#[derive(Drop)]
+#[derive(Clone, Copy)]
 enum Halving {
     Refused(Refusal),
     Done {
@@ -60,7 +62,7 @@ enum Halving {
 }
 
 // What a block has of the literal: whether it is among its values, that entry's offset and extent, and how many values were compared, up to it.
-#[derive(Drop)]
+#[derive(Clone, Copy)]
 struct Found {
     hit: bool,
     offset: i32,
@@ -68,21 +70,21 @@ struct Found {
     compared: u64,
 }
 
-#[derive(Drop)]
+#[derive(Clone, Copy)]
 enum Search {
     Refused(Refusal),
     Done(Found),
 }
 
 // What comes before ROOM: what the body states, what the block has, and how many values were compared in all.
-#[derive(Drop)]
+#[derive(Clone, Copy)]
 struct Place {
     summary: Summary,
     found: Found,
     compared: u64,
 }
 
-#[derive(Drop)]
+#[derive(Clone, Copy)]
 enum Seeking {
     Refused(Refusal),
     Done(Place),

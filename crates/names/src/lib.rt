@@ -1,5 +1,7 @@
 // Names (document 02, Ticket 5): whether one may be asked for, and whether a stored one is the asked one. A caller's name is standard UTF-8, a stored one Java's
 // modified UTF-8. No form of a name is written anywhere: each code point of the asked name is compared as it is read.
+#![tactic(auto)]
+
 ghost use Rattle.std.specs.Prelude.{◌≡◌, ◌++◌, ◌+◌, ◌<◌, ◌≤◌, length};
 ghost use Rattle.names.specs.Layout.{in_two_bytes, in_three_bytes, high_of, low_of, past_plane, modified_of};
 ghost use Rattle.names.specs.Reading.{continued, is_scalar, standard_point, size_of_asked_name};
@@ -53,7 +55,7 @@ pub const NAME_LIMIT: usize = 65_535;
 const UNASKABLE: usize = NAME_LIMIT + 1;
 
 // A code point: the bytes are none, or what it is and where its bytes end.
-#[derive(Drop)]
+#[derive(Clone, Copy)]
 enum Point {
     Broken,
     Is { value: u64, next: Position },

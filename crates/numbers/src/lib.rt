@@ -1,4 +1,6 @@
 // Integers of 1, 2, 4 and 8 bytes at a position of a slice, in both byte orders; and whether bytes are the same.
+#![tactic(auto)]
+
 ghost use Rattle.std.specs.Prelude.{◌≡◌, ◌+◌, ◌<◌, ◌≤◌, length, get_or};
 ghost use Rattle.numbers.specs.Meaning.{be_at, le_at, signed32};
 ghost use Rattle.numbers.specs.Meaning as meaning;
@@ -10,11 +12,11 @@ pub const SIGN_BIT: u64 = 2_147_483_648;
 pub const MINUS_ONE: u64 = 4_294_967_295;
 
 // A byte position in a buffer: a kind of its own (document 01), which no row number can stand in for.
-#[derive(Drop)]
+#[derive(Clone, Copy)]
 pub struct Position(pub usize);
 
 // A row number: a kind of its own (document 01), which no byte position can stand in for.
-#[derive(Drop)]
+#[derive(Clone, Copy)]
 pub struct Row(pub u64);
 
 fn wide(x: u8) -> u64

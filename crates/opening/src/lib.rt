@@ -1,5 +1,7 @@
 // Open (document 02, Ticket 6): audits a version 2 body, then fills a lent table with where each block's entry of the directory starts, so that lookups can halve
 // the directory without an audit.
+#![tactic(auto)]
+
 ghost use Rattle.std.specs.Prelude.{◌≤◌, length};
 ghost use Rattle.refusal.specs.Meaning.{limit};
 ghost use Rattle.opening.specs.Promises.{OpenPromise, FrontIs, BehindIs, Fills};
@@ -29,7 +31,7 @@ const COUNT_SIZE: usize = 4;
 const OFFSET_SIZE: usize = 4;
 
 // The fields in front of a directory, and where the directory begins.
-#[derive(Drop)]
+#[derive(Clone, Copy)]
 pub struct Fields {
     pub rows: u64,
     pub values: u64,
@@ -40,14 +42,14 @@ pub struct Fields {
     pub directory: Position,
 }
 
-#[derive(Drop)]
+#[derive(Clone, Copy)]
 pub enum FrontRead {
     Refused(Refusal),
     Read(Fields),
 }
 
 // What Open answers: a refusal, or the row count and the number of blocks.
-#[derive(Drop)]
+#[derive(Clone, Copy)]
 pub enum Opened {
     Refused(Refusal),
     Accepted { rows: u64, blocks: u64 },

@@ -1,7 +1,9 @@
-// The C interface (include/poddurance.h). Each function answers a number, 0 for accepted, 255 for ABSENT (Locate and Ask of a file) and else the
+// The C interface (include/poddurance.h), which poddurance_c exports. Each function answers a number, 0 for accepted, 255 for ABSENT (Locate and Ask of a file) and else the
 // refusal's number in document 01, and writes counts through pointers; with ABSENT and a refusal the counts are 0. Where a fault is (entry, container, row) is
 // written through a pointer too: 0 in each number that the refusal does not carry, and all 0 with every other answer. A record is lent
 // as its four numbers, `said`: rows, nulls, deleted, matched (document 02, Ticket 7).
+#![tactic(auto)]
+
 ghost use Rattle.std.specs.Prelude.{◌≡◌};
 ghost use Rattle.subtract.specs.Meaning.{numbers_of_record};
 ghost use Rattle.subtract.specs.Reading.{record_subtract_out};
@@ -40,8 +42,7 @@ fn deletions_said(answer: Deletions, deleted: &mut u64, fault: &mut [u64; 3]) ->
     }
 }
 
-#[unsafe(no_mangle)]
-pub extern "C" fn poddurance_read_deletions(
+pub fn poddurance_read_deletions(
     file: &[u8],
     bin: u64,
     rows: u64,
@@ -55,8 +56,7 @@ pub extern "C" fn poddurance_read_deletions(
     deletions_said(answer, deleted, fault)
 }
 
-#[unsafe(no_mangle)]
-pub extern "C" fn poddurance_read_window(
+pub fn poddurance_read_window(
     file: &[u8],
     bin: u64,
     first: u64,
@@ -71,8 +71,7 @@ pub extern "C" fn poddurance_read_window(
     deletions_said(answer, deleted, fault)
 }
 
-#[unsafe(no_mangle)]
-pub extern "C" fn poddurance_subtract(
+pub fn poddurance_subtract(
     first: &mut [u8],
     second: &[u8],
     rows: u64,
@@ -128,8 +127,7 @@ fn record_subtracted(answer: RecordSubtracted, said: &mut [u64; 4], removed: &mu
     }
 }
 
-#[unsafe(no_mangle)]
-pub extern "C" fn poddurance_subtract_record(
+pub fn poddurance_subtract_record(
     first: &mut [u8],
     second: &[u8],
     said: &mut [u64; 4],
@@ -146,8 +144,7 @@ pub extern "C" fn poddurance_subtract_record(
     )
 }
 
-#[unsafe(no_mangle)]
-pub extern "C" fn poddurance_locate<'a>(
+pub fn poddurance_locate<'a>(
     embedded: &'a [u8],
     file: &'a [u8],
     column: &[u8],
@@ -181,8 +178,7 @@ pub extern "C" fn poddurance_locate<'a>(
     }
 }
 
-#[unsafe(no_mangle)]
-pub extern "C" fn poddurance_audit(
+pub fn poddurance_audit(
     body: &[u8],
     t: u32,
     field: &mut [u8],
@@ -229,8 +225,7 @@ fn answered(answer: Answered, said: &mut [u64; 4], fault: &mut [u64; 3]) -> u8
     }
 }
 
-#[unsafe(no_mangle)]
-pub extern "C" fn poddurance_ask(
+pub fn poddurance_ask(
     body: &[u8],
     t: u32,
     edition: u32,
@@ -251,8 +246,7 @@ pub extern "C" fn poddurance_ask(
 }
 
 // Open (document 02, Ticket 6). An accepted body's table is lent to `poddurance_look_up`.
-#[unsafe(no_mangle)]
-pub extern "C" fn poddurance_open(
+pub fn poddurance_open(
     body: &[u8],
     t: u32,
     field: &mut [u8],
@@ -285,8 +279,7 @@ pub extern "C" fn poddurance_open(
 }
 
 // A lookup (document 02, Ticket 6): EQUAL, without an audit.
-#[unsafe(no_mangle)]
-pub extern "C" fn poddurance_look_up(
+pub fn poddurance_look_up(
     body: &[u8],
     t: u32,
     edition: u32,
@@ -307,8 +300,7 @@ pub extern "C" fn poddurance_look_up(
 }
 
 // Locate, then Ask on the part that it finds. The second promise is demand 3: of a column's file the answer, the record and the field are those of the scan.
-#[unsafe(no_mangle)]
-pub extern "C" fn poddurance_ask_file<'a>(
+pub fn poddurance_ask_file<'a>(
     embedded: &'a [u8],
     file: &'a [u8],
     column: &[u8],

@@ -1,4 +1,6 @@
 // The fourteen refusals of document 01, one type for every call. Four of them say where the fault is (document 02, Ticket 2).
+#![tactic(auto)]
+
 ghost use Rattle.std.specs.Prelude.{◌≡◌};
 ghost use Rattle.refusal.specs.Meaning.{number_of, fault_of};
 
@@ -12,7 +14,7 @@ pub const NO_FAULT: [u64; 3] = [0, 0, 0];
 
 // An entry is numbered in stored order: 0 is null's, the values' are from 1 on, through all blocks, of a lookup within its block; a deletion bin's is 0. A
 // container is numbered from 0 in its bitmap.
-#[derive(Drop)]
+#[derive(Clone, Copy)]
 pub enum Refusal {
     Short,
     Magic,

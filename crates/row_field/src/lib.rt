@@ -1,4 +1,6 @@
 // Row fields (document 01): a field for n rows is the first ceil(n/8) bytes of a lent buffer, row r the bit of weight 2^(r mod 8) in byte r/8.
+#![tactic(auto)]
+
 ghost use Rattle.std.specs.Prelude.{◌≡◌, ℕ, ◌+◌, ◌-◌, ◌*◌, ◌/◌, ◌%◌, ◌^◌, ◌<◌, ◌≤◌, min, true, not, leb, eqb, length};
 ghost use Rattle.row_field.specs.Meaning.{size, bit, mark_all, cleared, up_to, rows_of, first_clear_row};
 ghost use Rattle.row_field.specs.Meaning as meaning;

@@ -1,4 +1,6 @@
 // Values in the stored form of their type (document 01, the table of widths): their size, their order, and literals.
+#![tactic(auto)]
+
 ghost use Rattle.std.specs.Prelude.{◌≡◌, ◌+◌, ◌^◌, ◌<◌, ◌≤◌, ◌⊎◌, cond, [], get_or, drop};
 ghost use Rattle.numbers.specs.Meaning.{be_at};
 ghost use Rattle.std.specs.Int.{w64};
@@ -41,14 +43,14 @@ const LASTS: [u64; 9] = [
 ];
 
 // How many bytes a value takes, or why it is none.
-#[derive(Drop)]
+#[derive(Clone, Copy)]
 pub enum Sized {
     Refused(Refusal),
     Bytes(usize),
 }
 
 // How many literals there are, or why they are none.
-#[derive(Drop)]
+#[derive(Clone, Copy)]
 pub enum Counted {
     Refused(Refusal),
     Count(u64),

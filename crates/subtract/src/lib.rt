@@ -1,4 +1,6 @@
 // Document 01, Subtract: clears in one row field the rows of another. Document 02, Ticket 7: the record of an answer, and Subtract with a record.
+#![tactic(auto)]
+
 ghost use Rattle.std.specs.Prelude.{◌≡◌, ◌-◌, ◌*◌, ◌<◌, ◌≤◌, length, get_or, set};
 ghost use Rattle.std.specs.Int.Bits.{bit_and};
 ghost use Rattle.row_field.specs.Meaning.{size};
@@ -10,7 +12,7 @@ use numbers::Position;
 use refusal::{LIMIT, Refusal};
 
 // What Subtract answers: a refusal, or how many rows below the row count are left and how many were removed.
-#[derive(Drop)]
+#[derive(Clone, Copy)]
 pub enum Subtracted {
     Refused(Refusal),
     Done { left: u64, removed: u64 },
@@ -18,7 +20,7 @@ pub enum Subtracted {
 
 // What may be claimed of an accepted answer: how many rows the index has, how many of them are null, how many are deleted, and how many match. Deleted is 0 until
 // deletions are subtracted.
-#[derive(Drop)]
+#[derive(Clone, Copy)]
 pub struct Record {
     pub rows: u64,
     pub nulls: u64,
@@ -30,7 +32,7 @@ pub struct Record {
 pub const NO_RECORD: [u64; 4] = [0, 0, 0, 0];
 
 // What Subtract with a record answers: a refusal; or the record as it is then, and how many rows were removed: skip where no row is left, else keep.
-#[derive(Drop)]
+#[derive(Clone, Copy)]
 pub enum RecordSubtracted {
     Refused(Refusal),
     Skip { record: Record, removed: u64 },

@@ -1,5 +1,7 @@
 // Runs Subtract on fields of four bytes, dirty spare bits and dirty bytes behind among them, with a row count and with a record: a line each, with the answer and
 // the first field's bytes.
+#![tactic(auto)]
+
 use libc::STDOUT_FILENO;
 use subtract::{Record, RecordSubtracted, Subtracted};
 
