@@ -3,12 +3,10 @@ use Prim.Native.Nat.{◌≤◌, ◌*◌, ◌%◌, ◌^◌}
 use mathlib.Core.Path.{◌≡◌}
 use native.Mathlib.Omega.{arith}
 use lib.Pow.{pow_mono, pow_pos, pow-add}
-use borrow.Author.Rules.{rules}
-use Rattle.row_field.proofs.bits_between.Statement.{statement}
-use Rattle.row_field.proofs.bits_between.Tie as tie
+use Rattle.row_field.proofs.bits_between.Goals as goal
 
-sub-result : tie.Need-overflow-sub-result
-sub-result c =
+pub overflow_sub-result : goal.overflow_sub-result
+overflow_sub-result c =
     let h : c.args.high ≤ 7 = omega arith in
     let u : 2 ^ c.args.low ≤ 2 ^ c.args.high = pow_mono c.requires.0 in
     let v : 2 ^ c.args.high ≤ 128 = pow_mono h in
@@ -16,18 +14,12 @@ sub-result c =
     let y : 2 * 2 ^ c.args.high % 65536 ≡ 2 * 2 ^ c.args.high = omega arith in
     rw (x, y) (omega arith)
 
-cast-result-3 : tie.Need-overflow-cast-result-3
-cast-result-3 c =
+pub overflow_cast-result-3 : goal.overflow_cast-result-3
+overflow_cast-result-3 c =
     let h : c.args.high ≤ 7 = omega arith in
     record { fits = omega (arith, pow_mono c.requires.0, pow_mono h, pow_pos c.args.low) }
 
-returns : tie.Need-returns
+pub returns : goal.returns
 returns c =
     let h : c.args.high ≤ 7 = omega arith in
     omega (arith, pow_mono c.requires.0, pow_mono h, pow-add 2 c.args.high 1)
-
-pub bits-between-spec : {M : Type 1} → statement M
-bits-between-spec =
-    tie.close
-    (tie.spec
-    (λ c. search rules) (λ c. search rules) (λ c. search rules) (λ c. search rules) sub-result cast-result-3 returns)
