@@ -1,0 +1,19 @@
+-- `is_due` meets its contract, by whether the span has bytes.
+use mathlib.Core.Path.{refl, ◌∙◌}
+use Rattle.stored_value.specs.Meaning.{Cell}
+use Rattle.dictionary.specs.Reading.{is_value_due}
+use Rattle.dictionary.specs.Promises.{bytes_at}
+use Rattle.dictionary.proofs.VersionTwo.{span_none, span-some}
+use Rattle.dictionary.proofs.is_due.Goals as goal
+
+pub returns-then-a-z : goal.returns-then-a-z
+unfolding is_value_due
+returns-then-a-z c =
+    let a = c.args in
+    c.same.ensures ∙ span-some a.body.now a.due (λ (v : Cell). is_value_due v (bytes_at a.body.now a.value)) c.if-a-z.true
+
+pub returns : goal.returns
+unfolding is_value_due
+returns c =
+    let a = c.args in
+    span_none a.body.now a.due (λ (v : Cell). is_value_due v (bytes_at a.body.now a.value)) refl c.if-a-z.false

@@ -1,0 +1,30 @@
+-- `next` meets its contract: where a block's number is due it is read first, and `entry_at` makes the entry. What stands there is then a law of the
+-- definition (`is_next`).
+use mathlib.Core.Path.{◌∙◌}
+use native.Mathlib.Omega.{arith}
+use Rattle.dictionary.proofs.NextEntry.{next-cut, next-opened, next_open, is_next}
+use Rattle.dictionary.proofs.next.Goals as goal
+
+pub returns-then-body-p : goal.returns-then-body-p
+returns-then-body-p c =
+    let a = c.args in
+    is_next a.t a.version2 a.body.now a.cursor (λ i. (c.type_inv.body i).fits)
+    (c.no_entry.ensures ∙ next-cut a.t a.version2 a.body.now a.cursor c.if-cursor-eq0.true (omega arith))
+
+pub returns-then-body-p-lt4 : goal.returns-then-body-p-lt4
+returns-then-body-p-lt4 c =
+    let a = c.args in
+    is_next a.t a.version2 a.body.now a.cursor (λ i. (c.type_inv.body i).fits)
+    (c.no_entry-then-body-p-lt4.ensures ∙ next-cut a.t a.version2 a.body.now a.cursor c.if-cursor-eq0.true (omega arith))
+
+pub returns-then-cursor-eq0 : goal.returns-then-cursor-eq0
+returns-then-cursor-eq0 c =
+    let a = c.args in
+    is_next a.t a.version2 a.body.now a.cursor (λ i. (c.type_inv.body i).fits)
+    (c.entry_at.ensures ∙ next-opened a.t a.version2 a.body.now a.cursor c.if-cursor-eq0.true (omega arith) c.be32.ensures.0)
+
+pub returns : goal.returns
+returns c =
+    let a = c.args in
+    is_next a.t a.version2 a.body.now a.cursor (λ i. (c.type_inv.body i).fits)
+    (c.entry_at-2.ensures ∙ next_open a.t a.version2 a.body.now a.cursor c.if-cursor-eq0.false)
