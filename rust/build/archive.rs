@@ -192,7 +192,7 @@ fn is_on_path(program: &str) -> bool {
     env::var_os("PATH").is_some_and(|path| env::split_paths(&path).any(|folder| folder.join(program).is_file()))
 }
 
-/// The lines that rt prints, as they come: to standard error what it has to say itself, to standard output those on the crates.
+/// The lines that rt prints, as they come: to standard output what it says of crates, and some words of its own to standard error.
 fn lines_of(stdout: Option<ChildStdout>, stderr: Option<ChildStderr>) -> Receiver<String> {
     fn pass_on(output: impl Read + Send + 'static, to: Sender<String>) {
         thread::spawn(move || {
