@@ -1,6 +1,6 @@
 /* Poddurance: reading Paimon's bitmap indexes and deletion files so that a lost row is a refusal.
  *
- * Link the archive that `rt staticlib poddurance` writes to target/staticlib/libpoddurance.a (x86-64 Linux).
+ * Link the archive that `tools/archive poddurance` writes to target/staticlib/libpoddurance.a (x86-64 Linux).
  * Every call ends, reads and writes only inside the buffers it is lent, allocates nothing and keeps no state.
  * A buffer that is written must not overlap another of the call. A pointer may not be NULL, even where its length is 0. Each count, start and length is
  * written to a uint64_t of its own, the fault to a poddurance_fault and the record to a poddurance_record, aligned as the compiler aligns them, distinct from

@@ -1,11 +1,10 @@
-//! The build step of a package that links the archive of a crate: it has `rt staticlib` write the archive first if it is missing or
-//! older than the sources. With PODDURANCE_LIB_DIR set, an archive that was made elsewhere is linked, and neither `rt` nor the sources
-//! are looked at.
+//! The build step of a package that links an archive: it has `tools/archive` make the archive first if it is missing or older than the
+//! sources. With PODDURANCE_LIB_DIR set, an archive that was made elsewhere is linked, and neither `rt` nor the sources are looked at.
 
 use std::collections::BTreeSet;
 use std::env;
 use std::fs::{self, File};
-use std::io::{self, BufRead, BufReader, IsTerminal, Read, Write};
+use std::io::{BufRead, BufReader, IsTerminal, Read, Write};
 use std::os::unix::fs::{FileTypeExt, OpenOptionsExt};
 use std::os::unix::process::parent_id;
 use std::path::{Path, PathBuf};
@@ -19,7 +18,7 @@ const LIB_DIR: &str = "PODDURANCE_LIB_DIR";
 /// Finds the repository's root from a package's folder.
 type Root = fn(&Path) -> Option<&Path>;
 
-/// The build step of the package that links the archive of the crate `name`.
+/// The build step of the package that links the archive `name`, whose functions the crate `name`_c exports.
 pub fn build_step(name: &'static str, root: Root) {
     if let Err(reason) = run(name, root) {
         eprintln!("{name}: {reason}");
@@ -39,7 +38,7 @@ fn run(name: &'static str, root: Root) -> Result<(), String> {
     Ok(())
 }
 
-/// The name of a crate's archive, as `rt staticlib` writes it.
+/// The name of an archive's file, as `tools/archive` writes it.
 fn file_name(name: &str) -> String {
     format!("lib{name}.a")
 }
@@ -49,7 +48,7 @@ fn check_target() -> Result<(), String> {
     let of = |name: &str| env::var(name).unwrap_or_default();
     let (machine, system) = (of("CARGO_CFG_TARGET_ARCH"), of("CARGO_CFG_TARGET_OS"));
     if (machine.as_str(), system.as_str()) != ("x86_64", "linux") {
-        return Err(format!("rt staticlib makes an archive for x86-64 Linux alone, and this is {machine} {system}"));
+        return Err(format!("rt lib makes an archive for x86-64 Linux alone, and this is {machine} {system}"));
     }
     Ok(())
 }
@@ -83,8 +82,8 @@ fn made_here(name: &'static str, root: Root) -> Result<PathBuf, String> {
 
     let newest = newest_source(name, root)?;
     match changed(&archive) {
-        None => make(name, root, &archive, newest, "missing")?,
-        Some(made) if made < newest => make(name, root, &archive, newest, "older than the sources")?,
+        None => make(name, root, &archive, "missing")?,
+        Some(made) if made < newest => make(name, root, &archive, "older than the sources")?,
         Some(_) => {}
     }
     Ok(folder)
@@ -114,15 +113,17 @@ fn changed(path: &Path) -> Option<SystemTime> {
     fs::metadata(path).and_then(|data| data.modified()).ok()
 }
 
-/// The crates that `rt staticlib` proves for the archive of one: it, and by crates.txt all that it is built on.
+/// The crates that `rt lib` proves for an archive: the one that exports its functions, and by crates.txt all that it is built on.
 fn crates_to_prove(name: &str, root: &Path) -> Result<BTreeSet<String>, String> {
     let list = fs::read_to_string(root.join("crates.txt")).map_err(|e| format!("can't read crates.txt: {e}"))?;
     let lines: Vec<(&str, &str)> = list.lines().filter_map(|line| line.split_once(':')).collect();
+    let exports = format!("{name}_c");
     let mut found = BTreeSet::new();
-    let mut left = vec![name];
+    let mut left = vec![exports.as_str()];
     while let Some(name) = left.pop() {
-        // What crates.txt doesn't list is the kit's own, proved long ago.
-        if let Some((_, built_on)) = lines.iter().find(|(listed, _)| *listed == name) {
+        // The name comes first, and then what kind of crate it is, as in `NAME staticlib: ..`. What crates.txt doesn't list is the kit's
+        // own, proved long ago.
+        if let Some((_, built_on)) = lines.iter().find(|(listed, _)| listed.split_whitespace().next() == Some(name)) {
             if found.insert(name.to_string()) {
                 left.extend(built_on.split_whitespace());
             }
@@ -131,57 +132,67 @@ fn crates_to_prove(name: &str, root: &Path) -> Result<BTreeSet<String>, String> 
     Ok(found)
 }
 
-fn make(name: &'static str, root: &Path, archive: &Path, newest: SystemTime, why: &str) -> Result<(), String> {
+fn make(name: &'static str, root: &Path, archive: &Path, why: &str) -> Result<(), String> {
     let mut left = crates_to_prove(name, root)?;
     let crates = left.len();
     let file_name = file_name(name);
     let mut progress = Progress::new(name, crates);
     progress.line(&format!("{file_name} is {why}: rt proves {crates} crates to make it, which takes minutes"));
-    let mut rt = Command::new("rt")
-        .args(["staticlib", name])
-        .current_dir(root)
+    if !is_on_path("rt") {
+        return Err(format!(
+            "target/staticlib/{file_name} is {why}, and 'rt', which makes it, is not on the path; \
+             install the Rattle kit and put its folder with 'rt' on PATH, or set {LIB_DIR} to the folder of an archive"
+        ));
+    }
+    // rt keeps its work in a folder out/ in the crate's. Were it made while rt proves, the crate's folder would be newer than the
+    // archive, as after a move of its specs.
+    for one in &left {
+        let _ = fs::create_dir(root.join("crates").join(one).join("out"));
+    }
+    let newest = newest_source(name, root)?;
+    let mut tool = Command::new(root.join("tools").join("archive"))
+        .arg(name)
         .stdin(Stdio::null())
         .stdout(Stdio::piped())
         .stderr(Stdio::piped())
         .spawn()
-        .map_err(|e| match e.kind() {
-            io::ErrorKind::NotFound => format!(
-                "target/staticlib/{file_name} is {why}, and 'rt', which makes it, is not on the path; \
-                 install the Rattle kit and put its folder with 'rt' on PATH, or set {LIB_DIR} to the folder of an archive"
-            ),
-            _ => format!("can't run rt: {e}"),
-        })?;
-    let said = lines_of(rt.stdout.take(), rt.stderr.take());
+        .map_err(|e| format!("can't run tools/archive: {e}"))?;
+    let said = lines_of(tool.stdout.take(), tool.stderr.take());
+    let mut report = Report::default();
     loop {
         match said.recv_timeout(Duration::from_secs(1)) {
             Ok(line) => {
                 // Cargo reads this script's standard output for its own words, so what rt prints goes to standard error.
                 eprintln!("{line}");
-                if let Some(one) = proved(&line).filter(|one| left.remove(*one)) {
-                    progress.proved(one);
+                if let Some(one) = report.proved(&line).filter(|one| left.remove(one)) {
+                    progress.proved(&one);
                 }
             }
             Err(RecvTimeoutError::Timeout) => progress.tick(),
             Err(RecvTimeoutError::Disconnected) => break,
         }
     }
-    let status = rt.wait().map_err(|e| format!("can't wait for rt: {e}"))?;
+    let status = tool.wait().map_err(|e| format!("can't wait for tools/archive: {e}"))?;
     progress.end();
     if !status.success() {
-        return Err(format!("'rt staticlib {name}' failed: {status}; its output is above"));
+        return Err(format!("'tools/archive {name}' failed: {status}; its output is above"));
     }
     if !archive.is_file() {
-        return Err(format!("'rt staticlib {name}' ended well but target/staticlib/{file_name} isn't there"));
+        return Err(format!("'tools/archive {name}' ended well but target/staticlib/{file_name} isn't there"));
     }
-    // rt leaves an archive that would come out the same as it is, and it would be made again each time. It gets the time of the
-    // newest source it was made from, not of now: what is edited while rt proves is newer, and so is not missed.
+    // The archive gets the time of the newest source it was made from, not of now: what is edited while rt proves is newer, and so is
+    // not missed.
     let dated = File::options().write(true).open(archive).and_then(|file| file.set_modified(newest));
     dated.map_err(|e| format!("can't set the time of target/staticlib/{file_name}: {e}"))?;
     progress.line(&format!("the archive is made: {crates} crates proved, {}", progress.seconds()));
     Ok(())
 }
 
-/// The lines that rt prints, as they come: to standard error those on the crates below, to standard output the rest.
+fn is_on_path(program: &str) -> bool {
+    env::var_os("PATH").is_some_and(|path| env::split_paths(&path).any(|folder| folder.join(program).is_file()))
+}
+
+/// The lines that rt prints, as they come: to standard output what it says of crates, and some words of its own to standard error.
 fn lines_of(stdout: Option<ChildStdout>, stderr: Option<ChildStderr>) -> Receiver<String> {
     fn pass_on(output: impl Read + Send + 'static, to: Sender<String>) {
         thread::spawn(move || {
@@ -202,14 +213,30 @@ fn lines_of(stdout: Option<ChildStdout>, stderr: Option<ChildStderr>) -> Receive
     receiver
 }
 
-/// The crate of which a line of rt says that it is proved, now or before.
-fn proved(line: &str) -> Option<&str> {
-    line.strip_prefix("rt: ")?.split_once(" proved (").map(|(name, _)| name)
+/// What rt's lines say of crates, one line after the other.
+#[derive(Default)]
+struct Report {
+    /// The crate that was checked last, of which the verdict is due.
+    checked: Option<String>,
+}
+
+impl Report {
+    /// The crate of which a line says that it is proved, now or before. A check names its crate ahead of its verdict, and
+    /// before that the libraries that it was checked over, which rt builds of proved crates alone.
+    fn proved(&mut self, line: &str) -> Option<String> {
+        let named = |kind: &str| line.strip_prefix(kind)?.split_once(": modules ").map(|(name, _)| name.to_string());
+        if let Some(one) = named("crate ") {
+            self.checked = Some(one);
+        } else if let Some(verdict) = line.strip_prefix("logic=") {
+            return self.checked.take().filter(|_| verdict.starts_with("proved "));
+        }
+        named("library ")
+    }
 }
 
 /// Says how far the proofs are.
 struct Progress {
-    /// The crate whose archive is made.
+    /// The archive that is made.
     name: &'static str,
     crates: usize,
     proved: usize,

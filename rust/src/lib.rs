@@ -52,8 +52,8 @@
 //!
 //! # The archive
 //!
-//! The build step makes it with `rt staticlib poddurance` where it is missing or older than its sources. That proves every crate, takes
-//! minutes and needs the Rattle kit. Where the archive was made elsewhere, PODDURANCE_LIB_DIR names the folder, by an absolute path, of
+//! The build step makes it with `tools/archive poddurance` where it is missing or older than its sources. That proves every crate that it
+//! is made of, takes minutes and needs the Rattle kit. Where the archive was made elsewhere, PODDURANCE_LIB_DIR names the folder, by an absolute path, of
 //! the `libpoddurance.a` to link as it is; neither `rt` nor the sources are looked at.
 //!
 //! The crate is of the standard library alone. The [`raw`] calls, over buffers that the caller keeps, hold its only `unsafe`

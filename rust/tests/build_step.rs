@@ -1,10 +1,10 @@
-//! The build step: which archive it links, when it has it made, and who sees how far the proofs are. A script stands for `rt`, and a
-//! shell for cargo: it keeps back what the build script prints, as cargo does, and has a standard error of its own. All of it is
-//! tested on this package's step; benchmark_loops has the same step for an archive of its own.
+//! The build step: which archive it links, when it has it made, and who sees how far the proofs are; and `tools/archive`, which makes
+//! it. A script stands for `rt`, and a shell for cargo: it keeps back what the build script prints, as cargo does, and has a standard
+//! error of its own. All of it is tested on this package's step; benchmark_loops has the same step for an archive of its own.
 
 mod support;
 
-use std::ffi::{c_char, c_int};
+use std::ffi::{c_char, c_int, OsString};
 use std::fs::{self, File};
 use std::io::{Read, Write};
 use std::os::fd::{AsRawFd, FromRawFd, OwnedFd};
@@ -55,9 +55,9 @@ const CRATES: &str = "\
 # NAME: what it is built on.
 numbers:
 roaring: numbers
-poddurance: numbers roaring
-cases: roaring io libc
-benchmark_loops: numbers
+poddurance_c staticlib: numbers roaring
+cases: roaring regex
+benchmark_loops_c staticlib: numbers
 ";
 
 impl Repository {
@@ -69,22 +69,31 @@ impl Repository {
     fn with(name: &str, package: &'static Package) -> Repository {
         let root = Path::new(env!("CARGO_TARGET_TMPDIR")).join(format!("build-step-{name}"));
         let _ = fs::remove_dir_all(&root);
-        for one in ["numbers", "roaring", "poddurance", "cases", "benchmark_loops"] {
+        for one in ["numbers", "roaring", "poddurance_c", "cases", "benchmark_loops_c"] {
             fs::create_dir_all(root.join("crates").join(one).join("src")).unwrap();
             fs::write(root.join("crates").join(one).join("src/lib.rt"), "").unwrap();
         }
         fs::write(root.join("crates.txt"), CRATES).unwrap();
         fs::create_dir_all(root.join(package.folder)).unwrap();
         fs::create_dir(root.join("bin")).unwrap();
-        Repository { root, package }
+        fs::create_dir(root.join("tools")).unwrap();
+        let repository = Repository { root, package };
+        let tool = Path::new(env!("CARGO_MANIFEST_DIR")).join("../tools/archive");
+        repository.script("tools/archive", &fs::read_to_string(tool).unwrap());
+        repository
     }
 
-    /// What `rt staticlib` does for the package's crate.
-    fn rt(&self, script: &str) {
-        let path = self.root.join("bin/rt");
-        let name = self.package.name;
-        fs::write(&path, format!("#!/bin/sh\n[ \"$*\" = 'staticlib {name}' ] || exit 9\n{script}")).unwrap();
+    fn script(&self, path: &str, script: &str) {
+        let path = self.root.join(path);
+        fs::write(&path, script).unwrap();
         fs::set_permissions(&path, fs::Permissions::from_mode(0o755)).unwrap();
+    }
+
+    /// What `rt lib` does in the folder of the crate that exports the package's functions.
+    fn rt(&self, script: &str) {
+        let asked =
+            format!("[ \"$*\" = lib ] && [ \"$PWD\" = '{}/crates/{}_c' ] || exit 9", self.root.display(), self.package.name);
+        self.script("bin/rt", &format!("#!/bin/sh\n{asked}\n{script}"));
     }
 
     fn archive(&self) -> PathBuf {
@@ -105,12 +114,15 @@ impl Repository {
         shell.current_dir(&folder);
         shell.env_remove("PODDURANCE_LIB_DIR").env("CARGO_MANIFEST_DIR", folder);
         shell.env("CARGO_CFG_TARGET_ARCH", "x86_64").env("CARGO_CFG_TARGET_OS", "linux").env("TERM", "xterm");
-        // Where no script stands for rt there is none on the path, nor anything else.
+        shell.env("PATH", self.path()).stdin(Stdio::null()).stdout(Stdio::null());
+        shell
+    }
+
+    /// Where no script stands for rt there is none on the path, nor anything else.
+    fn path(&self) -> OsString {
         let bin = self.root.join("bin");
         let path = std::env::var_os("PATH").filter(|_| bin.join("rt").exists()).unwrap_or_default();
-        shell.env("PATH", std::env::join_paths([bin].into_iter().chain(std::env::split_paths(&path))).unwrap());
-        shell.stdin(Stdio::null()).stdout(Stdio::null());
-        shell
+        std::env::join_paths([bin].into_iter().chain(std::env::split_paths(&path))).unwrap()
     }
 
     /// What the script printed for cargo to read, and for whoever asks cargo.
@@ -132,16 +144,19 @@ impl Drop for Repository {
     }
 }
 
-/// Proves two crates, one of them before, says something else, one of them twice and of one that isn't needed, and makes the archive.
-/// What is said of the crates goes to standard error, as rt has it.
+/// Proves two crates, one of them before, says something else, one of them twice and of one that isn't needed, keeps its work in the
+/// crates' folders, and makes the archive. What is said of the crates goes to standard output, as rt has it.
 const PROVES: &str = "
-echo 'rt: numbers proved (unchanged since it was last proved)' >&2
-echo 'fn roaring::walk: proved' >&2
-echo 'rt: roaring proved (3 s)' >&2
-echo 'rt: cases proved (1 s)' >&2
-echo 'rt: roaring proved (unchanged since it was last proved)' >&2
-mkdir -p target/staticlib && : >target/staticlib/libpoddurance.a
-echo 'rt: target/staticlib/libpoddurance.a has the functions of poddurance'
+mkdir -p out ../numbers/out ../roaring/out
+echo 'library numbers: modules loaded=16 checked=0'
+echo 'fn roaring::walk: proved'
+echo 'crate roaring: modules loaded=0 checked=33'
+echo 'axioms std: none reached of the 2 declared'
+echo 'logic=proved functions=1 native=nat,char,string'
+echo 'crate cases: modules loaded=0 checked=33'
+echo 'logic=proved functions=1 native=nat,char,string'
+echo 'library roaring: modules loaded=18 checked=0'
+: >out/libpoddurance_c.a
 ";
 
 /// The seconds, which differ, as `N s`.
@@ -175,7 +190,7 @@ fn a_pipe_sees_plain_lines() {
     let kept = lines(&without_seconds(&err));
     let (ours, others): (Vec<_>, Vec<_>) = kept.into_iter().partition(|line| line.starts_with("poddurance: "));
     assert_eq!(ours, lines(PLAIN));
-    assert_eq!(others.len(), 6, "{others:?}");
+    assert_eq!(others.len(), 9, "{others:?}");
     assert!(!err.contains(['\r', '\x1B']));
 }
 
@@ -310,7 +325,7 @@ fn crates_that_the_archive_is_not_made_from_are_not_looked_at() {
     };
     let builds = || repository.build().stderr(Stdio::null()).status().unwrap().success();
     change("cases");
-    change("benchmark_loops");
+    change("benchmark_loops_c");
     assert!(builds());
     change("numbers");
     assert!(!builds());
@@ -332,18 +347,58 @@ fn what_goes_wrong_is_said() {
         "target/staticlib/libpoddurance.a is missing, and 'rt', which makes it, is not on the path; install the Rattle kit and \
          put its folder with 'rt' on PATH, or set PODDURANCE_LIB_DIR to the folder of an archive",
     );
-    repository.rt("echo 'rt: numbers proved (1 s)'\necho 'rt: roaring NOT PROVED (exit 1, 2 s)'\nexit 1");
-    complains(&repository, &[], "'rt staticlib poddurance' failed: exit status: 1; its output is above");
-    assert!(repository.kept().1.contains("rt: roaring NOT PROVED (exit 1, 2 s)\n"));
+    repository.rt("
+echo 'crate numbers: modules loaded=0 checked=33'
+echo 'logic=proved functions=1 native=nat,char,string'
+echo 'crate roaring: modules loaded=27 checked=6'
+echo 'logic=not-proved'
+echo 'rt: the library roaring did not build, so nothing above it was checked' >&2
+exit 1
+");
+    complains(&repository, &[], "'tools/archive poddurance' failed: exit status: 1; its output is above");
+    let err = repository.kept().1;
+    assert!(err.contains("rt: the library roaring did not build, so nothing above it was checked\n"));
+    assert!(err.contains("poddurance: numbers proved, 1 of 3 crates, ") && !err.contains("roaring proved"), "{err}");
     repository.rt("exit 0");
-    complains(&repository, &[], "'rt staticlib poddurance' ended well but target/staticlib/libpoddurance.a isn't there");
+    complains(&repository, &[], "'tools/archive poddurance' failed: exit status: 1; its output is above");
+    assert!(repository.kept().1.contains("crates/poddurance_c/out/libpoddurance_c.a"));
+    repository.script("tools/archive", "#!/bin/sh\nexit 0");
+    complains(&repository, &[], "'tools/archive poddurance' ended well but target/staticlib/libpoddurance.a isn't there");
     let elsewhere = [("CARGO_CFG_TARGET_ARCH", "aarch64")];
-    complains(&repository, &elsewhere, "rt staticlib makes an archive for x86-64 Linux alone, and this is aarch64 linux");
+    complains(&repository, &elsewhere, "rt lib makes an archive for x86-64 Linux alone, and this is aarch64 linux");
 
     let dir = |folder: &'static str| [("PODDURANCE_LIB_DIR", folder)];
     complains(&repository, &dir("archives"), "PODDURANCE_LIB_DIR is archives, and must be an absolute path");
     let none = "PODDURANCE_LIB_DIR is /no such folder, and there is no libpoddurance.a in it";
     complains(&repository, &dir("/no such folder"), none);
+}
+
+#[test]
+fn the_tool_leaves_an_archive_only_where_rt_ends_well() {
+    let repository = Repository::new("tool");
+    // From any folder.
+    let tool = |words: &[&str]| {
+        let mut tool = Command::new(repository.root.join("tools/archive"));
+        let output = tool.args(words).current_dir("/").env("PATH", repository.path()).stdin(Stdio::null()).output().unwrap();
+        (output.status.code(), String::from_utf8(output.stdout).unwrap(), String::from_utf8(output.stderr).unwrap())
+    };
+    repository.rt("echo built\nmkdir -p out && echo new >out/libpoddurance_c.a");
+    let made = "built\ntarget/staticlib/libpoddurance.a has the functions of poddurance\n";
+    assert_eq!(tool(&["poddurance"]), (Some(0), made.to_string(), String::new()));
+    assert_eq!(fs::read_to_string(repository.archive()).unwrap(), "new\n");
+    // Where rt fails there is none, though there was one, and rt's own is there still. The status is rt's.
+    repository.rt("echo 'not proved' >&2\nexit 3");
+    assert_eq!(tool(&["poddurance"]), (Some(3), String::new(), "not proved\n".to_string()));
+    assert!(!repository.archive().exists());
+
+    // Nothing else has an archive.
+    repository.rt("exit 7");
+    for words in [&[][..], &["numbers"], &["poddurance_c"], &[""], &["poddurance", "benchmark_loops"]] {
+        let (status, out, err) = tool(words);
+        assert_eq!((status, out.as_str()), (Some(2), ""), "{words:?}");
+        let of = format!("the archive of poddurance or of benchmark_loops, and was asked for '{}'\n", words.join(" "));
+        assert_eq!(err, format!("tools/archive makes {of}"));
+    }
 }
 
 #[test]
@@ -370,10 +425,10 @@ fn the_other_package_links_an_archive_of_its_own() {
     // Made in the same root, from the two crates that it needs.
     let repository = Repository::with("other", &BENCHMARK_LOOPS);
     repository.rt("
-[ -f crates.txt ] || exit 8
-echo 'rt: numbers proved (1 s)' >&2
-echo 'rt: roaring proved (1 s)' >&2
-mkdir -p target/staticlib && : >target/staticlib/libbenchmark_loops.a
+[ -f ../../crates.txt ] || exit 8
+echo 'library numbers: modules loaded=16 checked=0'
+echo 'library roaring: modules loaded=18 checked=0'
+mkdir -p out && : >out/libbenchmark_loops_c.a
 ");
     let output = repository.build().stderr(Stdio::piped()).output().unwrap();
     assert!(output.status.success());
@@ -407,8 +462,8 @@ benchmark_loops: the archive is made: 2 crates proved, N s
     assert!(repository.links(&folder));
 }
 
-/// Both steps run rt, which has no lock over target/. Cargo runs the second after the first because the package of the second depends
-/// on that of the first, and not for its tests alone, and because that one has `links`.
+/// Both steps run rt over crates that both archives need, and there one run of rt would wait for the other. Cargo runs the second after
+/// the first because the package of the second depends on that of the first, and not for its tests alone, and because that one has `links`.
 #[test]
 fn cargo_runs_one_step_after_the_other_and_the_second_for_its_own_package_alone() {
     let mut cargo = Command::new(env!("CARGO"));
