@@ -1,8 +1,8 @@
 -- Audit, stage by stage: what was placed is what the reading says, and the field is zero again.
-use Prim.Native.Nat.{ℕ, zero, suc, ◌+◌, ◌-◌, ◌<◌, ◌≤◌}
-use mathlib.Core.Path.{◌≡◌, refl, ap, ◌∙◌}
+use Prim.Native.Nat.{ℕ, ◌+◌, ◌-◌, ◌<◌, ◌≤◌}
+use mathlib.Core.Path.{◌≡◌, refl, ◌∙◌}
 use mathlib.Core.Bool.{Bool, true, false}
-use mathlib.Core.List.{List, [], ◌∷◌}
+use mathlib.Core.List.{List}
 use native.Mathlib.Omega.{arith}
 use lib.Dec.{leb}
 use lib.ListN.{length}
@@ -12,7 +12,7 @@ use Rattle.numbers.specs.declared.Row.{Row}
 use Rattle.refusal.specs.Meaning.{limit}
 use Rattle.refusal.specs.declared.Refusal.{Refusal}
 use Rattle.refusal.specs.declared.Refusal.TheVariants.{Missing, Room, Limit}
-use Rattle.row_field.specs.Meaning.{zeroed, cleared, size, count, first_clear_row}
+use Rattle.row_field.specs.Meaning.{cleared, size, count, first_clear_row}
 use Rattle.row_field.proofs.Counts.{none_counted, count-le, length-zeroed, zeroed-again, bit-zeroed}
 use Rattle.refusal.specs.Reading.{Out, refuse, ok, check, and_then, numbers_of, fault_in}
 use Rattle.dictionary.specs.declared.Checked.{Checked}

@@ -22,7 +22,7 @@ use Rattle.roaring.proofs.Measuring.{measured_back, end_below}
 use Rattle.roaring.proofs.RowsRising.{bitmap_rising}
 use Rattle.deletion_file.specs.declared.Deletions.TheVariants.{Deleted}
 use Rattle.deletion_file.specs.Layout.{Bin, bin_bytes, bin_of, frames, Framed, HoldsBytes, holds_bytes}
-use Rattle.refusal.specs.Reading.{Out, refuse, ok, and_then, refused_as}
+use Rattle.refusal.specs.Reading.{Out, refuse, ok, refused_as}
 use Rattle.deletion_file.specs.Reading.{bins, bin_numbered, bin_in, bin_asked_for, after_magic, bitmap_in, bin_entry, bitmap_marked, deletions_ready, deletions_by}
 use Rattle.refusal.proofs.Laws.{not-ok, ok_same, check-ok, then_ok, refused_as-ok}
 use Rattle.deletion_file.proofs.BinSteps.{magic_back}

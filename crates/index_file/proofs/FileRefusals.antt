@@ -2,12 +2,12 @@
 -- never LITERAL.
 use Prim.Native.Nat.{ℕ, zero, suc}
 use mathlib.Core.Path.{◌≡◌, refl}
-use mathlib.Core.Bool.{Bool, true, false, cond}
+use mathlib.Core.Bool.{Bool}
 use mathlib.Core.List.{List}
 use native.Mathlib.Omega.{arith}
 use Rattle.refusal.specs.declared.Refusal.{Refusal}
 use Rattle.refusal.specs.declared.Refusal.TheVariants.{Short, Magic, Version, Head, Literal}
-use Rattle.refusal.specs.Reading.{Out, refuse, ok, check}
+use Rattle.refusal.specs.Reading.{Out, refuse, ok}
 use Rattle.refusal.specs.Claims.{Bare, CarriesNothing}
 use Rattle.refusal.proofs.CarriesNothing.{bare}
 use Rattle.refusal.proofs.Only.{Only, check_only, number_only}

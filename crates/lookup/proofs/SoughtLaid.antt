@@ -12,7 +12,7 @@ use Rattle.refusal.specs.Meaning.{limit}
 use Rattle.refusal.specs.declared.Refusal.TheVariants.{Short}
 use Rattle.refusal.specs.Reading.{refuse, ok, check, and_then}
 use Rattle.stored_value.specs.Meaning.{null}
-use Rattle.dictionary.specs.Layout.{Entry, Patterns, Rises, NoneEmpty, block, blocks, directory, body2}
+use Rattle.dictionary.specs.Layout.{Entry, Patterns, Rises, NoneEmpty, blocks, body2}
 use Rattle.opening.specs.Layout.{before_directory, entry_starts}
 use Rattle.opening.specs.Reading.{front}
 use Rattle.opening.proofs.FrontLaid.{behind_directory as tailOf, front_laid, starts_length}

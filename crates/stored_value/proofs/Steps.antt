@@ -1,6 +1,6 @@
 -- What the code's answers and the turns of its loops see of the definitions.
 use Prim.Native.Nat.{ℕ, suc, ◌+◌, ◌-◌, ◌*◌, ◌<◌, ◌≤◌}
-use mathlib.Core.Path.{◌≡◌, refl, ap, sym, ◌∙◌}
+use mathlib.Core.Path.{◌≡◌, ap, sym, ◌∙◌}
 use mathlib.Core.Bool.{Bool, true, false, ◌&&◌, ◌||◌, or-false}
 use mathlib.Core.List.{List, [], ◌∷◌, ◌++◌}
 use mathlib.Core.Logic.{◌⊎◌, ⊎_elim}
@@ -17,9 +17,8 @@ use mir.Facts.{to_z-of_z}
 use lib.ListN.{length, get_or, take, drop, length-drop, drop_of_length-le}
 use lib.Seq.{drop-cons, drop-drop, get_or-drop}
 use borrow.Author.Tests.{eq-eqb, ne_eqb, le-leb, lt-leb, lt-ltb, le-ltb, ltb-true}
-use Rattle.numbers.specs.Meaning.{Bytes, be_at, le_at, le, big, sign_bit, two_bytes}
+use Rattle.numbers.specs.Meaning.{Bytes, be_at, big, sign_bit, two_bytes}
 use Rattle.numbers.proofs.Laws.{be_at-lt, be_at_split, number_at_lem, number_short}
-use Rattle.numbers.proofs.SameBytes.{word_back}
 use Rattle.refusal.specs.declared.Refusal.{Refusal}
 use Rattle.refusal.specs.declared.Refusal.TheVariants.{Literal, Limit}
 use Rattle.stored_value.specs.declared.Sized.{Sized}
