@@ -1,13 +1,11 @@
 // Prints checksums, each a line of a name and eight hexadecimal digits.
 #![tactic(auto)]
 
-use libc::STDOUT_FILENO;
+use std::io;
 
-fn show(name: &[u8], bytes: &[u8]) {
-    io::write_all(STDOUT_FILENO, name);
-    io::write_all(STDOUT_FILENO, b" ");
-    io::print_hex(STDOUT_FILENO, crc32::checksum(bytes) as u64, 8);
-    io::write_all(STDOUT_FILENO, b"\n");
+fn show(rt: &impl Print, name: &str, bytes: &[u8]) -> io::Result<()> {
+    let sum = crc32::checksum(bytes);
+    println!(rt; "{name} {sum:08x}")
 }
 
 // The bytes 0 to 255.
@@ -23,14 +21,14 @@ fn rising() -> [u8; 256] {
 
 // The value that the contract gives for the digits is the value of the run.
 fn digits() {
-    check::expect(crc32::checksum(b"123456789") == 0xCBF4_3926);
+    prove!(crc32::checksum(b"123456789") == 0xCBF4_3926);
 }
 
-fn main() {
+fn main(rt: HostRuntime) -> io::Result<()> {
     digits();
-    show(b"empty", b"");
-    show(b"a", b"a");
-    show(b"123456789", b"123456789");
-    show(b"0..255", &rising());
-    show(b"1000 zeros", &[0u8; 1000]);
+    show(&rt, "empty", b"")?;
+    show(&rt, "a", b"a")?;
+    show(&rt, "123456789", b"123456789")?;
+    show(&rt, "0..255", &rising())?;
+    show(&rt, "1000 zeros", &[0u8; 1000])
 }

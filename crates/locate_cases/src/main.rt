@@ -13,82 +13,117 @@ use bitmap_index::{Answered, Question};
 use file_to_answers::FileAnswer;
 use index_file::Located;
 use numbers::Position;
+use std::io;
 
-fn say_found(found: Located) {
+fn say_found(rt: &impl Print, found: Located) -> io::Result<()> {
     match found {
         Located::Found { start, length } => {
-            case_lines::say_number(b": found at ", start.0 as u64);
-            case_lines::say_number(b", length ", length as u64);
+            case_lines::say_number(rt, b": found at ", start.0 as u64)?;
+            case_lines::say_number(rt, b", length ", length as u64)
         }
-        Located::Absent => case_lines::say(b": absent"),
-        Located::Refused(why) => case_lines::say_refused(why),
+        Located::Absent => case_lines::say(rt, b": absent"),
+        Located::Refused(why) => case_lines::say_refused(rt, why),
     }
 }
 
-fn find<'a>(embedded: &'a [u8], file: &'a [u8], column: &[u8], kind: &[u8]) {
-    say_found(file_to_answers::find(embedded, file, column, kind));
+fn find<'a>(
+    rt: &impl Print,
+    embedded: &'a [u8],
+    file: &'a [u8],
+    column: &[u8],
+    kind: &[u8],
+) -> io::Result<()> {
+    say_found(rt, file_to_answers::find(embedded, file, column, kind))?;
     let mut answer = 99u8;
     let part = file_to_answers::locate(embedded, file, column, kind, &mut answer);
-    case_lines::say_number(b"; answer ", answer as u64);
-    case_lines::say_number(b", part ", part.len() as u64);
-    case_lines::say_bytes(b"", part);
-    case_lines::end_line();
+    case_lines::say_number(rt, b"; answer ", answer as u64)?;
+    case_lines::say_number(rt, b", part ", part.len() as u64)?;
+    case_lines::say_bytes(rt, b"", part)?;
+    case_lines::end_line(rt)
 }
 
-fn cuts<'a>(embedded: &'a [u8], file: &'a [u8], column: &[u8], kind: &[u8]) {
+fn cuts<'a>(
+    rt: &impl Print,
+    embedded: &'a [u8],
+    file: &'a [u8],
+    column: &[u8],
+    kind: &[u8],
+) -> io::Result<()> {
     for n in 0..file.len() {
-        case_lines::say_number(b"cut ", n as u64);
-        find(embedded, &file[0..n], column, kind);
+        case_lines::say_number(rt, b"cut ", n as u64)?;
+        find(rt, embedded, &file[0..n], column, kind)?;
     }
+    Ok(())
 }
 
-fn each<'a>(embedded: &'a [u8], file: &'a [u8], column: &[u8], kind: &[u8], line: &[u8]) {
+fn each<'a>(
+    rt: &impl Print,
+    embedded: &'a [u8],
+    file: &'a [u8],
+    column: &[u8],
+    kind: &[u8],
+    line: &[u8],
+) -> io::Result<()> {
     let mut copy = [0u8; 128];
     let n = case_lines::push_all(&mut copy, 0, file);
     let at = case_lines::number(line, 3) as usize;
     for b in 0..case_lines::number(line, 4) {
         case_lines::push(&mut copy, at, (b % 256) as u8);
-        case_lines::say_number(b"byte ", b);
-        find(embedded, case_lines::first(&copy, n), column, kind);
+        case_lines::say_number(rt, b"byte ", b)?;
+        find(rt, embedded, case_lines::first(&copy, n), column, kind)?;
     }
+    Ok(())
 }
 
 // The name that a line's words from the second on spell, asked for as a column or as a kind.
-fn spelled<'a>(embedded: &'a [u8], file: &'a [u8], line: &[u8], as_kind: bool) {
+fn spelled<'a>(
+    rt: &impl Print,
+    embedded: &'a [u8],
+    file: &'a [u8],
+    line: &[u8],
+    as_kind: bool,
+) -> io::Result<()> {
     let mut bytes = [0u8; 64];
     let n = case_lines::push_bytes(&mut bytes, 0, case_lines::from_word(line, 2));
     let name = case_lines::first(&bytes, n);
     let word = case_lines::word(line, 1);
     if as_kind {
-        find(embedded, file, word, name);
+        find(rt, embedded, file, word, name)
     } else {
-        find(embedded, file, name, word);
+        find(rt, embedded, file, name, word)
     }
 }
 
-fn long<'a>(embedded: &'a [u8], file: &'a [u8], line: &[u8]) {
+fn long<'a>(rt: &impl Print, embedded: &'a [u8], file: &'a [u8], line: &[u8]) -> io::Result<()> {
     let mut bytes = [0u8; 65536];
     case_lines::fill(&mut bytes, (case_lines::number(line, 2) % 256) as u8);
     let name = case_lines::first(&bytes, case_lines::number(line, 3) as usize);
-    find(embedded, file, name, case_lines::word(line, 1));
+    find(rt, embedded, file, name, case_lines::word(line, 1))
 }
 
-fn say_answered(answer: Answered) {
+fn say_answered(rt: &impl Print, answer: Answered) -> io::Result<()> {
     match answer {
-        Answered::Refused(why) => case_lines::say_refused(why),
-        Answered::Skip(record) => case_lines::say_record(b": skip ", record),
-        Answered::Keep(record) => case_lines::say_record(b": keep ", record),
+        Answered::Refused(why) => case_lines::say_refused(rt, why),
+        Answered::Skip(record) => case_lines::say_record(rt, b": skip ", record),
+        Answered::Keep(record) => case_lines::say_record(rt, b": keep ", record),
     }
 }
 
-fn say_answer(answer: FileAnswer) {
+fn say_answer(rt: &impl Print, answer: FileAnswer) -> io::Result<()> {
     match answer {
-        FileAnswer::Absent => case_lines::say(b": absent"),
-        FileAnswer::Answered(a) => say_answered(a),
+        FileAnswer::Absent => case_lines::say(rt, b": absent"),
+        FileAnswer::Answered(a) => say_answered(rt, a),
     }
 }
 
-fn ask<'a>(embedded: &'a [u8], file: &'a [u8], column: &[u8], kind: &[u8], line: &[u8]) {
+fn ask<'a>(
+    rt: &impl Print,
+    embedded: &'a [u8],
+    file: &'a [u8],
+    column: &[u8],
+    kind: &[u8],
+    line: &[u8],
+) -> io::Result<()> {
     let mut bytes = [0u8; 64];
     let n = case_lines::push_bytes(&mut bytes, 0, case_lines::from_word(line, 6));
     let literals = case_lines::first(&bytes, n);
@@ -98,65 +133,68 @@ fn ask<'a>(embedded: &'a [u8], file: &'a [u8], column: &[u8], kind: &[u8], line:
         name: case_lines::number32(line, 5),
     };
     let mut field = [0xA5u8; 2];
-    say_answer(file_to_answers::ask_file(
+    let answer = file_to_answers::ask_file(
         embedded, file, column, kind, t, question, literals, &mut field,
-    ));
-    case_lines::say_bytes(b", field", &field);
-    case_lines::end_line();
+    );
+    say_answer(rt, answer)?;
+    case_lines::say_bytes(rt, b", field", &field)?;
+    case_lines::end_line(rt)
 }
 
 // Does the call that a line says.
-fn call<'a>(embedded: &'a [u8], file: &'a [u8], line: &[u8]) {
+fn call<'a>(rt: &impl Print, embedded: &'a [u8], file: &'a [u8], line: &[u8]) -> io::Result<()> {
     let column = case_lines::word(line, 1);
     let kind = case_lines::word(line, 2);
     match case_lines::letter(line) {
         b'f' => {
-            case_lines::say(line);
-            find(embedded, file, column, kind);
+            case_lines::say(rt, line)?;
+            find(rt, embedded, file, column, kind)
         }
-        b'c' => cuts(embedded, file, column, kind),
-        b'e' => each(embedded, file, column, kind, line),
+        b'c' => cuts(rt, embedded, file, column, kind),
+        b'e' => each(rt, embedded, file, column, kind, line),
         b'n' => {
-            case_lines::say(line);
-            spelled(embedded, file, line, false);
+            case_lines::say(rt, line)?;
+            spelled(rt, embedded, file, line, false)
         }
         b'k' => {
-            case_lines::say(line);
-            spelled(embedded, file, line, true);
+            case_lines::say(rt, line)?;
+            spelled(rt, embedded, file, line, true)
         }
         b'l' => {
-            case_lines::say(line);
-            long(embedded, file, line);
+            case_lines::say(rt, line)?;
+            long(rt, embedded, file, line)
         }
         b'a' => {
-            case_lines::say(line);
-            ask(embedded, file, column, kind, line);
+            case_lines::say(rt, line)?;
+            ask(rt, embedded, file, column, kind, line)
         }
-        _ => {}
+        _ => Ok(()),
     }
 }
 
-fn lines(text: &[u8], file: &mut [u8], embedded: &mut [u8]) {
+fn lines(rt: &impl Print, text: &[u8], file: &mut [u8], embedded: &mut [u8]) -> io::Result<()> {
     let mut n = 0;
     let mut m = 0;
     let mut at = 0;
     while at < text.len() {
         let line = case_lines::line_at(text, Position(at));
-        n = case_lines::lay_out(file, n, line);
+        n = case_lines::lay_out(rt, file, n, line)?;
         m = case_lines::give(embedded, m, line);
         call(
+            rt,
             case_lines::first(embedded, m),
             case_lines::first(file, n),
             line,
-        );
+        )?;
         at += line.len() + 1;
     }
+    Ok(())
 }
 
-fn main() {
+fn main(rt: HostRuntime) -> io::Result<()> {
     let mut text = [0u8; 65536];
-    let n = case_lines::read(b"cases", &mut text);
+    let n = case_lines::read(&rt, b"cases", &mut text)?;
     let mut file = [0u8; 4096];
     let mut embedded = [0u8; 4096];
-    lines(case_lines::first(&text, n), &mut file, &mut embedded);
+    lines(&rt, case_lines::first(&text, n), &mut file, &mut embedded)
 }

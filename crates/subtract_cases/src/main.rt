@@ -2,139 +2,169 @@
 // the first field's bytes.
 #![tactic(auto)]
 
-use libc::STDOUT_FILENO;
+use std::io;
 use subtract::{Record, RecordSubtracted, Subtracted};
 
 fn wide(x: u8) -> u64 {
     x as u64
 }
 
-fn say(text: &[u8], n: u64) {
-    io::write_all(STDOUT_FILENO, text);
-    io::print_hex(STDOUT_FILENO, n, 2);
+fn say(rt: &impl Print, text: &str, n: u64) -> io::Result<()> {
+    print!(rt; "{text}{n:02x}")
 }
 
-fn say_field(first: [u8; 4]) {
-    say(b", field ", wide(first[0]));
-    say(b" ", wide(first[1]));
-    say(b" ", wide(first[2]));
-    say(b" ", wide(first[3]));
-    io::write_all(STDOUT_FILENO, b"\n");
+fn say_field(rt: &impl Print, first: [u8; 4]) -> io::Result<()> {
+    say(rt, ", field ", wide(first[0]))?;
+    say(rt, " ", wide(first[1]))?;
+    say(rt, " ", wide(first[2]))?;
+    say(rt, " ", wide(first[3]))?;
+    println!(rt)
 }
 
-fn case(name: &[u8], bytes: [u8; 4], second: [u8; 4], rows: u64) {
+fn case(rt: &impl Print, name: &str, bytes: [u8; 4], second: [u8; 4], rows: u64) -> io::Result<()> {
     let mut first = bytes;
     let answer = subtract::subtract(&mut first, &second, rows);
-    io::write_all(STDOUT_FILENO, name);
+    print!(rt; "{name}")?;
     match answer {
         Subtracted::Refused(r) => {
-            say(b": refused ", wide(refusal::number(r)));
+            say(rt, ": refused ", wide(refusal::number(r)))?;
         }
         Subtracted::Done { left, removed } => {
-            say(b": left ", left);
-            say(b", removed ", removed);
+            say(rt, ": left ", left)?;
+            say(rt, ", removed ", removed)?;
         }
     }
-    say_field(first);
+    say_field(rt, first)
 }
 
-fn say_counts(record: Record, removed: u64) {
-    say(b", rows ", record.rows);
-    say(b", nulls ", record.nulls);
-    say(b", deleted ", record.deleted);
-    say(b", matched ", record.matched);
-    say(b", removed ", removed);
+fn say_counts(rt: &impl Print, record: Record, removed: u64) -> io::Result<()> {
+    say(rt, ", rows ", record.rows)?;
+    say(rt, ", nulls ", record.nulls)?;
+    say(rt, ", deleted ", record.deleted)?;
+    say(rt, ", matched ", record.matched)?;
+    say(rt, ", removed ", removed)
 }
 
 // Says the answer, and gives the record that is handed back; the one that was given where it is refused.
-fn say_handed_back(answer: RecordSubtracted, given: Record) -> Record {
+fn say_handed_back(rt: &impl Print, answer: RecordSubtracted, given: Record) -> io::Result<Record> {
     match answer {
         RecordSubtracted::Refused(r) => {
-            say(b": refused ", wide(refusal::number(r)));
-            given
+            say(rt, ": refused ", wide(refusal::number(r)))?;
+            Ok(given)
         }
         RecordSubtracted::Skip { record, removed } => {
-            io::write_all(STDOUT_FILENO, b": skip");
-            say_counts(record, removed);
-            record
+            print!(rt; ": skip")?;
+            say_counts(rt, record, removed)?;
+            Ok(record)
         }
         RecordSubtracted::Keep { record, removed } => {
-            io::write_all(STDOUT_FILENO, b": keep");
-            say_counts(record, removed);
-            record
+            print!(rt; ": keep")?;
+            say_counts(rt, record, removed)?;
+            Ok(record)
         }
     }
 }
 
 // Subtracts one field and then another, each time with the record as it is then.
-fn in_turn(name: &[u8], bytes: [u8; 4], second: [u8; 4], third: [u8; 4], given: Record) {
+fn in_turn(
+    rt: &impl Print,
+    name: &str,
+    bytes: [u8; 4],
+    second: [u8; 4],
+    third: [u8; 4],
+    given: Record,
+) -> io::Result<()> {
     let mut first = bytes;
-    io::write_all(STDOUT_FILENO, name);
-    let then = say_handed_back(subtract::subtract_record(&mut first, &second, given), given);
-    say_field(first);
-    io::write_all(STDOUT_FILENO, b"  then");
-    let _ = say_handed_back(subtract::subtract_record(&mut first, &third, then), then);
-    say_field(first);
+    print!(rt; "{name}")?;
+    let then = say_handed_back(
+        rt,
+        subtract::subtract_record(&mut first, &second, given),
+        given,
+    )?;
+    say_field(rt, first)?;
+    print!(rt; "  then")?;
+    let _ = say_handed_back(
+        rt,
+        subtract::subtract_record(&mut first, &third, then),
+        then,
+    )?;
+    say_field(rt, first)
 }
 
-fn main() {
-    case(b"rows 0, 2, 5 of six", [0x3F, 0, 0, 0], [0x25, 0, 0, 0], 6);
+fn main(rt: HostRuntime) -> io::Result<()> {
     case(
-        b"dirty spare bits",
+        &rt,
+        "rows 0, 2, 5 of six",
+        [0x3F, 0, 0, 0],
+        [0x25, 0, 0, 0],
+        6,
+    )?;
+    case(
+        &rt,
+        "dirty spare bits",
         [0xFF, 0xFF, 0xFF, 0xFF],
         [0xFF, 0xFF, 0xFF, 0xFF],
         6,
-    );
+    )?;
     case(
-        b"dirty spare bits of two bytes",
+        &rt,
+        "dirty spare bits of two bytes",
         [0xFF, 0xFF, 0xFF, 0xFF],
         [0x0F, 0xFF, 0xFF, 0xFF],
         13,
-    );
+    )?;
     case(
-        b"dirty bytes behind",
+        &rt,
+        "dirty bytes behind",
         [0xFF, 0xAA, 0xBB, 0xCC],
         [0x0F, 0x11, 0x22, 0x33],
         8,
-    );
+    )?;
     case(
-        b"no rows",
+        &rt,
+        "no rows",
         [0xFF, 0xAA, 0xBB, 0xCC],
         [0xFF, 0xFF, 0xFF, 0xFF],
         0,
-    );
+    )?;
     case(
-        b"all rows",
+        &rt,
+        "all rows",
         [0x12, 0x34, 0x56, 0x78],
         [0xF0, 0xF0, 0xF0, 0xF0],
         32,
-    );
+    )?;
     case(
-        b"nothing to remove",
+        &rt,
+        "nothing to remove",
         [0x12, 0x34, 0x56, 0x78],
         [0, 0, 0, 0],
         31,
-    );
+    )?;
     case(
-        b"one row too many",
+        &rt,
+        "one row too many",
         [0x12, 0x34, 0x56, 0x78],
         [0xFF, 0xFF, 0xFF, 0xFF],
         33,
-    );
+    )?;
     case(
-        b"the greatest row count",
+        &rt,
+        "the greatest row count",
         [0x12, 0x34, 0x56, 0x78],
         [0xFF, 0xFF, 0xFF, 0xFF],
         2147483647,
-    );
+    )?;
     case(
-        b"past the limit",
+        &rt,
+        "past the limit",
         [0x12, 0x34, 0x56, 0x78],
         [0xFF, 0xFF, 0xFF, 0xFF],
         2147483648,
-    );
+    )?;
     in_turn(
-        b"an answer of six rows, two of them null",
+        &rt,
+        "an answer of six rows, two of them null",
         [0x3F, 0, 0, 0],
         [0x25, 0, 0, 0],
         [0x40, 0, 0, 0],
@@ -144,9 +174,10 @@ fn main() {
             deleted: 0,
             matched: 6,
         },
-    );
+    )?;
     in_turn(
-        b"deleted rows that were not chosen",
+        &rt,
+        "deleted rows that were not chosen",
         [0x30, 0, 0, 0],
         [0x0F, 0, 0, 0],
         [0x3F, 0, 0, 0],
@@ -156,9 +187,10 @@ fn main() {
             deleted: 0,
             matched: 2,
         },
-    );
+    )?;
     in_turn(
-        b"what the record had is replaced",
+        &rt,
+        "what the record had is replaced",
         [0xFF, 0x0F, 0, 0],
         [0x11, 0xFF, 0, 0],
         [0x22, 0, 0, 0],
@@ -168,9 +200,10 @@ fn main() {
             deleted: 77,
             matched: 99,
         },
-    );
+    )?;
     in_turn(
-        b"dirty spare bits and bytes behind",
+        &rt,
+        "dirty spare bits and bytes behind",
         [0xFF, 0xFF, 0xFF, 0xFF],
         [0x0F, 0xFF, 0xFF, 0xFF],
         [0xF0, 0x0F, 0xFF, 0xFF],
@@ -180,9 +213,10 @@ fn main() {
             deleted: 0,
             matched: 13,
         },
-    );
+    )?;
     in_turn(
-        b"no rows left",
+        &rt,
+        "no rows left",
         [0x12, 0x34, 0x56, 0x78],
         [0xFF, 0xFF, 0xFF, 0xFF],
         [0, 0, 0, 0],
@@ -192,9 +226,10 @@ fn main() {
             deleted: 5,
             matched: 13,
         },
-    );
+    )?;
     in_turn(
-        b"no rows at all",
+        &rt,
+        "no rows at all",
         [0xFF, 0xAA, 0xBB, 0xCC],
         [0xFF, 0xFF, 0xFF, 0xFF],
         [0xFF, 0, 0, 0],
@@ -204,9 +239,10 @@ fn main() {
             deleted: 9,
             matched: 9,
         },
-    );
+    )?;
     in_turn(
-        b"one row too many",
+        &rt,
+        "one row too many",
         [0x12, 0x34, 0x56, 0x78],
         [0xFF, 0xFF, 0xFF, 0xFF],
         [0xFF, 0, 0, 0],
@@ -216,9 +252,10 @@ fn main() {
             deleted: 2,
             matched: 3,
         },
-    );
+    )?;
     in_turn(
-        b"the greatest row count",
+        &rt,
+        "the greatest row count",
         [0x12, 0x34, 0x56, 0x78],
         [0xFF, 0xFF, 0xFF, 0xFF],
         [0xFF, 0, 0, 0],
@@ -228,9 +265,10 @@ fn main() {
             deleted: 2,
             matched: 3,
         },
-    );
+    )?;
     in_turn(
-        b"past the limit",
+        &rt,
+        "past the limit",
         [0x12, 0x34, 0x56, 0x78],
         [0xFF, 0xFF, 0xFF, 0xFF],
         [0xFF, 0, 0, 0],
@@ -240,9 +278,10 @@ fn main() {
             deleted: 2,
             matched: 3,
         },
-    );
+    )?;
     in_turn(
-        b"the greatest numbers",
+        &rt,
+        "the greatest numbers",
         [0x12, 0x34, 0x56, 0x78],
         [0x10, 0x10, 0x10, 0x10],
         [0x02, 0, 0, 0],
@@ -252,5 +291,5 @@ fn main() {
             deleted: 18446744073709551615,
             matched: 18446744073709551615,
         },
-    );
+    )
 }
