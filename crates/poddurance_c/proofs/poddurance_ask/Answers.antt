@@ -1,0 +1,5 @@
+-- The promise is that of `poddurance::poddurance_ask`. The search finds it too; said here, a wrong call is refused for what is wrong in it.
+use Rattle.poddurance_c.proofs.poddurance_ask.Goals as goal
+
+pub returns : goal.returns
+returns c = c.poddurance_ask.ensures
