@@ -3,7 +3,6 @@
 mod support;
 
 use std::fs;
-use std::os::unix::fs::symlink;
 use std::path::{Path, PathBuf};
 use std::process::{Command, Output};
 
@@ -153,9 +152,11 @@ fn c_example(block: &[String], behind: &[String], name: &str) {
     // The command is run as printed, in a folder that has the repository's headers and archive.
     let folder = Path::new(env!("CARGO_TARGET_TMPDIR")).join(format!("readme-c-{name}"));
     let _ = fs::remove_dir_all(&folder);
-    fs::create_dir(&folder).unwrap();
-    for name in ["include", "target"] {
-        symlink(root().join(name), folder.join(name)).unwrap();
+    // Copies, since rt refuses a repository with links in it.
+    for file in ["include/poddurance.h", "target/staticlib/libpoddurance.a"] {
+        let copy = folder.join(file);
+        fs::create_dir_all(copy.parent().unwrap()).unwrap();
+        fs::copy(root().join(file), copy).unwrap();
     }
     fs::write(folder.join(name).with_extension("c"), block.join("\n") + "\n").unwrap();
     let output = Command::new("sh").args(["-c", command]).current_dir(&folder).output().unwrap();
