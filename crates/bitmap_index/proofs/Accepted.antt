@@ -19,7 +19,7 @@ use Rattle.row_field.proofs.Marks.{member, member_before, member-past, length-ma
 use Rattle.row_field.proofs.Laws.{tick, bytes-zeros}
 use Rattle.row_field.proofs.Counts.{count-full, length-zeroed, bit-zeroed}
 use Rattle.stored_value.specs.Meaning.{types, Cell, null, value, same_cell}
-use Rattle.refusal.specs.Reading.{ok}
+use Rattle.std.specs.Prelude.{Ok}
 use Rattle.stored_value.proofs.Laws.{same_cell-refl, same_cell→eq, same_cell-sym}
 use Rattle.dictionary.specs.Layout as layout
 use Rattle.dictionary.specs.Layout.{Patterns}
@@ -114,7 +114,7 @@ times_rising r lo hi (q ∷ rs) s = go (eqb r q) refl (times_rising r (q + 1) hi
     go false e i = omega arith
 
 module _ (n : ℕ) (region full : List ℕ) where
-  each_placed : (next : ℕ) (f : List ℕ) (es : List Entry) → Bytes region → Patterns es → place_entries next n region es f ≡ ok full → AllPlaced n region full f es
+  each_placed : (next : ℕ) (f : List ℕ) (es : List Entry) → Bytes region → Patterns es → place_entries next n region es f ≡ Ok full → AllPlaced n region full f es
   unfolding place_entries
   each_placed next f [] b p q = cc
   each_placed next f (e ∷ es) b p q =

@@ -23,7 +23,8 @@ use Rattle.roaring.specs.Reading.{Parsed, measured}
 use Rattle.roaring.specs.Claims.{ExtentIs}
 use Rattle.roaring.proofs.Measuring.{measured_back, rows-measured}
 use Rattle.refusal.proofs.Laws.{check-ok, then_ok}
-use Rattle.refusal.specs.Reading.{ok, and_then}
+use Rattle.std.specs.Prelude.{Ok}
+use Rattle.refusal.specs.Reading.{and_then}
 use Rattle.stored_value.specs.Meaning.{types, most_literals}
 use Rattle.stored_value.specs.Reading.{literals}
 use Rattle.dictionary.specs.Layout.{Entry}
@@ -85,13 +86,13 @@ module _ (region : List ℕ) (e : Entry) (b : Bytes region) (p : e.offset < four
       bitmap (take o region) bytes rest (sym (take-append-drop o region) ∙ ap (λ (y : List ℕ). take o region ++ y) d) m
       (s ∙ sym (length-take-le o region i)) (extent_back e.extent (length bytes) g)
 
-  pub bitmap-rows : (o : ℕ) (q : Parsed) → signed32 e.offset ≡ pos o → measured (extent_said e.extent) (drop o region) ≡ ok q → EntryRows region q.rows e
+  pub bitmap-rows : (o : ℕ) (q : Parsed) → signed32 e.offset ≡ pos o → measured (extent_said e.extent) (drop o region) ≡ Ok q → EntryRows region q.rows e
   bitmap-rows o q s m =
       let (bytes, behind, laid, is, fit) = measured_back (extent_said e.extent) (drop o region) q (bytes_drop o region b) m in
       bitmap_there o q.rows bytes behind (signed_positive e.offset o s) is laid fit
 
   module _ (next n : ℕ) (f f' : List ℕ) where
-    rows_there : (entry : ℕ) (z : ℤ) → signed32 e.offset ≡ z → entry_placed entry z e.extent n region f ≡ ok f' → EntryRows region (rows_for z region) e
+    rows_there : (entry : ℕ) (z : ℤ) → signed32 e.offset ≡ z → entry_placed entry z e.extent n region f ≡ Ok f' → EntryRows region (rows_for z region) e
     unfolding entry_placed rows_for
     rows_there entry (negsuc r) s q = single-rows r s
     rows_there entry (pos o) s q =
@@ -99,7 +100,7 @@ module _ (region : List ℕ) (e : Entry) (b : Bytes region) (p : e.offset < four
         let (p, m, below, free, marked) = bitmap_back entry extent n (drop o region) f f' q in
         rw (rows-measured extent (drop o region) p (bytes_drop o region b) m) (bitmap-rows o p s m)
 
-    pub entry-placed : place_entry next n region f e ≡ ok f' → EntryPlaced n region f (rows_at region e) e × (f' ≡ mark_all f (rows_at region e))
+    pub entry-placed : place_entry next n region f e ≡ Ok f' → EntryPlaced n region f (rows_at region e) e × (f' ≡ mark_all f (rows_at region e))
     unfolding place_entry rows_at
     entry-placed q =
         let entry : ℕ = entry_number next e.cell in
@@ -112,34 +113,34 @@ module _ (region : List ℕ) (e : Entry) (b : Bytes region) (p : e.offset < four
 pub record AllRowsPlaced (field : List ℕ) (d : Dictionary) : Type 0 where
   pub room : size d.rows ≤ length field
   pub full : List ℕ
-  pub placed : place_entries first_number d.rows d.region d.entries (cleared d.rows field) ≡ ok full
+  pub placed : place_entries first_number d.rows d.region d.entries (cleared d.rows field) ≡ Ok full
   pub counted : count full d.rows ≡ d.rows
 
 pub record AuditPassed (t : ℕ) (body field : List ℕ) (n : ℕ) : Type 0 where
   pub short : length body ≤ limit
   pub read : Dictionary
-  pub is : dictionary t body ≡ ok read
+  pub is : dictionary t body ≡ Ok read
   pub filled : AllRowsPlaced field read
   pub rows : read.rows ≡ n
 
-audited_back : (field : List ℕ) (d : Dictionary) (n : ℕ) → audited d (cleared d.rows field) ≡ ok n → size d.rows ≤ length field → AllRowsPlaced field d × (d.rows ≡ n)
+audited_back : (field : List ℕ) (d : Dictionary) (n : ℕ) → audited d (cleared d.rows field) ≡ Ok n → size d.rows ≤ length field → AllRowsPlaced field d × (d.rows ≡ n)
 unfolding audited
 audited_back field d n e h =
     let (full, placed, rest) = then_ok _ _ n e in
     let (counted, last) = check-ok _ _ _ n rest in
     (record { room = h; full = full; placed = placed; counted = eqb-true _ _ counted }, cc)
 
-pub prepared_back : (t : ℕ) (body field : List ℕ) (d : Dictionary) → prepared t body field ≡ ok d
-    → (length body ≤ limit) × (dictionary t body ≡ ok d) × (size d.rows ≤ length field)
+pub prepared_back : (t : ℕ) (body field : List ℕ) (d : Dictionary) → prepared t body field ≡ Ok d
+    → (length body ≤ limit) × (dictionary t body ≡ Ok d) × (size d.rows ≤ length field)
 unfolding prepared room_for
 prepared_back t body field d e =
     let (short, both) = check-ok _ _ _ d e in
     let (x, is, room) = then_ok (dictionary t body) (room_for field) d both in
     let (fits, same) = check-ok _ _ _ d room in
     let q : x ≡ d = cc in
-    (leb-true (length body) limit short, is ∙ ap ok q, rw q at (leb-true (size x.rows) (length field) fits))
+    (leb-true (length body) limit short, is ∙ ap Ok q, rw q at (leb-true (size x.rows) (length field) fits))
 
-pub audit_passed : (t : ℕ) (body field : List ℕ) (n : ℕ) → audit t body field ≡ ok n → AuditPassed t body field n
+pub audit_passed : (t : ℕ) (body field : List ℕ) (n : ℕ) → audit t body field ≡ Ok n → AuditPassed t body field n
 unfolding audit
 audit_passed t body field n e =
     let (d, first, last) = then_ok (prepared t body field) (λ d. audited d (cleared d.rows field)) n e in
@@ -149,9 +150,9 @@ audit_passed t body field n e =
 
 -- ---- a question that was answered, taken apart
 
-pub asked_back : (t : ℕ) (q : Question) (literal body : List ℕ) (ls : List (List ℕ)) → well_formed t q literal body ≡ ok ls
+pub asked_back : (t : ℕ) (q : Question) (literal body : List ℕ) (ls : List (List ℕ)) → well_formed t q literal body ≡ Ok ls
     → (length body ≤ limit) × (length literal ≤ limit) × (t < types) × (is_known_edition q.edition ≡ true) × (q.name < questions)
-    × (literals t most_literals [] literal ≡ ok ls) × (takes q.name (length ls) ≡ true)
+    × (literals t most_literals [] literal ≡ Ok ls) × (takes q.name (length ls) ≡ true)
 unfolding well_formed
 asked_back t q literal body ls e =
     let (short, names) = check-ok _ _ _ ls e in
@@ -162,18 +163,18 @@ asked_back t q literal body ls e =
     let s = and_both _ _ short in
     let k = and_both _ _ known in
     let m = and_both _ _ k.1 in
-    (leb-true (length body) limit s.0, leb-true (length literal) limit s.1, ltb-true t types k.0, m.0, ltb-true q.name questions m.1, read ∙ ap ok i, rw i at takes)
+    (leb-true (length body) limit s.0, leb-true (length literal) limit s.1, ltb-true t types k.0, m.0, ltb-true q.name questions m.1, read ∙ ap Ok i, rw i at takes)
 
 -- Audit's two stages passed
-pub audit-joined : (t : ℕ) (body field : List ℕ) (d : Dictionary) (n : ℕ) → prepared t body field ≡ ok d → audited d (cleared d.rows field) ≡ ok n
-    → audit t body field ≡ ok n
+pub audit-joined : (t : ℕ) (body field : List ℕ) (d : Dictionary) (n : ℕ) → prepared t body field ≡ Ok d → audited d (cleared d.rows field) ≡ Ok n
+    → audit t body field ≡ Ok n
 unfolding audit and_then
 audit-joined t body field d n x y = rw x y
 
 -- the literals, the dictionary and the row count behind an answer
-pub ask_stages : (t : ℕ) (q : Question) (literal body field : List ℕ) (a : Answer) → ask t q literal body field ≡ ok a
-    → (ls : List (List ℕ)) × (d : Dictionary) × (n : ℕ) × (well_formed t q literal body ≡ ok ls) × (prepared t body field ≡ ok d)
-    × (audited d (cleared d.rows field) ≡ ok n) × (a ≡ answered q ls d (cleared d.rows field))
+pub ask_stages : (t : ℕ) (q : Question) (literal body field : List ℕ) (a : Answer) → ask t q literal body field ≡ Ok a
+    → (ls : List (List ℕ)) × (d : Dictionary) × (n : ℕ) × (well_formed t q literal body ≡ Ok ls) × (prepared t body field ≡ Ok d)
+    × (audited d (cleared d.rows field) ≡ Ok n) × (a ≡ answered q ls d (cleared d.rows field))
 unfolding ask audited_answer
 ask_stages t q literal body field a e =
     let (ls, first, rest) = then_ok (well_formed t q literal body) _ a e in
@@ -181,14 +182,14 @@ ask_stages t q literal body field a e =
     let (n, third, last) = then_ok (audited d (cleared d.rows field)) _ a more in
     (ls, d, n, first, second, third, cc)
 
-pub ask_parts : (t : ℕ) (q : Question) (literal body field : List ℕ) (a : Answer) → ask t q literal body field ≡ ok a
-    → (ls : List (List ℕ)) × (n : ℕ) × (well_formed t q literal body ≡ ok ls) × (audit t body field ≡ ok n)
+pub ask_parts : (t : ℕ) (q : Question) (literal body field : List ℕ) (a : Answer) → ask t q literal body field ≡ Ok a
+    → (ls : List (List ℕ)) × (n : ℕ) × (well_formed t q literal body ≡ Ok ls) × (audit t body field ≡ Ok n)
 ask_parts t q literal body field a e =
     let (ls, d, n, first, second, third, last) = ask_stages t q literal body field a e in
     (ls, n, first, audit-joined t body field d n second third)
 
 -- IS NULL has no literals
-pub no_literals : (t : ℕ) (body : List ℕ) (ls : List (List ℕ)) → well_formed t null_question [] body ≡ ok ls → ls ≡ []
+pub no_literals : (t : ℕ) (body : List ℕ) (ls : List (List ℕ)) → well_formed t null_question [] body ≡ Ok ls → ls ≡ []
 unfolding takes
 no_literals t body ls e =
     let (short, short-literals, known, edition, name, is, fits) = asked_back t null_question [] body ls e in

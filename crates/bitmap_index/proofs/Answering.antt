@@ -3,7 +3,7 @@ use Prim.Native.Nat.{ℕ}
 use mathlib.Core.Path.{◌≡◌}
 use mathlib.Core.List.{List, [], ◌∷◌}
 use Rattle.numbers.specs.Meaning.{All, Bytes, signed32}
-use Rattle.refusal.specs.Reading.{ok}
+use Rattle.std.specs.Prelude.{Ok}
 use Rattle.refusal.proofs.Laws.{then_ok}
 use Rattle.dictionary.specs.Layout.{Entry}
 use Rattle.dictionary.specs.Reading.{Dictionary}
@@ -12,7 +12,7 @@ use Rattle.bitmap_index.specs.Promises.{SoundAt}
 use Rattle.bitmap_index.proofs.PlacedRows.{placed_at}
 
 module _ (n : ℕ) (region : List ℕ) (b : Bytes region) where
-  placed-sound : (next : ℕ) (es : List Entry) (f full : List ℕ) → place_entries next n region es f ≡ ok full
+  placed-sound : (next : ℕ) (es : List Entry) (f full : List ℕ) → place_entries next n region es f ≡ Ok full
       → All (λ e. SoundAt n region (signed32 e.offset)) es
   unfolding place_entries place_entry
   placed-sound next [] f full p = tt
@@ -21,7 +21,7 @@ module _ (n : ℕ) (region : List ℕ) (b : Bytes region) where
       let (f', first, rest) = then_ok (place_entry next n region f e) (place_entries then n region es) full p in
       ((placed_at (entry_number next e.cell) e.extent n region f f' (signed32 e.offset) b first).sound, placed-sound then es f' full rest)
 
-pub audited-sound : (d : Dictionary) (zero : List ℕ) → Bytes d.region → (n : ℕ) → audited d zero ≡ ok n
+pub audited-sound : (d : Dictionary) (zero : List ℕ) → Bytes d.region → (n : ℕ) → audited d zero ≡ Ok n
     → All (λ (e : Entry). SoundAt d.rows d.region (signed32 e.offset)) d.entries
 unfolding audited
 audited-sound d zero b n a =

@@ -10,7 +10,8 @@ use borrow.Author.Tests.{eq-eqb, ne_eqb, eqb-true, le-leb, lt-leb, le-ltb, lt-lt
 use Rattle.refusal.specs.Meaning.{limit, no_fault}
 use Rattle.refusal.specs.declared.Refusal.{Refusal}
 use Rattle.refusal.specs.declared.Refusal.TheVariants.{Literal, Limit}
-use Rattle.refusal.specs.Reading.{Out, refuse, ok, check, and_then, numbers_of, fault_in}
+use Rattle.std.specs.Prelude.{Result, Err, Ok}
+use Rattle.refusal.specs.Reading.{check, and_then, numbers_of, fault_in}
 use Rattle.row_field.specs.Meaning.{cleared, count, size}
 use Rattle.subtract.specs.declared.Record.{Record}
 use Rattle.subtract.specs.Meaning.{numbers_of_record, no_record, keeps}
@@ -67,58 +68,58 @@ from_first (suc (suc (suc e))) h =
     let x : ℕ = suc (suc (suc e)) in
     rw (lt-leb x second_edition (omega arith), ne_eqb x first_edition (λ i. omega arith), ne_eqb x second_edition (λ i. omega arith))
 
-not_counted : {r : Refusal} (o : Out Refusal (List (List ℕ))) → counted_by o ≡ Counted.Refused r → o ≡ refuse r
+not_counted : {r : Refusal} (o : Result (List (List ℕ)) Refusal) → counted_by o ≡ Counted.Refused r → o ≡ Err r
 unfolding counted_by
-not_counted (refuse r) e = cc
-not_counted (ok ls) e = absurd (let w : ◌≡◌ {A = ℕ} 0 1 = cc in omega arith)
+not_counted (Err r) e = cc
+not_counted (Ok ls) e = absurd (let w : ◌≡◌ {A = ℕ} 0 1 = cc in omega arith)
 
-are_counted : {n : ℕ} (o : Out Refusal (List (List ℕ))) → counted_by o ≡ Count n → (ls : List (List ℕ)) × (o ≡ ok ls) × (n ≡ length ls)
+are_counted : {n : ℕ} (o : Result (List (List ℕ)) Refusal) → counted_by o ≡ Count n → (ls : List (List ℕ)) × (o ≡ Ok ls) × (n ≡ length ls)
 unfolding counted_by
-are_counted (refuse r) e = absurd (let w : ◌≡◌ {A = ℕ} 0 1 = cc in omega arith)
-are_counted (ok ls) e = (ls, refl, cc)
+are_counted (Err r) e = absurd (let w : ◌≡◌ {A = ℕ} 0 1 = cc in omega arith)
+are_counted (Ok ls) e = (ls, refl, cc)
 
 module _ (t : ℕ) (q : Question) (s body : List ℕ) where
-  pub long_body : limit < length body → well_formed t q s body ≡ refuse Limit
+  pub long_body : limit < length body → well_formed t q s body ≡ Err Limit
   unfolding well_formed check
   long_body h = rw (lt-leb (length body) limit h)
 
   module _ (l : length body ≤ limit) where
-    pub long_literals : limit < length s → well_formed t q s body ≡ refuse Limit
+    pub long_literals : limit < length s → well_formed t q s body ≡ Err Limit
     unfolding well_formed check
     long_literals h = rw (le-leb (length body) limit l, lt-leb (length s) limit h)
 
     module _ (m : length s ≤ limit) where
-      pub unknown_type : types ≤ t → well_formed t q s body ≡ refuse Literal
+      pub unknown_type : types ≤ t → well_formed t q s body ≡ Err Literal
       unfolding well_formed check
       unknown_type h = rw (le-leb (length body) limit l, le-leb (length s) limit m, le-ltb t types h)
 
       module _ (k : t < types) where
-        pub unknown_edition : {b : Bool} → b ≡ is_known_edition q.edition → b ≡ false → well_formed t q s body ≡ refuse Literal
+        pub unknown_edition : {b : Bool} → b ≡ is_known_edition q.edition → b ≡ false → well_formed t q s body ≡ Err Literal
         unfolding well_formed check
         unknown_edition w h = rw (le-leb (length body) limit l, le-leb (length s) limit m, lt-ltb t types k, ← w, h)
 
         module _ {a : Bool} (d : a ≡ is_known_edition q.edition) (i : a ≡ true) where
-          pub unknown_name : questions ≤ q.name → well_formed t q s body ≡ refuse Literal
+          pub unknown_name : questions ≤ q.name → well_formed t q s body ≡ Err Literal
           unfolding well_formed check
           unknown_name h = rw (le-leb (length body) limit l, le-leb (length s) limit m, lt-ltb t types k, ← d, i, le-ltb q.name questions h)
 
           module _ (g : q.name < questions) {c : Counted} (o : CountPromise (literals t most_literals [] s) c) where
-            in_literals : well_formed t q s body ≡ and_then (literals t most_literals [] s) (λ ls. check (takes q.name (length ls)) Literal (ok ls))
+            in_literals : well_formed t q s body ≡ and_then (literals t most_literals [] s) (λ ls. check (takes q.name (length ls)) Literal (Ok ls))
             unfolding well_formed check
             in_literals = rw (le-leb (length body) limit l, le-leb (length s) limit m, lt-ltb t types k, ← d, i, lt-ltb q.name questions g)
 
-            pub misfit : {r : Refusal} → c ≡ Counted.Refused r → well_formed t q s body ≡ refuse r
+            pub misfit : {r : Refusal} → c ≡ Counted.Refused r → well_formed t q s body ≡ Err r
             unfolding and_then
             misfit e = in_literals ∙ rw (not_counted (literals t most_literals [] s) (sym o.answer ∙ e))
 
             module _ {n : ℕ} (e : c ≡ Count n) {b : Bool} (w : b ≡ takes q.name n) where
-              pub wrong-number : b ≡ false → well_formed t q s body ≡ refuse Literal
+              pub wrong-number : b ≡ false → well_formed t q s body ≡ Err Literal
               unfolding and_then check
               wrong-number h =
                   let z = are_counted (literals t most_literals [] s) (sym o.answer ∙ e) in
                   in_literals ∙ rw (z.1, ← z.2, ← w, h)
 
-              right-number : (ls : List (List ℕ)) → literals t most_literals [] s ≡ ok ls → n ≡ length ls → b ≡ true → well_formed t q s body ≡ ok ls
+              right-number : (ls : List (List ℕ)) → literals t most_literals [] s ≡ Ok ls → n ≡ length ls → b ≡ true → well_formed t q s body ≡ Ok ls
               unfolding and_then check
               right-number ls y z h = in_literals ∙ rw (y, ← z, ← w, h)
 
@@ -129,7 +130,7 @@ module _ (t : ℕ) (q : Question) (s body : List ℕ) where
 
 -- ---- the literals as the code looks them up
 
-module _ (t : ℕ) (q : Question) (s body table : List ℕ) (ls : List (List ℕ)) (w : well_formed t q s body ≡ ok ls) where
+module _ (t : ℕ) (q : Question) (s body table : List ℕ) (ls : List (List ℕ)) (w : well_formed t q s body ≡ Ok ls) where
   -- EQUAL and NOT EQUAL have one literal, which is the whole buffer
   with_table : (chains ≤ length table → Enters t s table) → Lookup t q s table ls
   unfolding takes
@@ -167,11 +168,11 @@ module _ (q : Question) (ls : List (List ℕ)) (d : Dictionary) (f : List ℕ) {
   unfolding matched_for
   is_matched = o ∙ ap (λ (g : List ℕ). count g d.rows) is_marked
 
-  pub zero_skip : k ≡ 0 → Answers (ok (answered q ls d f)) (cleared d.rows f) after (Skip its_record)
+  pub zero_skip : k ≡ 0 → Answers (Ok (answered q ls d f)) (cleared d.rows f) after (Skip its_record)
   unfolding answered answered_by answer_buffer keeps
   zero_skip h = record { answer = rw (← is_matched, ← z, eq-eqb k 0 h); buffer = is_marked }
 
-  pub zero_keep : (k ≡ 0 → ⊥) → Answers (ok (answered q ls d f)) (cleared d.rows f) after (Keep its_record)
+  pub zero_keep : (k ≡ 0 → ⊥) → Answers (Ok (answered q ls d f)) (cleared d.rows f) after (Keep its_record)
   unfolding answered answered_by answer_buffer keeps
   zero_keep h = record { answer = rw (← is_matched, ← z, ne_eqb k 0 h); buffer = is_marked }
 
@@ -185,10 +186,10 @@ module _ (q : Question) (ls : List (List ℕ)) (d : Dictionary) (f : List ℕ) {
       → Answers (audited_answer q ls d (cleared d.rows f)) (cleared d.rows f) mid (Answered.Refused r)
   unfolding audited_answer and_then answered_by answer_buffer
   not-audited {r} e =
-      let z : audited d (cleared d.rows f) ≡ refuse r = rw e at w.outcome in
+      let z : audited d (cleared d.rows f) ≡ Err r = rw e at w.outcome in
       record { answer = rw z; buffer = rw z w.buffer }
 
-  pub then_answered : {n : ℕ} → a ≡ Nulls n → {r : Answered} {after : List ℕ} → Answers (ok (answered q ls d mid)) (cleared d.rows mid) after r
+  pub then_answered : {n : ℕ} → a ≡ Nulls n → {r : Answered} {after : List ℕ} → Answers (Ok (answered q ls d mid)) (cleared d.rows mid) after r
       → Answers (audited_answer q ls d (cleared d.rows f)) (cleared d.rows f) after r
   unfolding audited_answer and_then
   then_answered e {r} {after} p =
@@ -199,19 +200,19 @@ module _ (q : Question) (ls : List (List ℕ)) (d : Dictionary) (f : List ℕ) {
 -- ---- the whole
 
 -- the number and the record are those of the answer, and so is the fault
-pub ask_numbers_lem : (o : Out Refusal Answer) → ask_out (answered_by o) ≡ numbers_of no_record ask_numbers o
+pub ask_numbers_lem : (o : Result Answer Refusal) → ask_out (answered_by o) ≡ numbers_of no_record ask_numbers o
 unfolding ask_out numbers_of answered_by
-ask_numbers_lem (refuse r) = refl
-ask_numbers_lem (ok b) = either (keeps b.said.matched)
+ask_numbers_lem (Err r) = refl
+ask_numbers_lem (Ok b) = either (keeps b.said.matched)
   where
     either : (kept : Bool) → ask_out (cond kept (Keep b.said) (Skip b.said)) ≡ (0, numbers_of_record b.said)
     either true = refl
     either false = refl
 
-pub ask_fault_lem : (o : Out Refusal Answer) → ask_fault (answered_by o) ≡ fault_in o
+pub ask_fault_lem : (o : Result Answer Refusal) → ask_fault (answered_by o) ≡ fault_in o
 unfolding ask_fault fault_in answered_by
-ask_fault_lem (refuse r) = refl
-ask_fault_lem (ok b) = none (keeps b.said.matched)
+ask_fault_lem (Err r) = refl
+ask_fault_lem (Ok b) = none (keeps b.said.matched)
   where
     none : (kept : Bool) → ask_fault (cond kept (Keep b.said) (Skip b.said)) ≡ no_fault
     none true = refl
@@ -224,7 +225,7 @@ module _ (t : ℕ) (q : Question) (s body f : List ℕ) where
   pub ask_refused : {o : Outcome} {r : Refusal} → o ≡ Outcome.Refused r → TestsQuestion t q s body o → AskPromise t q s body f f (Answered.Refused r)
   unfolding ask ask_buffer zeroed_from answer_buffer answered_by and_then
   ask_refused {o} {r} e w =
-      let d : well_formed t q s body ≡ refuse r = rw e at w in
+      let d : well_formed t q s body ≡ Err r = rw e at w in
       ask_says (rw d) (rw d)
 
   pub ask_asked : {o : Outcome} → o ≡ Done → TestsQuestion t q s body o → Asked t q s body
@@ -235,7 +236,7 @@ module _ (t : ℕ) (q : Question) (s body f : List ℕ) where
     unfolding ask ask_buffer zeroed_from answer_buffer answered_by and_then
     ask_unprepared {r} k p =
         let y : TestsQuestion t q s body Done = rw e at w in
-        let d : prepared t body f ≡ refuse r = rw k at p in
+        let d : prepared t body f ≡ Err r = rw k at p in
         ask_says (rw (y.1, d)) (rw (y.1, d))
 
     pub ask-found : {h : Summary} → c ≡ Found h → Prepares t body f c → {r : Answered} {after : List ℕ}

@@ -14,7 +14,8 @@ use Rattle.refusal.specs.declared.Refusal.{Refusal}
 use Rattle.refusal.specs.declared.Refusal.TheVariants.{Missing, Room, Limit}
 use Rattle.row_field.specs.Meaning.{cleared, size, count, first_clear_row}
 use Rattle.row_field.proofs.Counts.{none_counted, count-le, length-zeroed, zeroed-again, bit-zeroed}
-use Rattle.refusal.specs.Reading.{Out, refuse, ok, check, and_then, numbers_of, fault_in}
+use Rattle.std.specs.Prelude.{Result, Err, Ok}
+use Rattle.refusal.specs.Reading.{check, and_then, numbers_of, fault_in}
 use Rattle.dictionary.specs.declared.Checked.{Checked}
 use Rattle.dictionary.specs.declared.Checked.TheVariants.{Found}
 use Rattle.dictionary.specs.declared.Summary.{Summary}
@@ -89,7 +90,7 @@ then_zero d f full c w z = record { outcome = rw (← c) w.outcome; buffer = z �
 -- ---- before a byte is written
 
 module _ (t : ℕ) (s f : List ℕ) where
-  pub too_long : limit < length s → prepared t s f ≡ refuse Limit
+  pub too_long : limit < length s → prepared t s f ≡ Err Limit
   unfolding prepared check
   too_long h = rw (lt-leb (length s) limit h)
 
@@ -98,10 +99,10 @@ module _ (t : ℕ) (s f : List ℕ) where
     unfolding prepared check
     in_dictionary = rw (le-leb (length s) limit l)
 
-    pub no_dictionary : {c : Checked} {r : Refusal} → c ≡ Checked.Refused r → ReadsDictionary t s c → prepared t s f ≡ refuse r
+    pub no_dictionary : {c : Checked} {r : Refusal} → c ≡ Checked.Refused r → ReadsDictionary t s c → prepared t s f ≡ Err r
     unfolding and_then
     no_dictionary {c} {r} e w =
-        let d : dictionary t s ≡ refuse r = rw e at w.answer in
+        let d : dictionary t s ≡ Err r = rw e at w.answer in
         in_dictionary ∙ rw d
 
     module _ {c : Checked} {h : Summary} (e : c ≡ Found h) (w : ReadsDictionary t s c) where
@@ -109,7 +110,7 @@ module _ (t : ℕ) (s f : List ℕ) where
       is_read = rw e at w.answer
 
       module _ {has : Bool} (o : has ≡ leb (size h.rows) (length f)) where
-        pub no_room : has ≡ false → prepared t s f ≡ refuse Room
+        pub no_room : has ≡ false → prepared t s f ≡ Err Room
         unfolding and_then room_for check
         no_room n = in_dictionary ∙ rw (is_read.so, ← o, n)
 
@@ -120,15 +121,15 @@ module _ (t : ℕ) (s f : List ℕ) where
 -- ---- the whole
 
 -- the number and the count are those of the answer, and so is the fault
-audit_numbers_lem : (o : Out Refusal ℕ) → audit_out (audited_by o) ≡ numbers_of 0 audit_numbers o
+audit_numbers_lem : (o : Result ℕ Refusal) → audit_out (audited_by o) ≡ numbers_of 0 audit_numbers o
 unfolding audit_out numbers_of audited_by
-audit_numbers_lem (refuse r) = refl
-audit_numbers_lem (ok n) = refl
+audit_numbers_lem (Err r) = refl
+audit_numbers_lem (Ok n) = refl
 
-audit_fault_lem : (o : Out Refusal ℕ) → audit_fault (audited_by o) ≡ fault_in o
+audit_fault_lem : (o : Result ℕ Refusal) → audit_fault (audited_by o) ≡ fault_in o
 unfolding audit_fault fault_in audited_by
-audit_fault_lem (refuse r) = refl
-audit_fault_lem (ok n) = refl
+audit_fault_lem (Err r) = refl
+audit_fault_lem (Ok n) = refl
 
 module _ (t : ℕ) (s f : List ℕ) where
   audit_says : {r : Audited} {after : List ℕ} → r ≡ audited_by (audit t s f) → after ≡ audit_buffer t s f → AuditPromise t s f after r
@@ -143,7 +144,7 @@ module _ (t : ℕ) (s f : List ℕ) where
     pub audit_refused : {r : Refusal} → c ≡ Checked.Refused r → Prepares t s f c → AuditPromise t s f f (Audited.Refused r)
     unfolding audit audit_buffer zeroed_from audited_by and_then
     audit_refused {r} e w =
-        let d : prepared t s f ≡ refuse r = rw e at w in
+        let d : prepared t s f ≡ Err r = rw e at w in
         audit_says (rw d) (rw d)
 
     module _ {h : Summary} (e : c ≡ Found h) (w : Prepares t s f c) {b : BitmapsAudited} {after : List ℕ} (g : ForDictionary t s h (λ d. AuditsField d f after b)) where
@@ -152,7 +153,7 @@ module _ (t : ℕ) (s f : List ℕ) where
       bitmaps_refused {r} i =
           let d : Prepares t s f (Found h) = rw e at w in
           let z = g d.0.entries d.0.summary in
-          let o : audited _ _ ≡ refuse r = rw i at z.outcome in
+          let o : audited _ _ ≡ Err r = rw i at z.outcome in
           audit_says (rw (d.1, o)) (rw d.1 z.buffer)
 
       pub bitmaps-sound : {k : ℕ} → b ≡ Nulls k → AuditPromise t s f after (Rows h.rows)

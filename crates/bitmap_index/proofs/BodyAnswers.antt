@@ -13,7 +13,8 @@ use Rattle.refusal.specs.declared.Refusal.{Refusal}
 use Rattle.row_field.specs.Meaning.{size, cleared}
 use Rattle.stored_value.specs.Meaning.{types, Cell, Value, number, string, Literals}
 use Rattle.stored_value.proofs.Widths.{width-le}
-use Rattle.refusal.specs.Reading.{Out, ok, check, and_then}
+use Rattle.std.specs.Prelude.{Result, Ok}
+use Rattle.refusal.specs.Reading.{check, and_then}
 use Rattle.stored_value.proofs.Laws.{literals_laid}
 use Rattle.dictionary.specs.Layout.{Patterns}
 use Rattle.dictionary.specs.Layout.{Entry, entries1, null1, body1, blocks, directory, null2, body2}
@@ -38,22 +39,22 @@ literals_at_most t (l ∷ ls) h = simp length-append (omega (arith, value_at_mos
 
 -- ---- a body whose dictionary is read as the column's
 
-asked_well : (t : ℕ) (q : Question) (ls : List (List ℕ)) (body : List ℕ) → length body ≤ limit → WellFormed t q ls → well_formed t q (joined ls) body ≡ ok ls
+asked_well : (t : ℕ) (q : Question) (ls : List (List ℕ)) (body : List ℕ) → length body ≤ limit → WellFormed t q ls → well_formed t q (joined ls) body ≡ Ok ls
 unfolding well_formed check and_then
 asked_well t q ls body h w =
     let l : length (joined ls) ≤ limit = omega (arith, literals_at_most t ls w.form, w.few) in
     rw (le-leb (length body) limit h, le-leb (length (joined ls)) limit l, lt-ltb t types w.known_type, w.known_edition_lem, lt-ltb q.name questions w.known-name, literals_laid t ls w.form w.few, w.number)
 
 module _ (t : ℕ) (cells : List Cell) (es : List Entry) (region body field : List ℕ) (s : length body ≤ limit)
-    (d : dictionary t body ≡ ok (column_dictionary cells es region)) (w : HasColumn cells es region) (b : Bytes field) (h : size (length cells) ≤ length field) where
-  prepared_well : prepared t body field ≡ ok (column_dictionary cells es region)
+    (d : dictionary t body ≡ Ok (column_dictionary cells es region)) (w : HasColumn cells es region) (b : Bytes field) (h : size (length cells) ≤ length field) where
+  prepared_well : prepared t body field ≡ Ok (column_dictionary cells es region)
   unfolding prepared room_for check and_then
   prepared_well = rw (le-leb (length body) limit s, d, le-leb (size (length cells)) (length field) h)
 
-  audit_well : audit t body field ≡ ok (length cells)
+  audit_well : audit t body field ≡ Ok (length cells)
   unfolding audit and_then
   audit_well =
-      ap (λ (o : Out Refusal Dictionary). and_then o (λ d. audited d (cleared d.rows field))) prepared_well
+      ap (λ (o : Result Dictionary Refusal). and_then o (λ d. audited d (cleared d.rows field))) prepared_well
       ∙ column_audited cells es region field w b h
 
   audit_buffer_lem : audit_buffer t body field ≡ cleared (length cells) field
@@ -61,9 +62,9 @@ module _ (t : ℕ) (cells : List Cell) (es : List Entry) (region body field : Li
   audit_buffer_lem = rw prepared_well
 
   module _ (q : Question) (ls : List (List ℕ)) (g : WellFormed t q ls) where
-    ask_well : ask t q (joined ls) body field ≡ ok (scan_answer q ls cells field)
+    ask_well : ask t q (joined ls) body field ≡ Ok (scan_answer q ls cells field)
     unfolding ask audited_answer and_then
-    ask_well = rw (asked_well t q ls body s g, prepared_well, column_audited cells es region field w b h) (ap ok (column_answered q ls cells es region field w b h))
+    ask_well = rw (asked_well t q ls body s g, prepared_well, column_audited cells es region field w b h) (ap Ok (column_answered q ls cells es region field w b h))
 
     ask_buffer_lem : ask_buffer t q (joined ls) body field ≡ (scan_answer q ls cells field).buffer
     unfolding ask_buffer answer_buffer

@@ -13,7 +13,8 @@ use lib.ListN.{length}
 use Rattle.refusal.specs.Meaning.{limit}
 use Rattle.refusal.specs.declared.Refusal.{Refusal}
 use Rattle.refusal.specs.declared.Refusal.TheVariants.{Literal}
-use Rattle.refusal.specs.Reading.{Out, refuse, ok, check, and_then}
+use Rattle.std.specs.Prelude.{Result, Err, Ok}
+use Rattle.refusal.specs.Reading.{check, and_then}
 use Rattle.row_field.specs.Meaning.{size, bit, count, cleared}
 use Rattle.row_field.proofs.Laws.{field_ext}
 use Rattle.subtract.specs.Meaning.{subtracted, removed, keeps}
@@ -138,11 +139,11 @@ module _ (name : ℕ) where
       unfolding ask and_then
       same-ask = rw (well_alike t literal body) (go (well_formed t first literal body) (prepared t body field))
         where
-          go : (o : Out Refusal (List (List ℕ))) (p : Out Refusal Dictionary)
+          go : (o : Result (List (List ℕ)) Refusal) (p : Result Dictionary Refusal)
               → and_then o (λ ls. and_then p (λ d. audited_answer second ls d (cleared d.rows field))) ≡ and_then o (λ ls. and_then p (λ d. audited_answer first ls d (cleared d.rows field)))
-          go (refuse r) p = refl
-          go (ok ls) (refuse r) = refl
-          go (ok ls) (ok d) = same_answer ls d (cleared d.rows field)
+          go (Err r) p = refl
+          go (Ok ls) (Err r) = refl
+          go (Ok ls) (Ok d) = same_answer ls d (cleared d.rows field)
 
       pub same_buffer : ask_buffer t second literal body field ≡ ask_buffer t first literal body field
       unfolding ask_buffer
@@ -151,15 +152,15 @@ module _ (name : ℕ) where
 -- ---- another edition
 
 not_well : (t : ℕ) (q : Question) (literal body : List ℕ) → is_known_edition q.edition ≡ false → length body ≤ limit → length literal ≤ limit
-    → well_formed t q literal body ≡ refuse Literal
+    → well_formed t q literal body ≡ Err Literal
 unfolding well_formed check
 not_well t q literal body e l m = rw (le-leb (length body) limit l, le-leb (length literal) limit m, e) (go (ltb t types))
   where
-    go : (b : Bool) → check (b && false) Literal (and_then (literals t most_literals [] literal) (λ ls. check (takes q.name (length ls)) Literal (ok ls))) ≡ refuse Literal
+    go : (b : Bool) → check (b && false) Literal (and_then (literals t most_literals [] literal) (λ ls. check (takes q.name (length ls)) Literal (Ok ls))) ≡ Err Literal
     go true = refl
     go false = refl
 
 pub no_edition : (t : ℕ) (q : Question) (literal body field : List ℕ) → is_known_edition q.edition ≡ false → length body ≤ limit → length literal ≤ limit
-    → (ask t q literal body field ≡ refuse Literal) × (ask_buffer t q literal body field ≡ field)
+    → (ask t q literal body field ≡ Err Literal) × (ask_buffer t q literal body field ≡ field)
 unfolding ask ask_buffer answer_buffer zeroed_from and_then
 no_edition t q literal body field e l m = let w = not_well t q literal body e l m in (rw w, rw w)

@@ -15,7 +15,8 @@ use Rattle.numbers.proofs.ByteLists.{bytes_drop}
 use Rattle.refusal.specs.Meaning.{limit}
 use Rattle.refusal.specs.declared.Refusal.{Refusal}
 use Rattle.refusal.specs.declared.Refusal.TheVariants.{Bitmap, Range, Twice}
-use Rattle.refusal.specs.Reading.{Out, refuse, ok, check, and_then, refused_as}
+use Rattle.std.specs.Prelude.{Result, Err, Ok}
+use Rattle.refusal.specs.Reading.{check, and_then, refused_as}
 use Rattle.row_field.specs.Meaning.{size, bit, mark_all, any_set, Rising, Below}
 use Rattle.row_field.proofs.Laws.{tick}
 use Rattle.row_field.proofs.Counts.{tick-le}
@@ -112,15 +113,15 @@ pub data EntryFault (n : ℕ) (region : List ℕ) (entry : ℕ) (f : List ℕ) (
       → EntryFault n region entry f e (Twice entry)
 
 -- it is refused for that; or it has rows below n, none of them set, which are then marked
-data Step (n : ℕ) (region : List ℕ) (entry : ℕ) (f : List ℕ) (e : Entry) : Out Refusal (List ℕ) → Type 0 where
-  stops : {x : Refusal} → EntryFault n region entry f e x → Step n region entry f e (refuse x)
-  goes_on : (rows : List ℕ) → EntryRows region rows e → Below n rows → any_set f rows ≡ false → Step n region entry f e (ok (mark_all f rows))
+data Step (n : ℕ) (region : List ℕ) (entry : ℕ) (f : List ℕ) (e : Entry) : Result (List ℕ) Refusal → Type 0 where
+  stops : {x : Refusal} → EntryFault n region entry f e x → Step n region entry f e (Err x)
+  goes_on : (rows : List ℕ) → EntryRows region rows e → Below n rows → any_set f rows ≡ false → Step n region entry f e (Ok (mark_all f rows))
 
 entry_rising : (region rows : List ℕ) (e : Entry) → EntryRows region rows e → Rising 0 four_bytes rows
 entry_rising region rows e (single r q h o x) = rw q (omega arith, omega arith, tt)
 entry_rising region rows e (bitmap before bytes behind q m o x) = bitmap_rising m
 
-is_named : (m : Out Fault Parsed) (i : ℕ) → m ≡ refuse (unsound i) → measured_by m ≡ Unsound i
+is_named : (m : Result Parsed Fault) (i : ℕ) → m ≡ Err (unsound i) → measured_by m ≡ Unsound i
 unfolding measured_by
 is_named m i e = rw e
 
@@ -140,7 +141,7 @@ module _ (n : ℕ) (region : List ℕ) (b : Bytes region) (short : length region
         once r m = times_rising r 0 four_bytes rows rising ∙ rw m
 
         go : (x y : Bool) → leb (end_of rows) n ≡ x → any_set f rows ≡ y
-            → Step n region entry f e (check x (Range entry) (check (not y) (Twice entry) (ok (mark_all f rows))))
+            → Step n region entry f e (check x (Range entry) (check (not y) (Twice entry) (Ok (mark_all f rows))))
         go false y p q =
             let (r, m, l) = last_row n rows (leb-false (end_of rows) n p) in
             stops (outside rows r h (once r m) l)
@@ -150,18 +151,18 @@ module _ (n : ℕ) (region : List ℕ) (b : Bytes region) (short : length region
         go true false p q = goes_on rows h (end_below n 0 four_bytes rows rising (leb-true (end_of rows) n p)) q
 
     module _ (o : ℕ) (s : signed32 e.offset ≡ pos o) where
-      broken-stops : (container : ℕ) → measured (extent_said e.extent) (drop o region) ≡ refuse (unsound container)
-          → place_entry next n region f e ≡ refuse (Bitmap entry container)
+      broken-stops : (container : ℕ) → measured (extent_said e.extent) (drop o region) ≡ Err (unsound container)
+          → place_entry next n region f e ≡ Err (Bitmap entry container)
       unfolding place_entry entry_placed bitmap_placed refused_as and_then
       broken-stops container m = rw (s, m)
 
       bitmap_step : e.offset < four_bytes → e.extent < four_bytes → Step n region entry f e (place_entry next n region f e)
       bitmap_step p x = go (measured (extent_said e.extent) (drop o region)) refl
         where
-          go : (m : Out Fault Parsed) → measured (extent_said e.extent) (drop o region) ≡ m → Step n region entry f e (place_entry next n region f e)
-          go (refuse (unsound i)) m =
+          go : (m : Result Parsed Fault) → measured (extent_said e.extent) (drop o region) ≡ m → Step n region entry f e (place_entry next n region f e)
+          go (Err (unsound i)) m =
               rw (broken-stops i m) (stops (broken o i s ((names_the_broken (extent_said e.extent) (drop o region) i (bytes_drop o region b)).0 (is_named _ i m))))
-          go (ok q) m = rows_step q.rows (bitmap-rows region e b p x o q s m)
+          go (Ok q) m = rows_step q.rows (bitmap-rows region e b p x o q s m)
 
     entry_step : e.offset < four_bytes → e.extent < four_bytes → Step n region entry f e (place_entry next n region f e)
     entry_step p x = go (signed32 e.offset) refl
@@ -170,14 +171,14 @@ module _ (n : ℕ) (region : List ℕ) (b : Bytes region) (short : length region
         go (negsuc r) s = rows_step (r ∷ []) (single-rows region e b p x r s)
         go (pos o) s = bitmap_step o s p x
 
-    fault_stops : (x : Refusal) → EntryFault n region entry f e x → place_entry next n region f e ≡ refuse x
+    fault_stops : (x : Refusal) → EntryFault n region entry f e x → place_entry next n region f e ≡ Err x
     unfolding check
     fault_stops x (broken at container s w) =
         broken-stops at s container (not_sound _ (sym ((names_the_broken (extent_said e.extent) (drop at region) container (bytes_drop at region b)).1 w)))
     fault_stops x (outside rows row h m l) = laid_placed next n region f e short rows h ∙ go (leb (end_of rows) n) refl
       where
         go : (x : Bool) → leb (end_of rows) n ≡ x
-            → check x (Range entry) (check (not (any_set f rows)) (Twice entry) (ok (mark_all f rows))) ≡ refuse (Range entry)
+            → check x (Range entry) (check (not (any_set f rows)) (Twice entry) (Ok (mark_all f rows))) ≡ Err (Range entry)
         go true p =
             let below = end_below n 0 four_bytes rows (entry_rising region rows e h) (leb-true (end_of rows) n p) in
             absurd (omega (arith, times-past row n rows l below))
@@ -185,7 +186,7 @@ module _ (n : ℕ) (region : List ℕ) (b : Bytes region) (short : length region
     fault_stops x (again rows row h below m s) =
         laid_placed next n region f e short rows h ∙ rw (le-leb (end_of rows) n (below_end n rows below)) (go (any_set f rows) refl)
       where
-        go : (x : Bool) → any_set f rows ≡ x → check (not x) (Twice entry) (ok (mark_all f rows)) ≡ refuse (Twice entry)
+        go : (x : Bool) → any_set f rows ≡ x → check (not x) (Twice entry) (Ok (mark_all f rows)) ≡ Err (Twice entry)
         go true p = refl
         go false p =
             let i = free_once f 0 four_bytes rows row (entry_rising region rows e h) p in
@@ -209,9 +210,9 @@ pub record Stopped (next n : ℕ) (region f : List ℕ) (es : List Entry) (x : R
   pub sound : Sound n region f rows earlier
   pub fault : EntryFault n region (entry_number (next + values_in earlier) e.cell) (mark_all f (joined rows)) e x
 
-pub data Steps (next n : ℕ) (region f : List ℕ) (es : List Entry) : Out Refusal (List ℕ) → Type 0 where
-  stopped : {x : Refusal} → Stopped next n region f es x → Steps next n region f es (refuse x)
-  through : (rows : List (List ℕ)) → Sound n region f rows es → Steps next n region f es (ok (mark_all f (joined rows)))
+pub data Steps (next n : ℕ) (region f : List ℕ) (es : List Entry) : Result (List ℕ) Refusal → Type 0 where
+  stopped : {x : Refusal} → Stopped next n region f es x → Steps next n region f es (Err x)
+  through : (rows : List (List ℕ)) → Sound n region f rows es → Steps next n region f es (Ok (mark_all f (joined rows)))
 
 numbers_go_on : (next : ℕ) (c : Cell) (k : ℕ) → next + (of_value c + k) ≡ next_number next c + k
 unfolding next_number
@@ -260,15 +261,15 @@ module _ (n : ℕ) (region : List ℕ) (b : Bytes region) (short : length region
   entries_step next f (e ∷ es) p room =
       go (place_entry next n region f e) (entry_step n region b short next f e p.0 p.1) (λ g l. entries_step (next_number next e.cell) g es p.2 l)
     where
-      go : (o : Out Refusal (List ℕ)) → Step n region (entry_number next e.cell) f e o
+      go : (o : Result (List ℕ) Refusal) → Step n region (entry_number next e.cell) f e o
           → ((g : List ℕ) → size n ≤ length g → Steps (next_number next e.cell) n region g es (place_entries (next_number next e.cell) n region es g))
           → Steps next n region f (e ∷ es) (and_then o (place_entries (next_number next e.cell) n region es))
-      go (refuse x) (stops w) i =
+      go (Err x) (stops w) i =
           stopped {x = x} (record { earlier = []; e = e; later = es; rows = []; stored = refl; sound = sound_none n region f room; fault = rw (add-zero next) w })
-      go (ok g) (goes_on rs h l free) i = more (place_entries (next_number next e.cell) n region es (mark_all f rs)) (i (mark_all f rs) (rw length-mark_all room))
+      go (Ok g) (goes_on rs h l free) i = more (place_entries (next_number next e.cell) n region es (mark_all f rs)) (i (mark_all f rs) (rw length-mark_all room))
         where
-          more : (o : Out Refusal (List ℕ)) → Steps (next_number next e.cell) n region (mark_all f rs) es o → Steps next n region f (e ∷ es) o
-          more (refuse x) (stopped w) =
+          more : (o : Result (List ℕ) Refusal) → Steps (next_number next e.cell) n region (mark_all f rs) es o → Steps next n region f (e ∷ es) o
+          more (Err x) (stopped w) =
               stopped {x = x} (record {
                 earlier = e ∷ w.earlier;
                 e = w.e;
@@ -278,7 +279,7 @@ module _ (n : ℕ) (region : List ℕ) (b : Bytes region) (short : length region
                 sound = sound_more n region f room rs e w.rows w.earlier h l free w.sound;
                 fault = rw (mark_all-append f rs (joined w.rows), numbers_go_on next e.cell (values_in w.earlier)) w.fault;
               })
-          more (ok g) (through rows s) = rw (← mark_all-append f rs (joined rows)) (through (rs ∷ rows) (sound_more n region f room rs e rows es h l free s))
+          more (Ok g) (through rows s) = rw (← mark_all-append f rs (joined rows)) (through (rs ∷ rows) (sound_more n region f room rs e rows es h l free s))
 
   -- entries with nothing wrong are placed, and leave their rows marked
   pub sound-placed : (next : ℕ) (f : List ℕ) (rows : List (List ℕ)) (es rest : List Entry) → Sound n region f rows es → size n ≤ length f
@@ -293,7 +294,7 @@ module _ (n : ℕ) (region : List ℕ) (b : Bytes region) (short : length region
       (sound-placed (next_number next e.cell) (mark_all f rs) rows es rest more (rw length-mark_all room))
 
   pub stopped_refuses : (next : ℕ) (f : List ℕ) (es : List Entry) (x : Refusal) → size n ≤ length f → Stopped next n region f es x
-      → place_entries next n region es f ≡ refuse x
+      → place_entries next n region es f ≡ Err x
   unfolding place_entries and_then
   stopped_refuses next f es x room w =
       rw w.stored (sound-placed next f w.rows w.earlier (w.e ∷ w.later) w.sound room

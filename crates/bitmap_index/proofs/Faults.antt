@@ -13,7 +13,8 @@ use Rattle.numbers.specs.Meaning.{joined, Bytes, row, minus_one_32}
 use Rattle.refusal.specs.Meaning.{limit}
 use Rattle.refusal.specs.declared.Refusal.{Refusal}
 use Rattle.refusal.specs.declared.Refusal.TheVariants.{Short, Magic, Version, Head, Dict, Bitmap, Range, Twice, Missing, Room, Literal, Limit, Checksum, NoBin}
-use Rattle.refusal.specs.Reading.{Out, refuse, ok, check, and_then}
+use Rattle.std.specs.Prelude.{Result, Err, Ok}
+use Rattle.refusal.specs.Reading.{check, and_then}
 use Rattle.refusal.proofs.Laws.{not-ok}
 use Rattle.row_field.specs.Meaning.{size, bit, mark_all, count, first_clear_row, Below}
 use Rattle.row_field.proofs.Laws.{tick}
@@ -167,30 +168,30 @@ module _ (d : Dictionary) (z : List ℕ) (room : size d.rows ≤ length z) (zero
   -- ---- both
 
   module _ (b : Bytes d.region) (short : length d.region ≤ limit) (p : Patterns d.entries) where
-    refused_is : (r : Refusal) → audited d z ≡ refuse r → FaultIs d r
+    refused_is : (r : Refusal) → audited d z ≡ Err r → FaultIs d r
     unfolding audited and_then check
     refused_is r e =
         go (place_entries first_number d.rows d.region d.entries z) (entries_step d.rows d.region b short first_number z d.entries p room) e
       where
         counts : (rows : List (List ℕ)) → Faultless d rows d.entries → (x : Bool) → eqb (count (mark_all z (joined rows)) d.rows) d.rows ≡ x
-            → check x (Missing (row (first_clear_row (mark_all z (joined rows)) 0 d.rows))) (ok d.rows) ≡ refuse r → FaultIs d r
+            → check x (Missing (row (first_clear_row (mark_all z (joined rows)) 0 d.rows))) (Ok d.rows) ≡ Err r → FaultIs d r
         counts rows s true x q = absurd (not-ok (sym q))
         counts rows s false x q =
             let is : Missing (row (first_clear_row (mark_all z (joined rows)) 0 d.rows)) ≡ r = cc in
             subst (FaultIs d) is (missing_is rows s (eqb-false _ _ x))
 
-        go : (o : Out Refusal (List ℕ)) → Steps first_number d.rows d.region z d.entries o
-            → and_then o (λ full. check (eqb (count full d.rows) d.rows) (Missing (row (first_clear_row full 0 d.rows))) (ok d.rows)) ≡ refuse r → FaultIs d r
-        go (refuse x) (stopped w) q =
+        go : (o : Result (List ℕ) Refusal) → Steps first_number d.rows d.region z d.entries o
+            → and_then o (λ full. check (eqb (count full d.rows) d.rows) (Missing (row (first_clear_row full 0 d.rows))) (Ok d.rows)) ≡ Err r → FaultIs d r
+        go (Err x) (stopped w) q =
             let is : x ≡ r = cc in
             stopped_is r (subst (Stopped first_number d.rows d.region z d.entries) is w)
-        go (ok f) (through rows s) q = counts rows (faultless rows d.entries s) (eqb (count (mark_all z (joined rows)) d.rows) d.rows) refl q
+        go (Ok f) (through rows s) q = counts rows (faultless rows d.entries s) (eqb (count (mark_all z (joined rows)) d.rows) d.rows) refl q
 
-    stopped_refused : (r : Refusal) → Stopped first_number d.rows d.region z d.entries r → audited d z ≡ refuse r
+    stopped_refused : (r : Refusal) → Stopped first_number d.rows d.region z d.entries r → audited d z ≡ Err r
     unfolding audited and_then
     stopped_refused r w = rw (stopped_refuses d.rows d.region b short first_number z d.entries r room w)
 
-    missing_refused : (r : ℕ) → RowMissing d r → audited d z ≡ refuse (Missing (row r))
+    missing_refused : (r : ℕ) → RowMissing d r → audited d z ≡ Err (Missing (row r))
     unfolding audited and_then check place_entries
     missing_refused r w =
         let (some, lowest) = is_missing w.each w.sound r w.within w.none w.lower in
@@ -198,7 +199,7 @@ module _ (d : Dictionary) (z : List ℕ) (room : size d.rows ≤ length z) (zero
         let placed = rw append-nil at (sound-placed d.rows d.region b short first_number z w.each d.entries [] s room) in
         rw (placed, ne_eqb (count (mark_all z (joined w.each)) d.rows) d.rows some, lowest)
 
-    is_refused : (r : Refusal) → FaultIs d r → audited d z ≡ refuse r
+    is_refused : (r : Refusal) → FaultIs d r → audited d z ≡ Err r
     is_refused (Bitmap entry container) w = stopped_refused _ (is_stopped entry w.e w.earlier_rows _ w.reached (broken w.at container w.place (rw (said_extent w.says) at w.broken)))
     is_refused (Range entry) w = stopped_refused _ (is_stopped entry w.e w.earlier_rows _ w.reached (outside w.rows w.row w.has w.among w.outside))
     is_refused (Twice entry) w =
@@ -216,7 +217,7 @@ module _ (d : Dictionary) (z : List ℕ) (room : size d.rows ≤ length z) (zero
     is_refused Checksum w = absurd w
     is_refused NoBin w = absurd w
 
-    pub refused_exactly : (r : Refusal) → (audited d z ≡ refuse r) ↔ FaultIs d r
+    pub refused_exactly : (r : Refusal) → (audited d z ≡ Err r) ↔ FaultIs d r
     refused_exactly r = (refused_is r, is_refused r)
 
 -- ---- a place or a length outside the region

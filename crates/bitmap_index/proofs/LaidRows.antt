@@ -15,7 +15,8 @@ use Rattle.numbers.specs.Meaning.{signed32, minus_one_32, sign_bit}
 use Rattle.refusal.specs.Meaning.{limit}
 use Rattle.refusal.specs.declared.Refusal.{Refusal}
 use Rattle.refusal.specs.declared.Refusal.TheVariants.{Range, Twice}
-use Rattle.refusal.specs.Reading.{Out, ok, check, and_then, refused_as}
+use Rattle.std.specs.Prelude.{Result, Ok}
+use Rattle.refusal.specs.Reading.{check, and_then, refused_as}
 use Rattle.row_field.specs.Meaning.{mark_all, any_set, Below}
 use Rattle.roaring.specs.Reading.{end_of, rows_read}
 use Rattle.roaring.specs.Claims.{ExtentIs}
@@ -66,8 +67,8 @@ module _ (region : List ℕ) (e : Entry) (short : length region ≤ limit) where
   rows_at_lem rows (bitmap before bytes behind q m o x) = rw (bitmap_place before bytes behind q o, bitmap-bytes before bytes behind q, laid_out m behind)
 
 -- rows placed for an entry of this number, in a field of n rows: "RANGE, else TWICE"
-abbrev pub place_rows : ℕ → ℕ → List ℕ → List ℕ → Out Refusal (List ℕ)
-place_rows entry n f rows = check (leb (end_of rows) n) (Range entry) (check (not (any_set f rows)) (Twice entry) (ok (mark_all f rows)))
+abbrev pub place_rows : ℕ → ℕ → List ℕ → List ℕ → Result (List ℕ) Refusal
+place_rows entry n f rows = check (leb (end_of rows) n) (Range entry) (check (not (any_set f rows)) (Twice entry) (Ok (mark_all f rows)))
 
 module _ (next n : ℕ) (region f : List ℕ) (e : Entry) (short : length region ≤ limit) where
   pub laid_placed : (rows : List ℕ) → EntryRows region rows e → place_entry next n region f e ≡ place_rows (entry_number next e.cell) n f rows
@@ -77,6 +78,6 @@ module _ (next n : ℕ) (region f : List ℕ) (e : Entry) (short : length region
       let (p, is, same) = measured_laid (extent_said e.extent) m behind (bitmap_fits region e short before bytes behind q x) in
       rw (bitmap_place region e short before bytes behind q o, bitmap-bytes region e short before bytes behind q, is, same)
 
-  pub place_one : (rows : List ℕ) → EntryRows region rows e → Below n rows → any_set f rows ≡ false → place_entry next n region f e ≡ ok (mark_all f rows)
+  pub place_one : (rows : List ℕ) → EntryRows region rows e → Below n rows → any_set f rows ≡ false → place_entry next n region f e ≡ Ok (mark_all f rows)
   unfolding check
   place_one rows a b s = laid_placed rows a ∙ rw (le-leb (end_of rows) n (below_end n rows b), s)

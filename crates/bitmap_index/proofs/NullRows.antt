@@ -7,7 +7,7 @@ use native.Mathlib.Omega.{arith}
 use lib.ListN.{drop}
 use Rattle.numbers.specs.Meaning.{Bytes, signed32}
 use Rattle.numbers.proofs.ByteLists.{bytes_drop}
-use Rattle.refusal.specs.Reading.{ok}
+use Rattle.std.specs.Prelude.{Ok}
 use Rattle.refusal.proofs.Laws.{then_ok}
 use Rattle.row_field.specs.Meaning.{count}
 use Rattle.dictionary.specs.declared.Summary.{Summary}
@@ -22,7 +22,7 @@ use Rattle.bitmap_index.proofs.Marking.{chosen-append}
 
 -- entries that were placed were marked
 module _ (n : ℕ) (region : List ℕ) (b : Bytes region) where
-  placed_marks : (next : ℕ) (es : List Entry) (f f' : List ℕ) → place_entries next n region es f ≡ ok f' → f' ≡ mark_entries region es f
+  placed_marks : (next : ℕ) (es : List Entry) (f f' : List ℕ) → place_entries next n region es f ≡ Ok f' → f' ≡ mark_entries region es f
   unfolding place_entries place_entry mark_entries rows_at
   placed_marks next [] f f' p = cc
   placed_marks next (e ∷ es) f f' p =

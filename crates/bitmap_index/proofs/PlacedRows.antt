@@ -12,7 +12,8 @@ use Rattle.numbers.specs.Meaning.{Bytes, four_bytes}
 use Rattle.numbers.proofs.Booleans.{or_neither, not-true}
 use Rattle.numbers.proofs.ByteLists.{bytes_drop}
 use Rattle.refusal.specs.declared.Refusal.TheVariants.{Bitmap}
-use Rattle.refusal.specs.Reading.{ok, check, and_then, refused_as}
+use Rattle.std.specs.Prelude.{Ok}
+use Rattle.refusal.specs.Reading.{check, and_then, refused_as}
 use Rattle.refusal.proofs.Laws.{check-ok, then_ok, refused_as-ok}
 use Rattle.row_field.specs.Meaning.{bit, mark, mark_all, any_set, size, count, Rising}
 use Rattle.row_field.proofs.RowLists.{rising_within}
@@ -36,13 +37,13 @@ count_besides f lo n (r ∷ rs) h room free =
     omega (arith, count_besides (mark f r) (r + 1) n rs h.2 (rw length-mark room) (any_set-mark f r (r + 1) n rs (omega arith) h.2 ∙ there))
 
 -- the rows of a bitmap that was measured, if they are in range
-pub measured_rise : (extent : Extent) (bytes : List ℕ) (p : Parsed) → Bytes bytes → measured extent bytes ≡ ok p → (n : ℕ) → end_of p.rows ≤ n → Rising 0 n p.rows
+pub measured_rise : (extent : Extent) (bytes : List ℕ) (p : Parsed) → Bytes bytes → measured extent bytes ≡ Ok p → (n : ℕ) → end_of p.rows ≤ n → Rising 0 n p.rows
 measured_rise extent bytes p b m n l =
     let r = measured_rising extent bytes p b m in
     rising_within 0 four_bytes n p.rows r (end_below n 0 four_bytes p.rows r l)
 
-pub bitmap_back : (entry : ℕ) (extent : Extent) (n : ℕ) (bytes f f' : List ℕ) → bitmap_placed entry extent n bytes f ≡ ok f'
-    → (p : Parsed) × (measured extent bytes ≡ ok p) × (leb (end_of p.rows) n ≡ true) × (any_set f p.rows ≡ false) × (f' ≡ mark_all f p.rows)
+pub bitmap_back : (entry : ℕ) (extent : Extent) (n : ℕ) (bytes f f' : List ℕ) → bitmap_placed entry extent n bytes f ≡ Ok f'
+    → (p : Parsed) × (measured extent bytes ≡ Ok p) × (leb (end_of p.rows) n ≡ true) × (any_set f p.rows ≡ false) × (f' ≡ mark_all f p.rows)
 unfolding bitmap_placed
 bitmap_back entry extent n bytes f f' e =
     let (p, found, tests) = then_ok (refused_as (λ fault. Bitmap entry (container_of fault)) (measured extent bytes)) _ f' e in
@@ -58,7 +59,7 @@ pub record PlacedAt (z : ℤ) (n : ℕ) (region f f' : List ℕ) : Type 0 where
   pub marked : f' ≡ mark_all f (rows_for z region)
 
 module _ (entry e n : ℕ) (region f f' : List ℕ) where
-  row-placed : (r : ℕ) → entry_placed entry (negsuc r) e n region f ≡ ok f' → PlacedAt (negsuc r) n region f f'
+  row-placed : (r : ℕ) → entry_placed entry (negsuc r) e n region f ≡ Ok f' → PlacedAt (negsuc r) n region f f'
   unfolding entry_placed rows_for any_set mark_all check
   row-placed r q =
       let (below, rest) = check-ok _ _ _ f' q in
@@ -71,7 +72,7 @@ module _ (entry e n : ℕ) (region f f' : List ℕ) where
         marked = cc;
       }
 
-  bitmap-placed : (o : ℕ) → Bytes region → entry_placed entry (pos o) e n region f ≡ ok f' → PlacedAt (pos o) n region f f'
+  bitmap-placed : (o : ℕ) → Bytes region → entry_placed entry (pos o) e n region f ≡ Ok f' → PlacedAt (pos o) n region f f'
   unfolding entry_placed bitmap_placed rows_for and_then refused_as check
   bitmap-placed o b q =
       let extent : Extent = extent_said e in
@@ -87,6 +88,6 @@ module _ (entry e n : ℕ) (region f f' : List ℕ) where
         marked = rw same marked;
       }
 
-  pub placed_at : (z : ℤ) → Bytes region → entry_placed entry z e n region f ≡ ok f' → PlacedAt z n region f f'
+  pub placed_at : (z : ℤ) → Bytes region → entry_placed entry z e n region f ≡ Ok f' → PlacedAt z n region f f'
   placed_at (negsuc r) b q = row-placed r q
   placed_at (pos o) b q = bitmap-placed o b q

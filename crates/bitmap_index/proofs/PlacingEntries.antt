@@ -10,7 +10,8 @@ use mir.Syntax.{w32}
 use mir.Val.{to_z}
 use Rattle.numbers.specs.Meaning.{signed32}
 use Rattle.refusal.specs.declared.Refusal.{Refusal}
-use Rattle.refusal.specs.Reading.{Out, refuse, ok, and_then}
+use Rattle.std.specs.Prelude.{Result, Err, Ok}
+use Rattle.refusal.specs.Reading.{and_then}
 use Rattle.row_field.specs.Meaning.{count, cleared}
 use Rattle.row_field.proofs.Counts.{count-le}
 use Rattle.stored_value.specs.Meaning.{null}
@@ -38,7 +39,7 @@ next_behind next (e ∷ es) = next_behind (next_number next e.cell) es
 module _ (n : ℕ) (region : List ℕ) where
   pub first_refused : (next : ℕ) (e : Entry) (es : List Entry) (f : List ℕ) {after : List ℕ} {why : Refusal}
       → PlacesAt (entry_number next e.cell) n region e f after (Placing.Refused why)
-      → place_entries next n region (e ∷ es) f ≡ refuse why
+      → place_entries next n region (e ∷ es) f ≡ Err why
   unfolding place_entries place_entry and_then
   first_refused next e es f p = rw (rw (read-signed e.offset) at p.outcome)
 
@@ -57,10 +58,10 @@ module _ (n : ℕ) (region : List ℕ) where
       go (place_entry next n region f x) (place_entries then n region (xs ++ ys)) (place_entries then n region xs)
       (place_entries (next_behind then xs) n region ys) (place_append then xs ys)
     where
-      go : (o : Out Refusal (List ℕ)) (all front back : List ℕ → Out Refusal (List ℕ)) → ((g : List ℕ) → all g ≡ and_then (front g) back)
+      go : (o : Result (List ℕ) Refusal) (all front back : List ℕ → Result (List ℕ) Refusal) → ((g : List ℕ) → all g ≡ and_then (front g) back)
           → and_then o all ≡ and_then (and_then o front) back
-      go (refuse r) all front back i = refl
-      go (ok g) all front back i = i g
+      go (Err r) all front back i = refl
+      go (Ok g) all front back i = i g
 
   pub place_one : (next : ℕ) (e : Entry) (f : List ℕ) {after : List ℕ} {r : Placing} → PlacesAt (entry_number next e.cell) n region e f after r
       → Places n (place_entries next n region (e ∷ [])) f after r
@@ -71,9 +72,9 @@ module _ (n : ℕ) (region : List ℕ) where
         behind = p.behind;
       }
     where
-      ends : (o : Out Refusal (List ℕ)) → and_then o (place_entries (next_number next e.cell) n region []) ≡ o
-      ends (refuse r) = refl
-      ends (ok g) = refl
+      ends : (o : Result (List ℕ) Refusal) → and_then o (place_entries (next_number next e.cell) n region []) ≡ o
+      ends (Err r) = refl
+      ends (Ok g) = refl
 
 -- ---- null's entry, if there is one
 

@@ -15,7 +15,8 @@ use borrow.Author.Tests.{lt-ltb, le-ltb, le-leb, lt-leb, eq-eqb, ne_eqb}
 use Rattle.numbers.specs.Meaning.{Bytes, number, minus_one_32}
 use Rattle.numbers.proofs.ByteLists.{bytes_drop}
 use Rattle.refusal.specs.declared.Refusal.TheVariants.{Bitmap, Range, Twice}
-use Rattle.refusal.specs.Reading.{Out, refuse, ok, check, and_then, refused_as}
+use Rattle.std.specs.Prelude.{Result, Err, Ok}
+use Rattle.refusal.specs.Reading.{check, and_then, refused_as}
 use Rattle.row_field.specs.Meaning.{bit, mark, any_set, cleared, size, count}
 use Rattle.row_field.specs.Promises.{MarkedRows}
 use Rattle.row_field.proofs.RowLists.{rising_below}
@@ -50,7 +51,7 @@ module _ (entry r n : ℕ) (f : List ℕ) where
     unfolding entry_placed check
     row_done room t =
         let e : bit f r ≡ false = sym b ∙ t in
-        record { outcome = (rw (lt-ltb r n h, e) (ap ok (sym m)), rw m (count-mark f r n h (omega arith) e)); behind = rw m (cleared-mark n f r h) }
+        record { outcome = (rw (lt-ltb r n h, e) (ap Ok (sym m)), rw m (count-mark f r n h (omega arith) e)); behind = rw m (cleared-mark n f r h) }
 
 -- ---- a bitmap
 
@@ -67,12 +68,12 @@ unfolding extent_said
 exactly extent h = rw (ne_eqb extent minus_one_32 h)
 
 -- no bitmap stands where there are no bytes
-pub none-measured : (extent : Extent) → measured extent [] ≡ refuse (unsound 0)
+pub none-measured : (extent : Extent) → measured extent [] ≡ Err (unsound 0)
 unfolding measured read number check and_then
 none-measured AsLong = refl
 none-measured (Exactly w) = rw take-nil (go (leb w 0))
   where
-    go : (b : Bool) → ◌≡◌ {A = Out Fault Parsed} (check b (unsound 0) (refuse (unsound 0))) (refuse (unsound 0))
+    go : (b : Bool) → ◌≡◌ {A = Result Parsed Fault} (check b (unsound 0) (Err (unsound 0))) (Err (unsound 0))
     go true = refl
     go false = refl
 
@@ -129,7 +130,7 @@ module _ (entry o e n : ℕ) (region f : List ℕ) where
               ap (λ (y : List ℕ). count y n) marked.marked
               ∙ count_besides f 0 n b.rows (measured_rise extent bytes b known g n below) room none
               ∙ ap (λ (k : ℕ). count f n + k) (sym many) in
-              record { outcome = (rw (← p, ← x, g, le-leb (end_of b.rows) n below, none) (ap ok (sym marked.marked)), more); behind = kept }
+              record { outcome = (rw (← p, ← x, g, le-leb (end_of b.rows) n below, none) (ap Ok (sym marked.marked)), more); behind = kept }
 
 -- ---- an entry's rows
 

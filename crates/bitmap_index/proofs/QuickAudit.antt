@@ -14,7 +14,8 @@ use mir.Val.{SFits, to_z, of_z}
 use borrow.Author.Tests.{lt-ltb, le-leb}
 use Rattle.numbers.specs.Meaning.{Bytes}
 use Rattle.numbers.proofs.ByteLists.{bytes_drop}
-use Rattle.refusal.specs.Reading.{Out, ok, check, and_then, refused_as}
+use Rattle.std.specs.Prelude.{Result, Ok}
+use Rattle.refusal.specs.Reading.{check, and_then, refused_as}
 use Rattle.refusal.specs.declared.Refusal.{Refusal}
 use Rattle.row_field.specs.Meaning.{bit, mark, mark_all, any_set, cleared, size, count, Rising}
 use Rattle.row_field.proofs.RowLists.{rising_below}
@@ -115,7 +116,7 @@ module _ (o e n : ℕ) (region f : List ℕ) {bytes : List ℕ} {extent : Extent
       record {
         outcome = (
           rw many adds.most,
-          λ more. rw (← p, ← x, g, le-leb (end_of b.rows) n below, adds.free (rw many at more)) (ap ok (sym marked)),
+          λ more. rw (← p, ← x, g, le-leb (end_of b.rows) n below, adds.free (rw many at more)) (ap Ok (sym marked)),
         );
         behind = rw marked (cleared_marks n f b.rows (rising_below 0 n b.rows rise));
       }
@@ -134,7 +135,7 @@ module _ (entry : ℕ) (z : ℤ) (e n : ℕ) (region f : List ℕ) (k : SFits w3
   set_as_place t p = rw (at z k t).so (rw (place_is z k t) at p)
 
 -- where so many more are set, they are placed
-pub set-placed : {n : ℕ} {step : List ℕ → Out Refusal (List ℕ)} {f after : List ℕ} {k : ℕ} → Sets n step f after (Set k) → count after n ≡ count f n + k
+pub set-placed : {n : ℕ} {step : List ℕ → Result (List ℕ) Refusal} {f after : List ℕ} {k : ℕ} → Sets n step f after (Set k) → count after n ≡ count f n + k
     → Places n step f after (Placed k)
 set-placed s e = record { outcome = (s.outcome.1 e, e); behind = s.behind }
 

@@ -14,7 +14,7 @@ use Rattle.row_field.proofs.Counts.{count-field}
 use Rattle.numbers.specs.Meaning.{Bytes, same}
 use Rattle.stored_value.specs.Meaning.{types, Cell, null, value, Value, listed}
 use Rattle.refusal.specs.declared.Refusal.{Refusal}
-use Rattle.refusal.specs.Reading.{Out, ok}
+use Rattle.std.specs.Prelude.{Result, Ok}
 use Rattle.numbers.proofs.SameBytes.{same_refl, same→eq}
 use Rattle.bitmap_index.specs.declared.Question.{Question}
 use Rattle.bitmap_index.specs.Meaning.{Cells, Column, chosen, takes, is_known_edition, first_edition, equal, is_null, question, WellFormed, scan}
@@ -104,7 +104,7 @@ same-front xs ys zs l e = sym (take_at xs zs (length xs) refl) ∙ ap (take (len
 module _ (t : ℕ) (cells cells' : List Cell) (body field : List ℕ) (a : AnswersAsScan t cells body field) (a' : AnswersAsScan t cells' body field) where
   same_length : length cells ≡ length cells'
   same_length =
-      let e : ◌≡◌ {A = Out Refusal ℕ} (ok (length cells)) (ok (length cells')) = sym a.audited ∙ a'.audited in
+      let e : ◌≡◌ {A = Result ℕ Refusal} (Ok (length cells)) (Ok (length cells')) = sym a.audited ∙ a'.audited in
       cc
 
   same-scan : (q : Question) (ls : List (List ℕ)) → WellFormed t q ls → (scan q ls cells).field ≡ (scan q ls cells').field

@@ -17,7 +17,8 @@ use Rattle.stored_value.specs.Meaning.{Cell, same_cell}
 use Rattle.refusal.specs.Meaning.{limit}
 use Rattle.refusal.specs.declared.Refusal.{Refusal}
 use Rattle.refusal.specs.declared.Refusal.TheVariants.{Missing}
-use Rattle.refusal.specs.Reading.{Out, ok, check, and_then}
+use Rattle.std.specs.Prelude.{Result, Ok}
+use Rattle.refusal.specs.Reading.{check, and_then}
 use Rattle.stored_value.proofs.Laws.{same_cell→eq, same_cell-sym}
 use Rattle.dictionary.specs.Layout.{Entry, some_has}
 use Rattle.dictionary.specs.Reading.{Dictionary}
@@ -68,31 +69,31 @@ module _ (region : List ℕ) (cells : List Cell) (z : List ℕ) (short : length 
 
 module _ (region : List ℕ) (cells : List Cell) (z : List ℕ) (short : length region ≤ limit) (f : Free (length cells) z) where
   placed_one : (next : ℕ) (p : Cell → Bool) (e : Entry) → EntryRows region (rows_with e.cell 0 cells) e → Apart p (same_cell e.cell)
-      → place_entry next (length cells) region (mark_all z (rows_where p 0 cells)) e ≡ ok (mark_all z (rows_where (λ c. p c || same_cell e.cell c) 0 cells))
+      → place_entry next (length cells) region (mark_all z (rows_where p 0 cells)) e ≡ Ok (mark_all z (rows_where (λ c. p c || same_cell e.cell c) 0 cells))
   placed_one next p e a h =
       let q : Cell → Bool = same_cell e.cell in
       place_one next (length cells) region (mark_all z (rows_where p 0 cells)) e short (rows_where q 0 cells) (rw (rows_with_lem e.cell 0 cells) at a)
       (rows-below q cells) (rows_free z p q cells f h)
-      ∙ ap ok (rows_join z p q cells f.bytes)
+      ∙ ap Ok (rows_join z p q cells f.bytes)
 
   -- entries whose cells do not pass p are placed, with the rows of cells that pass it marked: what is placed is what is marked
   placed_besides : (next : ℕ) (p : Cell → Bool) (es : List Entry) → ExactRows region cells es → Once es → Apart p (λ c. some_has c es)
-      → place_entries next (length cells) region es (mark_all z (rows_where p 0 cells)) ≡ ok (mark_entries region es (mark_all z (rows_where p 0 cells)))
+      → place_entries next (length cells) region es (mark_all z (rows_where p 0 cells)) ≡ Ok (mark_entries region es (mark_all z (rows_where p 0 cells)))
   unfolding place_entries mark_entries and_then
   placed_besides next p [] a o h = refl
   placed_besides next p (e ∷ es) a o h =
       let q : Cell → Bool = λ c. p c || same_cell e.cell c in
       let after : ℕ = next_number next e.cell in
-      ap (λ (x : Out Refusal (List ℕ)). and_then x (place_entries after (length cells) region es))
+      ap (λ (x : Result (List ℕ) Refusal). and_then x (place_entries after (length cells) region es))
       (placed_one next p e a.0 (λ c x. h c (rw (same_cell-sym c e.cell, x))))
       ∙ placed_besides after q es a.1 o.1 (λ c x. rw (h c (rw x (or-true (same_cell c e.cell))), other_cell c e.cell es o.0 x))
-      ∙ ap (λ (g : List ℕ). ok (mark_entries region es g)) (sym (marked_one region cells z short f.bytes p e a.0))
+      ∙ ap (λ (g : List ℕ). Ok (mark_entries region es g)) (sym (marked_one region cells z short f.bytes p e a.0))
 
   pub placed-all : (next : ℕ) (es : List Entry) → ExactRows region cells es → Once es
-      → place_entries next (length cells) region es z ≡ ok (mark_all z (rows_where (λ c. some_has c es) 0 cells))
+      → place_entries next (length cells) region es z ≡ Ok (mark_all z (rows_where (λ c. some_has c es) 0 cells))
   unfolding mark_all
   placed-all next es a o =
-      (rw (rows_none 0 cells) at (placed_besides next (λ c. false) es a o (λ c x. refl))) ∙ ap ok (marked_all region cells z short f.bytes es a)
+      (rw (rows_none 0 cells) at (placed_besides next (λ c. false) es a o (λ c x. refl))) ∙ ap Ok (marked_all region cells z short f.bytes es a)
 
 -- ---- the audit
 
@@ -108,15 +109,15 @@ pub record HasColumn (cells : List Cell) (es : List Entry) (region : List ℕ) :
   pub short : length region ≤ limit
 
 module _ (cells : List Cell) (es : List Entry) (region field : List ℕ) (w : HasColumn cells es region) (b : Bytes field) (h : size (length cells) ≤ length field) where
-  pub column_audited : audited (column_dictionary cells es region) (cleared (length cells) field) ≡ ok (length cells)
+  pub column_audited : audited (column_dictionary cells es region) (cleared (length cells) field) ≡ Ok (length cells)
   unfolding audited and_then check
   column_audited =
       let zero : List ℕ = cleared (length cells) field in
       let p : Cell → Bool = λ c. some_has c es in
       let full : List ℕ = mark_all zero (rows_where p 0 cells) in
       let n : count full (length cells) ≡ length cells = rows_counted p cells field h ∙ rows_all p 0 cells w.covers in
-      ap (λ (o : Out Refusal (List ℕ)). and_then o (λ f.
-      check (eqb (count f (length cells)) (length cells)) (Missing (row (first_clear_row f 0 (length cells)))) (ok (length cells))))
+      ap (λ (o : Result (List ℕ) Refusal). and_then o (λ f.
+      check (eqb (count f (length cells)) (length cells)) (Missing (row (first_clear_row f 0 (length cells)))) (Ok (length cells))))
       (placed-all region cells zero w.short (cleared_free (length cells) field b h) first_number es w.placed w.once)
       ∙ rw (eq-eqb (count full (length cells)) (length cells) n)
 

@@ -14,7 +14,8 @@ use Rattle.refusal.specs.declared.Refusal.TheVariants.{Room}
 use Rattle.row_field.specs.Meaning.{size, cleared}
 use Rattle.row_field.proofs.Laws.{bytes-zeros}
 use Rattle.row_field.proofs.Counts.{length-zeroed, bit-zeroed}
-use Rattle.refusal.specs.Reading.{Out, refuse, ok, check, and_then}
+use Rattle.std.specs.Prelude.{Result, Err, Ok}
+use Rattle.refusal.specs.Reading.{check, and_then}
 use Rattle.stored_value.proofs.Laws.{literals_back}
 use Rattle.dictionary.specs.Reading.{Dictionary}
 use Rattle.bitmap_index.specs.Meaning.{WellFormed, null_question}
@@ -177,13 +178,13 @@ region_short t s d (in_one rows nulls es region _ _ _ _ _ _ e c) = rw (e, c) (re
 region_short t s d (in_two rows nulls bs region _ _ _ _ _ _ _ _ e c) = rw (e, c) (region2 rows nulls bs region)
 
 -- a refusal that is followed by an answer is the audit's
-answered_refused : (o : Out Refusal ℕ) (a : Answer) (r : Refusal) → and_then o (λ rows. ok a) ≡ refuse r → o ≡ refuse r
+answered_refused : (o : Result ℕ Refusal) (a : Answer) (r : Refusal) → and_then o (λ rows. Ok a) ≡ Err r → o ≡ Err r
 unfolding and_then
-answered_refused (refuse x) a r e = let i : x ≡ r = cc in rw i
-answered_refused (ok n) a r e = absurd (not-ok (sym e))
+answered_refused (Err x) a r e = let i : x ≡ r = cc in rw i
+answered_refused (Ok n) a r e = absurd (not-ok (sym e))
 
-audited_names_the_fault : (t : ℕ) (body field : List ℕ) (d : Dictionary) (r : Refusal) → Bytes body → prepared t body field ≡ ok d
-    → (audited d (cleared d.rows field) ≡ refuse r) ↔ FaultIs d r
+audited_names_the_fault : (t : ℕ) (body field : List ℕ) (d : Dictionary) (r : Refusal) → Bytes body → prepared t body field ≡ Ok d
+    → (audited d (cleared d.rows field) ≡ Err r) ↔ FaultIs d r
 audited_names_the_fault t body field d r b e =
     let (short, is, room) = prepared_back t body field d e in
     let (known, laid) = read_is_laid_out t body d b short is in

@@ -1,11 +1,11 @@
 -- What is claimed of Audit and Ask, over their definitions in Reading; proofs/Theorems proves it. `Bytes` is asked of buffers: a buffer's
 -- numbers are bytes.
-use Rattle.std.specs.Prelude.{ℕ, ◌+◌, ◌<◌, ◌≤◌, ◌≡◌, ◌↔◌, true, false, cond, List, [], ◌∷◌, ◌++◌, eqb, ltb, leb, length, drop, pos}
+use Rattle.std.specs.Prelude.{ℕ, ◌+◌, ◌<◌, ◌≤◌, ◌≡◌, ◌↔◌, true, false, cond, List, [], ◌∷◌, ◌++◌, eqb, ltb, leb, length, drop, pos, Err, Ok}
 use Rattle.numbers.specs.Meaning.{Bytes, joined, signed32, sign_bit, minus_one_32}
 use Rattle.refusal.specs.Meaning.{limit}
 use Rattle.refusal.specs.declared.Refusal.{Refusal}
 use Rattle.refusal.specs.declared.Refusal.TheVariants.{Short, Magic, Version, Head, Dict, Bitmap, Range, Twice, Missing, Room, Literal, Limit, Checksum, NoBin}
-use Rattle.refusal.specs.Reading.{refuse, ok, check, and_then}
+use Rattle.refusal.specs.Reading.{check, and_then}
 use Rattle.refusal.specs.Claims.{CarriesNothing}
 use Rattle.row_field.specs.Meaning.{size, bit, count, cleared, Below}
 use Rattle.subtract.specs.Meaning.{subtracted, removed, keeps}
@@ -27,9 +27,9 @@ use Rattle.bitmap_index.specs.Promises.{scan_answer}
 -- Audit finds all rows and leaves the field zero, and Ask answers every well-formed question, of either edition, as the scan does (02, Ticket 4: "Demands 2 and 3
 -- hold for each edition, whose rule the scan then follows")
 pub record AnswersAsScan (t : ℕ) (cells : List Cell) (body field : List ℕ) : Type 0 where
-  pub audited : audit t body field ≡ ok (length cells)
+  pub audited : audit t body field ≡ Ok (length cells)
   pub audited_buffer : audit_buffer t body field ≡ cleared (length cells) field
-  pub asked : (q : Question) (ls : List (List ℕ)) → WellFormed t q ls → ask t q (joined ls) body field ≡ ok (scan_answer q ls cells field)
+  pub asked : (q : Question) (ls : List (List ℕ)) → WellFormed t q ls → ask t q (joined ls) body field ≡ Ok (scan_answer q ls cells field)
   pub asked_buffer : (q : Question) (ls : List (List ℕ)) → WellFormed t q ls → ask_buffer t q (joined ls) body field ≡ (scan_answer q ls cells field).buffer
 
 -- whatever body a writer laid out for a column, in any field with room
@@ -43,7 +43,7 @@ ColumnIsAnswered =
 -- a body of some column, with as many rows as Audit says
 abbrev pub AcceptedIsAColumn : Type 0
 AcceptedIsAColumn =
-    (t : ℕ) (body field : List ℕ) (n : ℕ) → Bytes body → audit t body field ≡ ok n → (cells : List Cell) × ColumnBody t cells body × (length cells ≡ n)
+    (t : ℕ) (body field : List ℕ) (n : ℕ) → Bytes body → audit t body field ≡ Ok n → (cells : List Cell) × ColumnBody t cells body × (length cells ≡ n)
 
 -- bytes are the body of at most one column
 abbrev pub OneColumn : Type 0
@@ -64,7 +64,7 @@ times r (q ∷ rs) = cond (eqb r q) 1 0 + times r rs
 -- what a body of n rows says of them: each cell, null or a value, has at most one entry, each row below n stands once under all of them, and no other row does
 pub record OnePlaceEach (t : ℕ) (body : List ℕ) (n : ℕ) : Type 0 where
   pub read : Dictionary
-  pub is : dictionary t body ≡ ok read
+  pub is : dictionary t body ≡ Ok read
   pub many : read.rows ≡ n
   pub rows : List (List ℕ)
   pub placed : RowsOfEach read.region rows read.entries
@@ -73,7 +73,7 @@ pub record OnePlaceEach (t : ℕ) (body : List ℕ) (n : ℕ) : Type 0 where
   pub none : (r : ℕ) → n ≤ r → times r (joined rows) ≡ 0
 
 abbrev pub EachRowHasOnePlace : Type 0
-EachRowHasOnePlace = (t : ℕ) (body field : List ℕ) (n : ℕ) → Bytes body → audit t body field ≡ ok n → OnePlaceEach t body n
+EachRowHasOnePlace = (t : ℕ) (body field : List ℕ) (n : ℕ) → Bytes body → audit t body field ≡ Ok n → OnePlaceEach t body n
 
 -- the column whose body it is, and no other's
 pub record TheColumn (t : ℕ) (body : List ℕ) (cells : List Cell) : Type 0 where
@@ -83,7 +83,7 @@ pub record TheColumn (t : ℕ) (body : List ℕ) (cells : List Cell) : Type 0 wh
 -- what Audit accepts is answered as the scan
 abbrev pub AcceptedIsAnswered : Type 0
 AcceptedIsAnswered =
-    (t : ℕ) (body field : List ℕ) (n : ℕ) → Bytes body → Bytes field → audit t body field ≡ ok n
+    (t : ℕ) (body field : List ℕ) (n : ℕ) → Bytes body → Bytes field → audit t body field ≡ Ok n
     → (cells : List Cell) × TheColumn t body cells × (length cells ≡ n) × AnswersAsScan t cells body field
 
 -- an answer of Ask, to any edition, name and literals, is the scan's answer to a well-formed question
@@ -97,7 +97,7 @@ pub record AsTheScan (t : ℕ) (q : Question) (literal body field : List ℕ) (a
 
 abbrev pub AnsweredAsTheScan : Type 0
 AnsweredAsTheScan =
-    (t : ℕ) (q : Question) (literal body field : List ℕ) (a : Answer) → Bytes literal → Bytes body → Bytes field → ask t q literal body field ≡ ok a
+    (t : ℕ) (q : Question) (literal body field : List ℕ) (a : Answer) → Bytes literal → Bytes body → Bytes field → ask t q literal body field ≡ Ok a
     → AsTheScan t q literal body field a
 
 -- ---- 02, Ticket 7: the record of an answer, for any bytes: matched are the ones in the field, null rows are those that IS NULL matches, and nothing is deleted
@@ -105,11 +105,11 @@ AnsweredAsTheScan =
 
 pub record SaysItsRows (t : ℕ) (body field : List ℕ) (a : Answer) : Type 0 where
   pub matched : a.said.matched ≡ count a.buffer a.said.rows
-  pub nulls : (b : Answer) → ask t null_question [] body field ≡ ok b → b.said.matched ≡ a.said.nulls
+  pub nulls : (b : Answer) → ask t null_question [] body field ≡ Ok b → b.said.matched ≡ a.said.nulls
   pub deleted : a.said.deleted ≡ 0
 
 abbrev pub RecordSaysItsRows : Type 0
-RecordSaysItsRows = (t : ℕ) (q : Question) (literal body field : List ℕ) (a : Answer) → ask t q literal body field ≡ ok a → SaysItsRows t body field a
+RecordSaysItsRows = (t : ℕ) (q : Question) (literal body field : List ℕ) (a : Answer) → ask t q literal body field ≡ Ok a → SaysItsRows t body field a
 
 -- ---- 02, Ticket 4: "for every question but IS NULL, which stays, edition 2 is edition 1 without the rows of IS NULL". Said of the scan; demands 2 and 3 carry
 -- it to Ask
@@ -143,36 +143,36 @@ OthersAreAnsweredAlike =
 abbrev pub OtherEditionIsLiteral : Type 0
 OtherEditionIsLiteral =
     (t : ℕ) (q : Question) (literal body field : List ℕ) → is_known_edition q.edition ≡ false → length body ≤ limit → length literal ≤ limit
-    → (ask t q literal body field ≡ refuse Literal) × (ask_buffer t q literal body field ≡ field)
+    → (ask t q literal body field ≡ Err Literal) × (ask_buffer t q literal body field ≡ field)
 
 -- ---- What Audit refuses is no column's body: a column's is refused for ROOM alone, where the field is too short for its rows. So with room for any row count
 -- Audit accepts exactly the bodies of columns
 
 abbrev pub ShortOfRoom : Type 0
 ShortOfRoom =
-    (t : ℕ) (cells : List Cell) (body field : List ℕ) → ColumnBody t cells body → length field < size (length cells) → audit t body field ≡ refuse Room
+    (t : ℕ) (cells : List Cell) (body field : List ℕ) → ColumnBody t cells body → length field < size (length cells) → audit t body field ≡ Err Room
 
 abbrev pub RefusedForRoom : Type 0
 RefusedForRoom =
-    (t : ℕ) (cells : List Cell) (body field : List ℕ) (r : Refusal) → Bytes field → ColumnBody t cells body → audit t body field ≡ refuse r
+    (t : ℕ) (cells : List Cell) (body field : List ℕ) (r : Refusal) → Bytes field → ColumnBody t cells body → audit t body field ≡ Err r
     → (r ≡ Room) × (length field < size (length cells))
 
 abbrev pub RefusedIsNoColumn : Type 0
 RefusedIsNoColumn =
-    (t : ℕ) (body field : List ℕ) (r : Refusal) → Bytes field → size limit ≤ length field → audit t body field ≡ refuse r
+    (t : ℕ) (body field : List ℕ) (r : Refusal) → Bytes field → size limit ≤ length field → audit t body field ≡ Err r
     → (cells : List Cell) → ColumnBody t cells body → ⊥
 
 abbrev pub AcceptedAreTheColumns : Type 0
 AcceptedAreTheColumns =
     (t : ℕ) (body field : List ℕ) → Bytes body → Bytes field → size limit ≤ length field
-    → ((n : ℕ) × (audit t body field ≡ ok n)) ↔ ((cells : List Cell) × ColumnBody t cells body)
+    → ((n : ℕ) × (audit t body field ≡ Ok n)) ↔ ((cells : List Cell) × ColumnBody t cells body)
 
 -- ---- 01, VERSION: "body not 1 or 2". Such a body yields no rows: Audit and Ask answer LIMIT or LITERAL where they come first, else VERSION; the buffer stays
 
 pub record RefusesVersion (t : ℕ) (q : Question) (literal body field : List ℕ) : Type 0 where
-  pub audited : audit t body field ≡ check (leb (length body) limit) Limit (check (ltb t types) Literal (refuse Version))
+  pub audited : audit t body field ≡ check (leb (length body) limit) Limit (check (ltb t types) Literal (Err Version))
   pub audited_buffer : audit_buffer t body field ≡ field
-  pub answered : ask t q literal body field ≡ and_then (well_formed t q literal body) (λ ls. refuse Version)
+  pub answered : ask t q literal body field ≡ and_then (well_formed t q literal body) (λ ls. Err Version)
   pub answered_buffer : ask_buffer t q literal body field ≡ field
 
 abbrev pub UnknownVersionIsRefused : Type 0
@@ -181,7 +181,7 @@ UnknownVersionIsRefused = (t : ℕ) (q : Question) (v : ℕ) (s literal field : 
 abbrev pub UnknownVersionYieldsNothing : Type 0
 UnknownVersionYieldsNothing =
     (t : ℕ) (q : Question) (v : ℕ) (s literal field : List ℕ) → (v ≡ 1 → ⊥) → (v ≡ 2 → ⊥)
-    → ((n : ℕ) → audit t (v ∷ s) field ≡ ok n → ⊥) × ((a : Answer) → ask t q literal (v ∷ s) field ≡ ok a → ⊥)
+    → ((n : ℕ) → audit t (v ∷ s) field ≡ Ok n → ⊥) × ((a : Answer) → ask t q literal (v ∷ s) field ≡ Ok a → ⊥)
 
 -- ---- 02, Ticket 2: which entry is broken. Said of the dictionary that was read, over the layout of entries and bitmaps
 
@@ -280,13 +280,13 @@ FaultIs d NoBin = ⊥
 -- behind ROOM Audit gives a refusal exactly where the fault that it says is there, and Ask of a well-formed question does too
 abbrev pub AuditNamesTheFault : Type 0
 AuditNamesTheFault =
-    (t : ℕ) (body field : List ℕ) (d : Dictionary) (r : Refusal) → Bytes body → prepared t body field ≡ ok d
-    → (audit t body field ≡ refuse r) ↔ FaultIs d r
+    (t : ℕ) (body field : List ℕ) (d : Dictionary) (r : Refusal) → Bytes body → prepared t body field ≡ Ok d
+    → (audit t body field ≡ Err r) ↔ FaultIs d r
 
 abbrev pub AskNamesTheFault : Type 0
 AskNamesTheFault =
     (t : ℕ) (q : Question) (literal body field : List ℕ) (ls : List (List ℕ)) (d : Dictionary) (r : Refusal) → Bytes body
-    → well_formed t q literal body ≡ ok ls → prepared t body field ≡ ok d → (ask t q literal body field ≡ refuse r) ↔ FaultIs d r
+    → well_formed t q literal body ≡ Ok ls → prepared t body field ≡ Ok d → (ask t q literal body field ≡ Err r) ↔ FaultIs d r
 
 -- "A fault in place .. or a length below −1 or past the body, names container 0": the place is at or behind the region's end; the length is below -1, as 32 bits
 -- from the sign bit on; or the bitmap would end behind the region

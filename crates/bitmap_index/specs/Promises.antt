@@ -1,8 +1,8 @@
 -- What contracts say, in the reading's terms: of Audit and Ask, then of the functions that they are made of.
-use Rattle.std.specs.Prelude.{◌≡◌, ℕ, ◌+◌, ◌<◌, ◌≤◌, Bool, List, [], ◌++◌, ℤ, pos, negsuc, length, drop}
+use Rattle.std.specs.Prelude.{◌≡◌, ℕ, ◌+◌, ◌<◌, ◌≤◌, Bool, List, [], ◌++◌, ℤ, pos, negsuc, length, drop, Result, Err, Ok}
 use Rattle.numbers.specs.Meaning.{All, same, signed32}
 use Rattle.refusal.specs.declared.Refusal.{Refusal}
-use Rattle.refusal.specs.Reading.{Out, refuse, ok, numbers_of, fault_in}
+use Rattle.refusal.specs.Reading.{numbers_of, fault_in}
 use Rattle.row_field.specs.Meaning.{size, count, cleared}
 use Rattle.subtract.specs.Meaning.{no_record}
 use Rattle.roaring.specs.Promises.{SoundBelow}
@@ -64,8 +64,8 @@ ForDictionary t body h P = ForEntries t body h (λ es. P (dictionary_of body h e
 
 -- `prepare`: the refusal, or the summary of the dictionary that the reading has
 abbrev pub Prepares : ℕ → List ℕ → List ℕ → Checked → Type 0
-Prepares t body field (Checked.Refused r) = prepared t body field ≡ refuse r
-Prepares t body field (Found h) = (is : IsRead t body h) × (prepared t body field ≡ ok (dictionary_of body h is.entries))
+Prepares t body field (Checked.Refused r) = prepared t body field ≡ Err r
+Prepares t body field (Found h) = (is : IsRead t body h) × (prepared t body field ≡ Ok (dictionary_of body h is.entries))
 
 -- the bytes are read as a dictionary with this summary, and the lent field has room for its rows
 pub record Ready (t : ℕ) (body : List ℕ) (h : Summary) (field : List ℕ) : Type 0 where
@@ -74,31 +74,31 @@ pub record Ready (t : ℕ) (body : List ℕ) (h : Summary) (field : List ℕ) : 
 
 -- the question is well formed, with some literals
 abbrev pub Asked : ℕ → Question → List ℕ → List ℕ → Type 0
-Asked t q literal body = (ls : List (List ℕ)) × (well_formed t q literal body ≡ ok ls)
+Asked t q literal body = (ls : List (List ℕ)) × (well_formed t q literal body ≡ Ok ls)
 
 -- what holds of its literals
 abbrev pub ForQuestion : ℕ → Question → List ℕ → List ℕ → (List (List ℕ) → Type 0) → Type 0
-ForQuestion t q literal body P = (ls : List (List ℕ)) → well_formed t q literal body ≡ ok ls → P ls
+ForQuestion t q literal body P = (ls : List (List ℕ)) → well_formed t q literal body ≡ Ok ls → P ls
 
 -- `test_question`: the refusal, or that the question is well formed
 abbrev pub TestsQuestion : ℕ → Question → List ℕ → List ℕ → Outcome → Type 0
-TestsQuestion t q literal body (Outcome.Refused r) = well_formed t q literal body ≡ refuse r
+TestsQuestion t q literal body (Outcome.Refused r) = well_formed t q literal body ≡ Err r
 TestsQuestion t q literal body Done = Asked t q literal body
 
 -- ---- placing rows in a field of n rows
 
 -- what placing rows comes to: a refusal; or what it leaves, in which so many more rows are set
-abbrev pub ComesTo : ℕ → Out Refusal (List ℕ) → List ℕ → List ℕ → Placing → Type 0
-ComesTo n o before after (Placing.Refused r) = o ≡ refuse r
-ComesTo n o before after (Placed k) = (o ≡ ok after) × (count after n ≡ count before n + k)
+abbrev pub ComesTo : ℕ → Result (List ℕ) Refusal → List ℕ → List ℕ → Placing → Type 0
+ComesTo n o before after (Placing.Refused r) = o ≡ Err r
+ComesTo n o before after (Placed k) = (o ≡ Ok after) × (count after n ≡ count before n + k)
 
 -- rows are placed as `step` says of the field before; and refused or not, no byte behind the field has changed
-pub record Places (n : ℕ) (step : List ℕ → Out Refusal (List ℕ)) (before after : List ℕ) (r : Placing) : Type 0 where
+pub record Places (n : ℕ) (step : List ℕ → Result (List ℕ) Refusal) (before after : List ℕ) (r : Placing) : Type 0 where
   pub outcome : ComesTo n (step before) before after r
   pub behind : cleared n after ≡ cleared n before
 
 -- entries of a body with this summary, placed in a field; `next` is the number of the next value's entry
-abbrev pub place_in : ℕ → List ℕ → Summary → List Entry → List ℕ → Out Refusal (List ℕ)
+abbrev pub place_in : ℕ → List ℕ → Summary → List Entry → List ℕ → Result (List ℕ) Refusal
 place_in next body h es = place_entries next h.rows (drop h.region.0 body) es
 
 -- the rows of null's entry, if there is one, and of the values' entries
@@ -111,12 +111,12 @@ PlacesValues t body h before after r = ForEntries t body h (λ es. Places h.rows
 -- ---- setting rows in a field of n rows, without a test whether one was set already
 
 -- what it comes to: nothing that is told; or up to so many more rows are set, and where they are so many, placing them leaves the same
-abbrev pub SetTo : ℕ → Out Refusal (List ℕ) → List ℕ → List ℕ → Setting → Type 0
+abbrev pub SetTo : ℕ → Result (List ℕ) Refusal → List ℕ → List ℕ → Setting → Type 0
 SetTo n o before after Setting.Refused = Unit {0}
-SetTo n o before after (Set k) = (count after n ≤ count before n + k) × (count after n ≡ count before n + k → o ≡ ok after)
+SetTo n o before after (Set k) = (count after n ≤ count before n + k) × (count after n ≡ count before n + k → o ≡ Ok after)
 
 -- rows are set in place of `step`, as `SetTo` says; and refused or not, no byte behind the field has changed
-pub record Sets (n : ℕ) (step : List ℕ → Out Refusal (List ℕ)) (before after : List ℕ) (r : Setting) : Type 0 where
+pub record Sets (n : ℕ) (step : List ℕ → Result (List ℕ) Refusal) (before after : List ℕ) (r : Setting) : Type 0 where
   pub outcome : SetTo n (step before) before after r
   pub behind : cleared n after ≡ cleared n before
 
@@ -151,7 +151,7 @@ pub record AllSound (t : ℕ) (body : List ℕ) (h : Summary) : Type 0 where
 
 -- how the code looks accepted literals up: in a table that holds them, or one by one, with a table too short to be one
 pub record Listing (t : ℕ) (literal table : List ℕ) (ls : List (List ℕ)) : Type 0 where
-  pub accepted : literals t most_literals [] literal ≡ ok ls
+  pub accepted : literals t most_literals [] literal ≡ Ok ls
   pub held : chains ≤ length table → Entered literal table ls
 
 abbrev pub SomeListing : ℕ → List ℕ → List ℕ → Type 0
@@ -185,8 +185,8 @@ MarksAsked t body h q literal before after =
 
 -- what an audit of the dictionary d comes to: a refusal; or it is accepted, and null has so many rows
 abbrev pub AuditComesTo : Dictionary → List ℕ → BitmapsAudited → Type 0
-AuditComesTo d zero (BitmapsAudited.Refused r) = audited d zero ≡ refuse r
-AuditComesTo d zero (Nulls k) = (audited d zero ≡ ok d.rows) × (k ≡ matched_for null_question [] d zero)
+AuditComesTo d zero (BitmapsAudited.Refused r) = audited d zero ≡ Err r
+AuditComesTo d zero (Nulls k) = (audited d zero ≡ Ok d.rows) × (k ≡ matched_for null_question [] d zero)
 
 -- an audit in a field that is zero, after which no byte behind the field has changed
 pub record AuditsZero (d : Dictionary) (zero after : List ℕ) (r : BitmapsAudited) : Type 0 where
@@ -208,7 +208,7 @@ pub record AuditsField (d : Dictionary) (before after : List ℕ) (r : BitmapsAu
   pub buffer : after ≡ cleared d.rows before
 
 -- what was answered, and what the buffer then holds: `otherwise` where it was refused
-pub record Answers (o : Out Refusal Answer) (otherwise after : List ℕ) (r : Answered) : Type 0 where
+pub record Answers (o : Result Answer Refusal) (otherwise after : List ℕ) (r : Answered) : Type 0 where
   pub answer : r ≡ answered_by o
   pub buffer : after ≡ answer_buffer o otherwise
 
@@ -219,7 +219,7 @@ pub record AuditAccepts (t : ℕ) (body : List ℕ) (h : Summary) (zero : List �
 
 -- an answer in a field that is zero, and one in any field, which is audited first: with a refusal the field is zero
 abbrev pub AnswersZero : ℕ → Question → List ℕ → List ℕ → Dictionary → List ℕ → List ℕ → Answered → Type 0
-AnswersZero t q literal body d zero after r = ForQuestion t q literal body (λ ls. Answers (ok (answered q ls d zero)) (cleared d.rows zero) after r)
+AnswersZero t q literal body d zero after r = ForQuestion t q literal body (λ ls. Answers (Ok (answered q ls d zero)) (cleared d.rows zero) after r)
 
 abbrev pub AnswersField : ℕ → Question → List ℕ → List ℕ → Dictionary → List ℕ → List ℕ → Answered → Type 0
 AnswersField t q literal body d before after r =

@@ -1,6 +1,6 @@
 -- What Audit and Ask answer for any bytes (01, "Bitmap body" and "Questions"; 02, Tickets 2, 4 and 7): their stages in 01's order, each begun only where the
 -- one before passed.
-use Rattle.std.specs.Prelude.{ℕ, ◌+◌, not, ◌&&◌, cond, List, [], ◌∷◌, eqb, ltb, leb, ℤ, pos, negsuc, length, drop}
+use Rattle.std.specs.Prelude.{ℕ, ◌+◌, not, ◌&&◌, cond, List, [], ◌∷◌, eqb, ltb, leb, ℤ, pos, negsuc, length, drop, Result, Err, Ok}
 use Rattle.numbers.specs.Meaning.{signed32, minus_one_32, row}
 use Rattle.refusal.specs.declared.Refusal.{Refusal}
 use Rattle.refusal.specs.Meaning.{limit, number_of, no_fault, fault_of}
@@ -11,7 +11,7 @@ use Rattle.subtract.specs.Meaning.{numbers_of_record, no_record, keeps}
 use Rattle.roaring.specs.declared.Extent.{Extent}
 use Rattle.roaring.specs.declared.Extent.TheVariants.{AsLong, Exactly}
 use Rattle.roaring.specs.Reading.{container_of, read, measured, end_of, rows_read}
-use Rattle.refusal.specs.Reading.{Out, refuse, ok, check, and_then, refused_as}
+use Rattle.refusal.specs.Reading.{check, and_then, refused_as}
 use Rattle.stored_value.specs.Meaning.{types, most_literals, Cell, null, value}
 use Rattle.stored_value.specs.Reading.{literals}
 use Rattle.dictionary.specs.Layout.{Entry}
@@ -48,47 +48,47 @@ abbrev pub first_number : ℕ
 first_number = 1
 
 -- the rows of an entry's bitmap placed in a field of n rows: "BITMAP, else RANGE, else TWICE", each with the entry's number, BITMAP with the container too
-unfoldable pub bitmap_placed : ℕ → Extent → ℕ → List ℕ → List ℕ → Out Refusal (List ℕ)
+unfoldable pub bitmap_placed : ℕ → Extent → ℕ → List ℕ → List ℕ → Result (List ℕ) Refusal
 bitmap_placed entry extent n bytes field =
     and_then (refused_as (λ why. Bitmap entry (container_of why)) (measured extent bytes)) (λ bitmap. check (leb (end_of bitmap.rows) n) (Range entry)
-    (check (not (any_set field bitmap.rows)) (Twice entry) (ok (mark_all field bitmap.rows))))
+    (check (not (any_set field bitmap.rows)) (Twice entry) (Ok (mark_all field bitmap.rows))))
 
 -- "a negative offset means the single row −1 − offset, and the length isn't looked at .. Otherwise the bitmap starts at the body plus the offset"
-unfoldable pub entry_placed : ℕ → ℤ → ℕ → ℕ → List ℕ → List ℕ → Out Refusal (List ℕ)
-entry_placed entry (negsuc r) extent n region field = check (ltb r n) (Range entry) (check (not (bit field r)) (Twice entry) (ok (mark field r)))
+unfoldable pub entry_placed : ℕ → ℤ → ℕ → ℕ → List ℕ → List ℕ → Result (List ℕ) Refusal
+entry_placed entry (negsuc r) extent n region field = check (ltb r n) (Range entry) (check (not (bit field r)) (Twice entry) (Ok (mark field r)))
 entry_placed entry (pos o) extent n region field = bitmap_placed entry (extent_said extent) n (drop o region) field
 
-unfoldable pub place_entry : ℕ → ℕ → List ℕ → List ℕ → Entry → Out Refusal (List ℕ)
+unfoldable pub place_entry : ℕ → ℕ → List ℕ → List ℕ → Entry → Result (List ℕ) Refusal
 place_entry next n region field e = entry_placed (entry_number next e.cell) (signed32 e.offset) e.extent n region field
 
 -- "null's and each entry's bitmap in stored order"
-unfoldable pub place_entries : ℕ → ℕ → List ℕ → List Entry → List ℕ → Out Refusal (List ℕ)
-place_entries next n region [] field = ok field
+unfoldable pub place_entries : ℕ → ℕ → List ℕ → List Entry → List ℕ → Result (List ℕ) Refusal
+place_entries next n region [] field = Ok field
 place_entries next n region (e ∷ es) field = and_then (place_entry next n region field e) (place_entries (next_number next e.cell) n region es)
 
 -- ---- Audit: the limit, the type, the dictionary, ROOM; then every bitmap in a zero field, then MISSING
 
 -- "a lent field has fewer than ceil(n/8) bytes"
-unfoldable pub room_for : List ℕ → Dictionary → Out Refusal Dictionary
-room_for field d = check (leb (size d.rows) (length field)) Room (ok d)
+unfoldable pub room_for : List ℕ → Dictionary → Result Dictionary Refusal
+room_for field d = check (leb (size d.rows) (length field)) Room (Ok d)
 
 -- all that comes before a byte of the field is written. Of an unknown type, `dictionary` says LITERAL before it looks at a byte
-unfoldable pub prepared : ℕ → List ℕ → List ℕ → Out Refusal Dictionary
+unfoldable pub prepared : ℕ → List ℕ → List ℕ → Result Dictionary Refusal
 prepared t body field = check (leb (length body) limit) Limit (and_then (dictionary t body) (room_for field))
 
 -- in a field that is zero: every row has its place, and else "a row never placed", the lowest of them
-unfoldable pub audited : Dictionary → List ℕ → Out Refusal ℕ
+unfoldable pub audited : Dictionary → List ℕ → Result ℕ Refusal
 audited d zero =
     and_then (place_entries first_number d.rows d.region d.entries zero) (λ full.
-    check (eqb (count full d.rows) d.rows) (Missing (row (first_clear_row full 0 d.rows))) (ok d.rows))
+    check (eqb (count full d.rows) d.rows) (Missing (row (first_clear_row full 0 d.rows))) (Ok d.rows))
 
-unfoldable pub audit : ℕ → List ℕ → List ℕ → Out Refusal ℕ
+unfoldable pub audit : ℕ → List ℕ → List ℕ → Result ℕ Refusal
 audit t body field = and_then (prepared t body field) (λ d. audited d (cleared d.rows field))
 
 -- "Refusals before and at the ROOM stage leave the buffer untouched. Later ones leave the field's ceil(n/8) bytes zero. An accepted audit leaves them zero too"
-unfoldable pub zeroed_from : Out Refusal Dictionary → List ℕ → List ℕ
-zeroed_from (refuse r) field = field
-zeroed_from (ok d) field = cleared d.rows field
+unfoldable pub zeroed_from : Result Dictionary Refusal → List ℕ → List ℕ
+zeroed_from (Err r) field = field
+zeroed_from (Ok d) field = cleared d.rows field
 
 unfoldable pub audit_buffer : ℕ → List ℕ → List ℕ → List ℕ
 audit_buffer t body field = zeroed_from (prepared t body field) field
@@ -134,25 +134,25 @@ answered q ls d zero =
     record { buffer = marked_for q ls d zero; said = record { rows = d.rows; nulls = matched_for null_question [] d zero; deleted = 0; matched = matched_for q ls d zero } }
 
 -- "audits the whole body, then answers"
-unfoldable pub audited_answer : Question → List (List ℕ) → Dictionary → List ℕ → Out Refusal Answer
-audited_answer q ls d zero = and_then (audited d zero) (λ rows. ok (answered q ls d zero))
+unfoldable pub audited_answer : Question → List (List ℕ) → Dictionary → List ℕ → Result Answer Refusal
+audited_answer q ls d zero = and_then (audited d zero) (λ rows. Ok (answered q ls d zero))
 
 -- "A well-formed question has a known type and name and literals that fit, in form and number": the limits on both buffers, then the type, the edition and the
 -- name, then the literals in turn, then their number. "A question with another edition number isn't well formed: LITERAL, before the literals are read"
-unfoldable pub well_formed : ℕ → Question → List ℕ → List ℕ → Out Refusal (List (List ℕ))
+unfoldable pub well_formed : ℕ → Question → List ℕ → List ℕ → Result (List (List ℕ)) Refusal
 well_formed t q literal body =
     check (leb (length body) limit && leb (length literal) limit) Limit
     (check (ltb t types && (is_known_edition q.edition && ltb q.name questions)) Literal
-    (and_then (literals t most_literals [] literal) (λ ls. check (takes q.name (length ls)) Literal (ok ls))))
+    (and_then (literals t most_literals [] literal) (λ ls. check (takes q.name (length ls)) Literal (Ok ls))))
 
-unfoldable pub ask : ℕ → Question → List ℕ → List ℕ → List ℕ → Out Refusal Answer
+unfoldable pub ask : ℕ → Question → List ℕ → List ℕ → List ℕ → Result Answer Refusal
 ask t q literal body field =
     and_then (well_formed t q literal body) (λ ls. and_then (prepared t body field) (λ d. audited_answer q ls d (cleared d.rows field)))
 
 -- the buffer then: the answer's, and with a refusal what Audit leaves; a question that is refused leaves it untouched
-unfoldable pub answer_buffer : Out Refusal Answer → List ℕ → List ℕ
-answer_buffer (refuse r) otherwise = otherwise
-answer_buffer (ok a) otherwise = a.buffer
+unfoldable pub answer_buffer : Result Answer Refusal → List ℕ → List ℕ
+answer_buffer (Err r) otherwise = otherwise
+answer_buffer (Ok a) otherwise = a.buffer
 
 unfoldable pub ask_buffer : ℕ → Question → List ℕ → List ℕ → List ℕ → List ℕ
 ask_buffer t q literal body field =
@@ -163,9 +163,9 @@ ask_buffer t q literal body field =
 -- accepted
 
 -- Audit: a refusal, or the row count
-unfoldable pub audited_by : Out Refusal ℕ → Audited
-audited_by (refuse r) = Audited.Refused r
-audited_by (ok n) = Rows n
+unfoldable pub audited_by : Result ℕ Refusal → Audited
+audited_by (Err r) = Audited.Refused r
+audited_by (Ok n) = Rows n
 
 unfoldable pub audit_out : Audited → ℕ × ℕ
 audit_out (Audited.Refused r) = (number_of r, 0)
@@ -180,9 +180,9 @@ audit_fault (Audited.Refused r) = fault_of r
 audit_fault (Rows n) = no_fault
 
 -- Ask: a refusal, or the record: skip where no row matches, else keep; both have the number 0, and matched 0 is skip
-unfoldable pub answered_by : Out Refusal Answer → Answered
-answered_by (refuse r) = Answered.Refused r
-answered_by (ok a) = cond (keeps a.said.matched) (Keep a.said) (Skip a.said)
+unfoldable pub answered_by : Result Answer Refusal → Answered
+answered_by (Err r) = Answered.Refused r
+answered_by (Ok a) = cond (keeps a.said.matched) (Keep a.said) (Skip a.said)
 
 unfoldable pub ask_out : Answered → ℕ × List ℕ
 ask_out (Answered.Refused r) = (number_of r, no_record)

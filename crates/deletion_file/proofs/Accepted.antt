@@ -22,7 +22,8 @@ use Rattle.roaring.proofs.Measuring.{measured_back, end_below}
 use Rattle.roaring.proofs.RowsRising.{bitmap_rising}
 use Rattle.deletion_file.specs.declared.Deletions.TheVariants.{Deleted}
 use Rattle.deletion_file.specs.Layout.{Bin, bin_bytes, bin_of, frames, Framed, HoldsBytes, holds_bytes}
-use Rattle.refusal.specs.Reading.{Out, refuse, ok, refused_as}
+use Rattle.std.specs.Prelude.{Result, Err, Ok}
+use Rattle.refusal.specs.Reading.{refused_as}
 use Rattle.deletion_file.specs.Reading.{bins, bin_numbered, bin_in, bin_asked_for, after_magic, bitmap_in, bin_entry, bitmap_marked, deletions_ready, deletions_by}
 use Rattle.refusal.proofs.Laws.{not-ok, ok_same, check-ok, then_ok, refused_as-ok}
 use Rattle.deletion_file.proofs.BinSteps.{magic_back}
@@ -38,7 +39,7 @@ bytes-right x y b = rw (drop-append_seam x y) at (bytes_drop (length x) (x ++ y)
 
 -- ---- a bin among the bins
 
-bin_between : (b : ℕ) (xs : List Bin) {x : Bin} → bin_numbered b xs ≡ ok x → Between xs b x
+bin_between : (b : ℕ) (xs : List Bin) {x : Bin} → bin_numbered b xs ≡ Ok x → Between xs b x
 unfolding bin_numbered
 bin_between b [] e = absurd (not-ok e)
 bin_between zero (y ∷ ys) e = rw (← ok_same _ _ e) (between_first y ys)
@@ -62,7 +63,7 @@ bytes_at_lem (y ∷ ys) x zs b = bytes_at_lem ys x zs (bytes-first y (frames (ys
 bin_same : (x : Bin) (bytes : List ℕ) (sum : ℕ) → x.bytes ≡ bytes → x.sum ≡ sum → x ≡ record { bytes = bytes; sum = sum }
 bin_same x bytes sum e f = rw (← e, ← f)
 
-bin_back : (x : Bin) (bitmap : List ℕ) → Bytes x.bytes → 4 ≤ length x.bytes → after_magic x ≡ ok bitmap → (x ≡ bin_of bitmap) × (bitmap ≡ drop 4 x.bytes)
+bin_back : (x : Bin) (bitmap : List ℕ) → Bytes x.bytes → 4 ≤ length x.bytes → after_magic x ≡ Ok bitmap → (x ≡ bin_of bitmap) × (bitmap ≡ drop 4 x.bytes)
 bin_back x bitmap b h e =
     let m = magic_back x bitmap e in
     let w : x.bytes ≡ bin_bytes bitmap = number_at_back big 4 x.bytes b h ∙ rw (m.0, m.2) in
@@ -83,7 +84,7 @@ first_byte [] h e = absurd (omega arith)
 first_byte (v ∷ s) h e = rw e
 
 -- the file of a bin that was found
-pub bin-cut : (file : List ℕ) (b : ℕ) (x : Bin) → Bytes file → bin_asked_for b file ≡ ok x → BinCut file b x
+pub bin-cut : (file : List ℕ) (b : ℕ) (x : Bin) → Bytes file → bin_asked_for b file ≡ Ok x → BinCut file b x
 unfolding bin_asked_for bin_in
 bin-cut file b x t e =
     let c = check-ok (leb 1 (length file)) Short _ _ e in
@@ -108,7 +109,7 @@ pub record FileCut (file : List ℕ) (b : ℕ) (bitmap : List ℕ) : Type 0 wher
   pub cut : file ≡ 1 ∷ frames cut-bins
   pub are_bytes : Bytes bitmap
 
-file-cut : (file : List ℕ) (b : ℕ) (bitmap : List ℕ) (x : Bin) → BinCut file b x → after_magic x ≡ ok bitmap → FileCut file b bitmap
+file-cut : (file : List ℕ) (b : ℕ) (bitmap : List ℕ) (x : Bin) → BinCut file b x → after_magic x ≡ Ok bitmap → FileCut file b bitmap
 file-cut file b bitmap x c e =
     let o = bin_back x bitmap c.are_bytes c.magic_fits e in
     record {
@@ -119,7 +120,7 @@ file-cut file b bitmap x c e =
       are_bytes = rw o.1 (bytes_drop 4 x.bytes c.are_bytes);
     }
 
-pub bitmap-cut : (file : List ℕ) (b : ℕ) (bitmap : List ℕ) → Bytes file → bitmap_in b file ≡ ok bitmap → FileCut file b bitmap
+pub bitmap-cut : (file : List ℕ) (b : ℕ) (bitmap : List ℕ) → Bytes file → bitmap_in b file ≡ Ok bitmap → FileCut file b bitmap
 unfolding bitmap_in
 bitmap-cut file b bitmap t e =
     let w = then_ok (bin_asked_for b file) after_magic _ e in
@@ -144,7 +145,7 @@ whole-bitmap rows s x t e l m =
     let z : t ≡ [] = nothing t (omega (arith, simp length-append at (ap length e))) in
     rw (e, z, append-nil) m
 
-pub bitmap-rows : (n : ℕ) (field bytes after : List ℕ) → Bytes bytes → bitmap_marked bytes n field ≡ ok after → RowsMarked n field bytes after
+pub bitmap-rows : (n : ℕ) (field bytes after : List ℕ) → Bytes bytes → bitmap_marked bytes n field ≡ Ok after → RowsMarked n field bytes after
 unfolding bitmap_marked
 bitmap-rows n field bytes after b m =
     let w = then_ok (refused_as (λ fault. Refusal.Bitmap bin_entry (container_of fault)) (measured (Exactly (length bytes)) bytes)) _ _ m in
@@ -167,7 +168,7 @@ pub record Ready (file : List ℕ) (n : ℕ) (buffer clear : List ℕ) : Type 0 
   pub room : size n ≤ length buffer
   pub is_cleared : clear ≡ cleared n buffer
 
-pub ready_back : (file : List ℕ) (n : ℕ) (buffer clear : List ℕ) → deletions_ready file n buffer ≡ ok clear → Ready file n buffer clear
+pub ready_back : (file : List ℕ) (n : ℕ) (buffer clear : List ℕ) → deletions_ready file n buffer ≡ Ok clear → Ready file n buffer clear
 unfolding deletions_ready
 ready_back file n buffer clear e =
     let l = check-ok (leb (length file) limit) Limit _ _ e in
@@ -180,7 +181,7 @@ ready_back file n buffer clear e =
       is_cleared = sym (ok_same _ _ o.1);
     }
 
-pub deleted_back : (n : ℕ) (o : Out Refusal (List ℕ)) {k : ℕ} → deletions_by n o ≡ Deleted k → (after : List ℕ) × (o ≡ ok after)
+pub deleted_back : (n : ℕ) (o : Result (List ℕ) Refusal) {k : ℕ} → deletions_by n o ≡ Deleted k → (after : List ℕ) × (o ≡ Ok after)
 unfolding deletions_by
-deleted_back n (refuse r) e = let z : ◌≡◌ {A = ℕ} 0 1 = cc in absurd (omega arith)
-deleted_back n (ok after) e = (after, refl)
+deleted_back n (Err r) e = let z : ◌≡◌ {A = ℕ} 0 1 = cc in absurd (omega arith)
+deleted_back n (Ok after) e = (after, refl)

@@ -9,7 +9,8 @@ use lib.Dec.{leb}
 use lib.ListN.{length}
 use borrow.Author.Tests.{leb-false, le-leb, lt-leb}
 use Rattle.numbers.specs.Meaning.{Bytes, four_bytes}
-use Rattle.refusal.specs.Reading.{Out, refuse, ok, check, and_then, refused_as}
+use Rattle.std.specs.Prelude.{Result, Err, Ok}
+use Rattle.refusal.specs.Reading.{check, and_then, refused_as}
 use Rattle.refusal.specs.declared.Refusal.{Refusal}
 use Rattle.refusal.specs.declared.Refusal.TheVariants.{Short, Magic, Version, Head, Dict, Bitmap, Range, Twice, Missing, Room, Literal, Limit, Checksum, NoBin}
 use Rattle.refusal.proofs.Laws.{not-ok}
@@ -28,13 +29,13 @@ use Rattle.deletion_file.proofs.LaidOut.{bytes_laid}
 use Rattle.deletion_file.proofs.Accepted.{whole-bitmap, bitmap-cut}
 
 module _ (names : NamesTheBroken) (n : ℕ) (field bytes : List ℕ) (b : Bytes bytes) where
-  broken_so : (i : ℕ) → measured (Exactly (length bytes)) bytes ≡ refuse (unsound i) → Broken (Exactly (length bytes)) bytes i
+  broken_so : (i : ℕ) → measured (Exactly (length bytes)) bytes ≡ Err (unsound i) → Broken (Exactly (length bytes)) bytes i
   unfolding measured_by
   broken_so i m = (names (Exactly (length bytes)) bytes i b).0 (rw m)
 
   -- ---- refused, so broken
 
-  outside_so : (p : Parsed) → measured (Exactly (length bytes)) bytes ≡ ok p → n < end_of p.rows → BitmapOutside n bytes
+  outside_so : (p : Parsed) → measured (Exactly (length bytes)) bytes ≡ Ok p → n < end_of p.rows → BitmapOutside n bytes
   outside_so p m h =
       let q = measured_back (Exactly (length bytes)) bytes p b m in
       record {
@@ -43,23 +44,23 @@ module _ (names : NamesTheBroken) (n : ℕ) (field bytes : List ℕ) (b : Bytes 
         outside = λ w. omega (arith, below_end n p.rows w);
       }
 
-  range_so : (t : Bool) (p : Parsed) (after : List ℕ) {r : Refusal} → measured (Exactly (length bytes)) bytes ≡ ok p → leb (end_of p.rows) n ≡ t
-      → check t (Range bin_entry) (ok after) ≡ refuse r → BinFaultIs n bytes r
+  range_so : (t : Bool) (p : Parsed) (after : List ℕ) {r : Refusal} → measured (Exactly (length bytes)) bytes ≡ Ok p → leb (end_of p.rows) n ≡ t
+      → check t (Range bin_entry) (Ok after) ≡ Err r → BinFaultIs n bytes r
   unfolding check
   range_so true p after m l e = absurd (not-ok (sym e))
   range_so false p after {r} m l e =
       let same : r ≡ Range bin_entry = cc in
       rw same (refl, outside_so p m (leb-false (end_of p.rows) n l))
 
-  fault_go : (X : Out Fault Parsed) {r : Refusal} → measured (Exactly (length bytes)) bytes ≡ X → bitmap_marked bytes n field ≡ refuse r → BinFaultIs n bytes r
+  fault_go : (X : Result Parsed Fault) {r : Refusal} → measured (Exactly (length bytes)) bytes ≡ X → bitmap_marked bytes n field ≡ Err r → BinFaultIs n bytes r
   unfolding bitmap_marked refused_as and_then
-  fault_go (refuse (unsound i)) {r} m e =
+  fault_go (Err (unsound i)) {r} m e =
       let f = rw m at e in
       let same : r ≡ Bitmap bin_entry i = cc in
       rw same (refl, broken_so i m)
-  fault_go (ok p) m e = range_so (leb (end_of p.rows) n) p _ m refl (rw m at e)
+  fault_go (Ok p) m e = range_so (leb (end_of p.rows) n) p _ m refl (rw m at e)
 
-  bitmap-broken : (r : Refusal) → bitmap_marked bytes n field ≡ refuse r → BinFaultIs n bytes r
+  bitmap-broken : (r : Refusal) → bitmap_marked bytes n field ≡ Err r → BinFaultIs n bytes r
   bitmap-broken r e = fault_go (measured (Exactly (length bytes)) bytes) refl e
 
   -- ---- broken, so refused
@@ -68,7 +69,7 @@ module _ (names : NamesTheBroken) (n : ℕ) (field bytes : List ℕ) (b : Bytes 
   past_so rows m o (yes h) = h
   past_so rows m o (no h) = absurd (o (end_below n 0 four_bytes rows (bitmap_rising m) (omega arith)))
 
-  bitmap_refused : (r : Refusal) → BinFaultIs n bytes r → bitmap_marked bytes n field ≡ refuse r
+  bitmap_refused : (r : Refusal) → BinFaultIs n bytes r → bitmap_marked bytes n field ≡ Err r
   unfolding bitmap_marked refused_as and_then check
   bitmap_refused (Bitmap entry container) w =
       let m = not_sound (measured (Exactly (length bytes)) bytes) (sym ((names (Exactly (length bytes)) bytes container b).1 w.1)) in
@@ -92,12 +93,12 @@ module _ (names : NamesTheBroken) (n : ℕ) (field bytes : List ℕ) (b : Bytes 
   bitmap_refused NoBin w = absurd w
 
 -- the stages before have passed
-marks_bitmap : (file : List ℕ) (b n : ℕ) (buffer clear bytes : List ℕ) → deletions_ready file n buffer ≡ ok clear → bitmap_in b file ≡ ok bytes
+marks_bitmap : (file : List ℕ) (b n : ℕ) (buffer clear bytes : List ℕ) → deletions_ready file n buffer ≡ Ok clear → bitmap_in b file ≡ Ok bytes
     → deletions file b n buffer ≡ bitmap_marked bytes n clear
 unfolding deletions bin_marked and_then
 marks_bitmap file b n buffer clear bytes e i = rw (e, i)
 
-ready : (file : List ℕ) (n : ℕ) (buffer : List ℕ) → length file ≤ limit → n ≤ limit → size n ≤ length buffer → deletions_ready file n buffer ≡ ok (cleared n buffer)
+ready : (file : List ℕ) (n : ℕ) (buffer : List ℕ) → length file ≤ limit → n ≤ limit → size n ≤ length buffer → deletions_ready file n buffer ≡ Ok (cleared n buffer)
 unfolding deletions_ready check
 ready file n buffer l m h = rw (le-leb (length file) limit l, le-leb n limit m, le-leb (size n) (length buffer) h)
 

@@ -19,7 +19,8 @@ use Rattle.roaring.proofs.Measuring.{not_sound, is_sound, rows-measured, measure
 use Rattle.deletion_file.specs.declared.Deletions.TheVariants.{Deleted}
 use Rattle.deletion_file.specs.declared.Deletions.{Deletions}
 use Rattle.deletion_file.specs.declared.Prepared.{Prepared}
-use Rattle.refusal.specs.Reading.{Out, refuse, ok, check, and_then, refused_as, numbers_of, fault_in}
+use Rattle.std.specs.Prelude.{Result, Err, Ok}
+use Rattle.refusal.specs.Reading.{check, and_then, refused_as, numbers_of, fault_in}
 use Rattle.deletion_file.specs.Reading.{bitmap_in, bin_entry, bitmap_marked, bin_marked, deletions_ready, deletions, left_by, deletions_buffer, deletions_by, deletions_out, deletions_fault, deletions_numbers}
 use Rattle.deletion_file.specs.Promises.{MarksRows, ClearsIfRoom, Prepares, DeletionsPromise}
 
@@ -58,27 +59,27 @@ module _ (n : ℕ) (field bytes : List ℕ) {m : Measured} (p : MeasurePromise (
 -- ---- the stages
 
 module _ (file : List ℕ) (b n : ℕ) (field : List ℕ) where
-  pub bin_refused : {r : Refusal} → bitmap_in b file ≡ refuse r → MarksRows n (bin_marked file b n) field field (Deletions.Refused r)
+  pub bin_refused : {r : Refusal} → bitmap_in b file ≡ Err r → MarksRows n (bin_marked file b n) field field (Deletions.Refused r)
   unfolding bin_marked and_then deletions_by left_by
   bin_refused e = record { answer = rw e; field = rw e }
 
-  pub bin_marked_lem : {bytes after : List ℕ} {answer : Deletions} → bitmap_in b file ≡ ok bytes → MarksRows n (bitmap_marked bytes n) field after answer
+  pub bin_marked_lem : {bytes after : List ℕ} {answer : Deletions} → bitmap_in b file ≡ Ok bytes → MarksRows n (bitmap_marked bytes n) field after answer
       → MarksRows n (bin_marked file b n) field after answer
   unfolding bin_marked and_then
   bin_marked_lem e m = record { answer = m.answer ∙ rw e; field = m.field ∙ rw e }
 
-  pub numbers_so : (o : Out Refusal (List ℕ)) → deletions_out (deletions_by n o) ≡ numbers_of 0 (deletions_numbers n) o
+  pub numbers_so : (o : Result (List ℕ) Refusal) → deletions_out (deletions_by n o) ≡ numbers_of 0 (deletions_numbers n) o
   unfolding deletions_by deletions_out deletions_numbers numbers_of
-  numbers_so (refuse r) = refl
-  numbers_so (ok marked) = refl
+  numbers_so (Err r) = refl
+  numbers_so (Ok marked) = refl
 
-  pub fault_so : (o : Out Refusal (List ℕ)) → deletions_fault (deletions_by n o) ≡ fault_in o
+  pub fault_so : (o : Result (List ℕ) Refusal) → deletions_fault (deletions_by n o) ≡ fault_in o
   unfolding deletions_by deletions_fault fault_in
-  fault_so (refuse r) = refl
-  fault_so (ok marked) = refl
+  fault_so (Err r) = refl
+  fault_so (Ok marked) = refl
 
   -- what the call comes to by the two readings
-  said : {answer : Deletions} {after : List ℕ} (o ready : Out Refusal (List ℕ)) → deletions_ready file n field ≡ ready → deletions file b n field ≡ o
+  said : {answer : Deletions} {after : List ℕ} (o ready : Result (List ℕ) Refusal) → deletions_ready file n field ≡ ready → deletions file b n field ≡ o
       → answer ≡ deletions_by n o → after ≡ left_by o (left_by ready field) → DeletionsPromise file b n field after answer
   unfolding deletions_buffer
   said o ready i e a f =
@@ -89,9 +90,9 @@ module _ (file : List ℕ) (b n : ℕ) (field : List ℕ) where
         buffer = rw (e, i) f;
       }
 
-  refused : {r : Refusal} → deletions_ready file n field ≡ refuse r → DeletionsPromise file b n field field (Deletions.Refused r)
+  refused : {r : Refusal} → deletions_ready file n field ≡ Err r → DeletionsPromise file b n field field (Deletions.Refused r)
   unfolding deletions and_then deletions_by left_by
-  refused {r} i = said (refuse r) (refuse r) i (rw i) refl refl
+  refused {r} i = said (Err r) (Err r) i (rw i) refl refl
 
   pub not-prepared : {after : List ℕ} {r : Refusal} → Prepares file n field after (Prepared.Refused r) → DeletionsPromise file b n field after (Deletions.Refused r)
   not-prepared p = rw p.1 (refused p.0)
@@ -99,7 +100,7 @@ module _ (file : List ℕ) (b n : ℕ) (field : List ℕ) where
   pub when_prepared : {clear after : List ℕ} {answer : Deletions} → Prepares file n field clear Prepared.Cleared → MarksRows n (bin_marked file b n) clear after answer
       → DeletionsPromise file b n field after answer
   unfolding deletions and_then left_by
-  when_prepared {clear} p m = said (bin_marked file b n clear) (ok clear) p.0 (rw p.0) m.answer m.field
+  when_prepared {clear} p m = said (bin_marked file b n clear) (Ok clear) p.0 (rw p.0) m.answer m.field
 
 -- ---- what comes before a byte is written
 
@@ -122,4 +123,4 @@ module _ (file : List ℕ) (n : ℕ) (field : List ℕ) where
     unfolding deletions_ready check
     with_room t =
         let c : clear ≡ cleared n field = e.field ∙ rw t in
-        (rw (le-leb (length file) limit h, le-leb n limit k, ← e.room, t) (ap ok (sym c)), c)
+        (rw (le-leb (length file) limit h, le-leb n limit k, ← e.room, t) (ap Ok (sym c)), c)

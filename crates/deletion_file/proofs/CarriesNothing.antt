@@ -2,7 +2,7 @@
 use Prim.Native.Nat.{ℕ, zero, suc}
 use mathlib.Core.List.{List, [], ◌∷◌}
 use Rattle.refusal.specs.declared.Refusal.{Refusal}
-use Rattle.refusal.specs.Reading.{Out}
+use Rattle.std.specs.Prelude.{Result}
 use Rattle.refusal.specs.Claims.{CarriesNothing}
 use Rattle.refusal.proofs.CarriesNothing.{bare}
 use Rattle.deletion_file.specs.Layout.{Bin}
@@ -12,7 +12,7 @@ next_bare : (s : List ℕ) → CarriesNothing (step_to_next_bin s)
 unfolding step_to_next_bin
 next_bare s = search bare
 
-bins_by_bare : (walk : List ℕ → Out Refusal (List Bin)) → ((s : List ℕ) → CarriesNothing (walk s)) → (x : Next) → CarriesNothing (bins_by walk x)
+bins_by_bare : (walk : List ℕ → Result (List Bin) Refusal) → ((s : List ℕ) → CarriesNothing (walk s)) → (x : Next) → CarriesNothing (bins_by walk x)
 unfolding bins_by
 bins_by_bare walk f over = tt
 bins_by_bare walk f (bin x rest) = search (bare, f)

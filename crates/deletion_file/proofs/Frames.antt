@@ -15,7 +15,8 @@ use Rattle.refusal.specs.declared.Refusal.{Refusal}
 use Rattle.refusal.specs.declared.Refusal.TheVariants.{Short}
 use Rattle.deletion_file.specs.Layout.{Bin, frames, bin_of, Framed, HasBin, has-bin}
 use Rattle.refusal.proofs.Laws.{not-ok, ok_same, check-ok, then_ok}
-use Rattle.refusal.specs.Reading.{Out, refuse, ok, check, and_then}
+use Rattle.std.specs.Prelude.{Result, Err, Ok}
+use Rattle.refusal.specs.Reading.{check, and_then}
 use Rattle.deletion_file.specs.Reading.{front, Next, over, bin, step_to_next_bin, bins_by, bins}
 use Rattle.roaring.specs.Layout.{Bitmap}
 
@@ -52,7 +53,7 @@ module _ (x : Bin) (t : List ℕ) (f : Framed x) where
       ∙ rw (drop-append_seam x.bytes (be 4 x.sum ++ t)) (number_at_laid big 4 x.sum t f.2) in
       simp (e, take-append_seam)
 
-  next_laid : step_to_next_bin (frame x t) ≡ ok (bin x t)
+  next_laid : step_to_next_bin (frame x t) ≡ Ok (bin x t)
   unfolding step_to_next_bin check
   next_laid =
       let behind : List ℕ = x.bytes ++ (be 4 x.sum ++ t) in
@@ -60,10 +61,10 @@ module _ (x : Bin) (t : List ℕ) (f : Framed x) where
       let next : drop (length x.bytes + 4) behind ≡ t = drop-append-add x.bytes (be 4 x.sum ++ t) 4 in
       let some : eqb (length (frame x t)) 0 ≡ false = ne_eqb (length (frame x t)) 0 (omega arith) in
       rw some
-      (number_laid big 4 (refuse Short) (length x.bytes) behind _ f.1
+      (number_laid big 4 (Err Short) (length x.bytes) behind _ f.1
       ∙ rw (le-leb 4 (length x.bytes) f.0, le-leb (length x.bytes + 4) (length behind) room, next, front_laid_lem))
 
-pub walk_passes : (xs : List Bin) (steps : ℕ) → All Framed xs → length (frames xs) < steps → bins steps (frames xs) ≡ ok xs
+pub walk_passes : (xs : List Bin) (steps : ℕ) → All Framed xs → length (frames xs) < steps → bins steps (frames xs) ≡ Ok xs
 unfolding bins step_to_next_bin bins_by and_then
 walk_passes xs zero f h = absurd (omega arith)
 walk_passes [] (suc steps) f h = refl
@@ -92,18 +93,18 @@ nothing [] h = refl
 nothing (x ∷ s) h = absurd (omega arith)
 
 -- at the end, or at a bin
-end_or : (s : List ℕ) (n : Next) (o : Out Refusal Next) → cond (eqb (length s) 0) (ok over) o ≡ ok n → (o ≡ ok n → Behind s n) → Behind s n
+end_or : (s : List ℕ) (n : Next) (o : Result Next Refusal) → cond (eqb (length s) 0) (Ok over) o ≡ Ok n → (o ≡ Ok n → Behind s n) → Behind s n
 end_or s n o e f = go (eqb (length s) 0) refl e
   where
-    go : (t : Bool) → eqb (length s) 0 ≡ t → cond t (ok over) o ≡ ok n → Behind s n
+    go : (t : Bool) → eqb (length s) 0 ≡ t → cond t (Ok over) o ≡ Ok n → Behind s n
     go true h g = rw (← ok_same _ _ g) (nothing s (eqb-true (length s) 0 h))
     go false h g = f g
 
-next_back : (s : List ℕ) (n : Next) → Bytes s → step_to_next_bin s ≡ ok n → Behind s n
+next_back : (s : List ℕ) (n : Next) → Bytes s → step_to_next_bin s ≡ Ok n → Behind s n
 unfolding step_to_next_bin
 next_back s n b e =
     end_or s n _ e
-    (λ g. on_number big 4 (refuse Short) (λ o. o ≡ ok n) (λ s. Behind s n) s _ not-ok b g
+    (λ g. on_number big 4 (Err Short) (λ o. o ≡ Ok n) (λ s. Behind s n) s _ not-ok b g
     (λ v t l b' g.
     let c = check-ok (leb 4 v) Short _ _ g in
     let d = check-ok (leb (v + 4) (length t)) Short _ _ c.1 in
@@ -112,8 +113,8 @@ next_back s n b e =
     let k : 4 ≤ v = leb-true 4 v c.0 in
     rw (← ok_same _ _ d.1) ((omega arith, omega arith, be_at-lt 4 t v b'), bytes_drop (v + 4) t b', frame_back v t b' h)))
 
-module _ (walk : List ℕ → Out Refusal (List Bin)) (passed : (t : List ℕ) (xs : List Bin) → Bytes t → walk t ≡ ok xs → All Framed xs × (t ≡ frames xs)) where
-  step_passed : (s : List ℕ) (xs : List Bin) (n : Next) → Behind s n → bins_by walk n ≡ ok xs → All Framed xs × (s ≡ frames xs)
+module _ (walk : List ℕ → Result (List Bin) Refusal) (passed : (t : List ℕ) (xs : List Bin) → Bytes t → walk t ≡ Ok xs → All Framed xs × (t ≡ frames xs)) where
+  step_passed : (s : List ℕ) (xs : List Bin) (n : Next) → Behind s n → bins_by walk n ≡ Ok xs → All Framed xs × (s ≡ frames xs)
   unfolding bins_by
   step_passed s xs over p e = rw (← ok_same _ _ e) (tt, p)
   step_passed s xs (bin x t) p e =
@@ -121,7 +122,7 @@ module _ (walk : List ℕ → Out Refusal (List Bin)) (passed : (t : List ℕ) (
       let i = passed t m.0 p.1 m.1 in
       rw (← ok_same _ _ m.2) ((p.0, i.0), p.2 ∙ ap (frame x) i.1)
 
-pub walk_passed : (steps : ℕ) (s : List ℕ) (xs : List Bin) → Bytes s → bins steps s ≡ ok xs → All Framed xs × (s ≡ frames xs)
+pub walk_passed : (steps : ℕ) (s : List ℕ) (xs : List Bin) → Bytes s → bins steps s ≡ Ok xs → All Framed xs × (s ≡ frames xs)
 unfolding bins
 walk_passed zero s xs b e = absurd (not-ok e)
 walk_passed (suc steps) s xs b e =

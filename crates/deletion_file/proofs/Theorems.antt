@@ -7,7 +7,8 @@ use lib.Dec.{eqb, leb}
 use lib.ListN.{length, get_or}
 use borrow.Author.Tests.{le-leb, eqb-true, ne_eqb}
 use Rattle.refusal.specs.Meaning.{limit}
-use Rattle.refusal.specs.Reading.{Out, refuse, ok, check, and_then}
+use Rattle.std.specs.Prelude.{Result, Err, Ok}
+use Rattle.refusal.specs.Reading.{check, and_then}
 use Rattle.refusal.specs.declared.Refusal.{Refusal}
 use Rattle.refusal.specs.declared.Refusal.TheVariants.{Short, Version}
 use Rattle.refusal.proofs.Laws.{check-ok, then_ok, then_same}
@@ -34,7 +35,7 @@ rows_counted n buffer {rows} h m b = marked_count n buffer rows h (rising_within
 
 -- where the rows were marked in the cleared field, they are the answer
 answers : (file : List ℕ) (b n : ℕ) (buffer rows : List ℕ) {after : List ℕ} → Allowed file n buffer rows → count after n ≡ length rows
-    → after ≡ mark_all (cleared n buffer) rows → deletions file b n buffer ≡ ok after → AnswersRows file b n buffer rows
+    → after ≡ mark_all (cleared n buffer) rows → deletions file b n buffer ≡ Ok after → AnswersRows file b n buffer rows
 unfolding deletions_buffer deletions_by left_by
 answers file b n buffer rows l c f e = record { answer = rw e (ap Deleted c); field = rw e (f ∙ marked_field n buffer rows l.room l.below) }
 
@@ -42,7 +43,7 @@ pub bin_is_read : BinIsRead
 unfolding deletions_ready deletions bin_marked check and_then
 bin_is_read file b n buffer rows d l =
     let i = bitmap_laid d in
-    let e : deletions file b n buffer ≡ ok (mark_all (cleared n buffer) rows) =
+    let e : deletions file b n buffer ≡ Ok (mark_all (cleared n buffer) rows) =
     rw (le-leb (length file) limit l.file_in-limit, le-leb n limit l.count_in-limit, le-leb (size n) (length buffer) l.room, i.is_read)
     (marked_laid n (cleared n buffer) i.is_bitmap l.below) in
     answers file b n buffer rows l (rows_counted n buffer l.room i.is_bitmap l.below) refl e
@@ -56,11 +57,11 @@ laid_out_is_read file b n buffer sets d h l = bin_is_read file b n buffer (get_o
 record Stages (file : List ℕ) (b n : ℕ) (buffer after : List ℕ) : Type 0 where
   clear : List ℕ
   bytes : List ℕ
-  is_ready : deletions_ready file n buffer ≡ ok clear
-  is_bitmap : bitmap_in b file ≡ ok bytes
-  is_marked : bitmap_marked bytes n clear ≡ ok after
+  is_ready : deletions_ready file n buffer ≡ Ok clear
+  is_bitmap : bitmap_in b file ≡ Ok bytes
+  is_marked : bitmap_marked bytes n clear ≡ Ok after
 
-stages : (file : List ℕ) (b n : ℕ) (buffer after : List ℕ) → deletions file b n buffer ≡ ok after → Stages file b n buffer after
+stages : (file : List ℕ) (b n : ℕ) (buffer after : List ℕ) → deletions file b n buffer ≡ Ok after → Stages file b n buffer after
 unfolding deletions bin_marked
 stages file b n buffer after e =
     let r = then_ok (deletions_ready file n buffer) (bin_marked file b n) _ e in
@@ -89,16 +90,16 @@ accepted_was_laid_out file b n buffer k t e =
 -- ---- 3
 
 -- no stage follows a refusal
-pub ends : {A B : Type 0} (t : Bool) (r q : Refusal) (k : A → Out Refusal B) → and_then (check t r (refuse q)) k ≡ check t r (refuse q)
+pub ends : {A B : Type 0} (t : Bool) (r q : Refusal) (k : A → Result B Refusal) → and_then (check t r (Err q)) k ≡ check t r (Err q)
 unfolding check and_then
 ends true r q k = refl
 ends false r q k = refl
 
-pub asked_no_version : (file : List ℕ) (b : ℕ) → (get_or file 0 0 ≡ 1 → ⊥) → bin_asked_for b file ≡ check (leb 1 (length file)) Short (refuse Version)
+pub asked_no_version : (file : List ℕ) (b : ℕ) → (get_or file 0 0 ≡ 1 → ⊥) → bin_asked_for b file ≡ check (leb 1 (length file)) Short (Err Version)
 unfolding bin_asked_for check
 asked_no_version file b h = rw (ne_eqb (get_or file 0 0) 1 h)
 
-no_version : (file : List ℕ) (b n : ℕ) (clear : List ℕ) → (get_or file 0 0 ≡ 1 → ⊥) → bin_marked file b n clear ≡ check (leb 1 (length file)) Short (refuse Version)
+no_version : (file : List ℕ) (b n : ℕ) (clear : List ℕ) → (get_or file 0 0 ≡ 1 → ⊥) → bin_marked file b n clear ≡ check (leb 1 (length file)) Short (Err Version)
 unfolding bin_marked bitmap_in
 no_version file b n clear h =
     rw (asked_no_version file b h, ends (leb 1 (length file)) Short Version after_magic) (ends (leb 1 (length file)) Short Version (λ bytes. bitmap_marked bytes n clear))

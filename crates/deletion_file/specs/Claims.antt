@@ -1,8 +1,8 @@
 -- What is claimed of deletion files: the layout and the reading agree. proofs/Theorems proves each.
-use Rattle.std.specs.Prelude.{ℕ, ◌<◌, ◌≤◌, ◌≡◌, ◌↔◌, List, [], ◌++◌, leb, length, drop, get_or}
+use Rattle.std.specs.Prelude.{ℕ, ◌<◌, ◌≤◌, ◌≡◌, ◌↔◌, List, [], ◌++◌, leb, length, drop, get_or, Err, Ok}
 use Rattle.numbers.specs.Meaning.{Bytes}
 use Rattle.refusal.specs.Meaning.{limit}
-use Rattle.refusal.specs.Reading.{refuse, ok, check, and_then}
+use Rattle.refusal.specs.Reading.{check, and_then}
 use Rattle.refusal.specs.Claims.{CarriesNothing}
 use Rattle.refusal.specs.declared.Refusal.{Refusal}
 use Rattle.refusal.specs.declared.Refusal.TheVariants.{Short, Magic, Version, Head, Dict, Bitmap, Range, Twice, Missing, Room, Literal, Limit, Checksum, NoBin}
@@ -54,7 +54,7 @@ AcceptedWasLaidOut =
 abbrev pub OtherVersion : Type 0
 OtherVersion =
     (file : List ℕ) (b n : ℕ) (buffer : List ℕ) → (get_or file 0 0 ≡ 1 → ⊥)
-    → deletions file b n buffer ≡ and_then (deletions_ready file n buffer) (λ _. check (leb 1 (length file)) Short (refuse Version))
+    → deletions file b n buffer ≡ and_then (deletions_ready file n buffer) (λ _. check (leb 1 (length file)) Short (Err Version))
 
 abbrev pub RowsHaveVersion1 : Type 0
 RowsHaveVersion1 = (file : List ℕ) (b n : ℕ) (buffer : List ℕ) (k : ℕ) → deletions_by n (deletions file b n buffer) ≡ Deleted k → get_or file 0 0 ≡ 1
@@ -86,11 +86,11 @@ BinFaultIs n bytes NoBin = ⊥
 abbrev pub NamesTheFault : Type 0
 NamesTheFault =
     (file : List ℕ) (b n : ℕ) (buffer bytes : List ℕ) (r : Refusal) → Bytes file → HoldsBytes b bytes file
-    → length file ≤ limit → n ≤ limit → size n ≤ length buffer → (deletions file b n buffer ≡ refuse r) ↔ BinFaultIs n bytes r
+    → length file ≤ limit → n ≤ limit → size n ≤ length buffer → (deletions file b n buffer ≡ Err r) ↔ BinFaultIs n bytes r
 
 -- The bytes that are looked at as a bitmap are exactly those that the bin holds; what comes before carries nothing.
 abbrev pub LooksAtHeldBytes : Type 0
-LooksAtHeldBytes = (file : List ℕ) (b : ℕ) (bytes : List ℕ) → Bytes file → (bitmap_in b file ≡ ok bytes) ↔ HoldsBytes b bytes file
+LooksAtHeldBytes = (file : List ℕ) (b : ℕ) (bytes : List ℕ) → Bytes file → (bitmap_in b file ≡ Ok bytes) ↔ HoldsBytes b bytes file
 
 abbrev pub NothingBeforeBitmap : Type 0
 NothingBeforeBitmap = (file : List ℕ) (b n : ℕ) (buffer : List ℕ) → CarriesNothing (deletions_ready file n buffer) × CarriesNothing (bitmap_in b file)

@@ -10,7 +10,8 @@ use borrow.Author.Tests.{eq-eqb, ne_eqb, eqb-true}
 use Rattle.numbers.specs.Meaning.{be_at, le_at, be, le, big, little, Bytes}
 use Rattle.numbers.proofs.ByteLists.{bytes-append, bytes-be, bytes_le, bytes_drop}
 use Rattle.numbers.proofs.Laws.{number_at_back}
-use Rattle.refusal.specs.Reading.{Out, refuse, ok, check, and_then, refused_as}
+use Rattle.std.specs.Prelude.{Result, Err, Ok}
+use Rattle.refusal.specs.Reading.{check, and_then, refused_as}
 use Rattle.refusal.specs.declared.Refusal.{Refusal}
 use Rattle.refusal.specs.declared.Refusal.TheVariants.{Magic, Checksum}
 use Rattle.refusal.proofs.Laws.{not-ok, ok_same, check-ok, then_ok, refused_as-ok}
@@ -67,23 +68,23 @@ module _ (bytes : List ℕ) where
   behind_64 = rw (summed_holds (bin_bytes64 bytes))
 
   -- the 64-bit magic is not 01's
-  pub not-magic : (sum : ℕ) → after_magic (record { bytes = bin_bytes64 bytes; sum = sum }) ≡ refuse Magic
+  pub not-magic : (sum : ℕ) → after_magic (record { bytes = bin_bytes64 bytes; sum = sum }) ≡ Err Magic
   unfolding after_magic begins_with_magic check
   not-magic sum = refl
 
-bitmap-read : {rows bitmap : List ℕ} → Bitmap rows bitmap → rows32 bitmap ≡ ok rows
+bitmap-read : {rows bitmap : List ℕ} → Bitmap rows bitmap → rows32 bitmap ≡ Ok rows
 unfolding rows32 refused_as and_then
 bitmap-read {rows} {bitmap} m =
     let (p, is, same) = rw (append-nil bitmap) at (measured_laid (Exactly (length bitmap)) m [] refl) in
-    rw is (ap ok same)
+    rw is (ap Ok same)
 
-pub bin-read : {rows bytes : List ℕ} → EitherBin rows bytes → rows_of_bin (summed bytes) ≡ ok rows
+pub bin-read : {rows bytes : List ℕ} → EitherBin rows bytes → rows_of_bin (summed bytes) ≡ Ok rows
 bin-read (bits_32 {bitmap = bitmap} m) = behind_32 bitmap ∙ bitmap-read m
 bin-read (bits_64 {bytes = bytes} m) = behind_64 bytes ∙ bitmaps-read m
 
 -- ---- read, so laid out
 
-bitmap_back : (bytes rows : List ℕ) → Bytes bytes → rows32 bytes ≡ ok rows → Bitmap rows bytes
+bitmap_back : (bytes rows : List ℕ) → Bytes bytes → rows32 bytes ≡ Ok rows → Bitmap rows bytes
 unfolding rows32
 bitmap_back bytes rows b e =
     let (p, is, same) = then_ok (refused_as (λ why. Refusal.Bitmap bin_entry (container_of why)) (measured (Exactly (length bytes)) bytes)) _ _ e in
@@ -92,18 +93,18 @@ bitmap_back bytes rows b e =
 
 -- refused exactly for the container that is broken
 pub refused_32 : (bytes : List ℕ) (r : Refusal) → Bytes bytes
-    → (rows32 bytes ≡ refuse r) ↔ ((i : ℕ) × (r ≡ Refusal.Bitmap 0 i) × Broken (Exactly (length bytes)) bytes i)
+    → (rows32 bytes ≡ Err r) ↔ ((i : ℕ) × (r ≡ Refusal.Bitmap 0 i) × Broken (Exactly (length bytes)) bytes i)
 unfolding rows32 refused_as and_then measured_by
 refused_32 bytes r b = (by (measured (Exactly (length bytes)) bytes) refl, λ w. back w.0 w.1 w.2)
   where
-    by : (o : Out Fault Parsed) → measured (Exactly (length bytes)) bytes ≡ o → rows32 bytes ≡ refuse r
+    by : (o : Result Parsed Fault) → measured (Exactly (length bytes)) bytes ≡ o → rows32 bytes ≡ Err r
         → (i : ℕ) × (r ≡ Refusal.Bitmap 0 i) × Broken (Exactly (length bytes)) bytes i
-    by (refuse (unsound i)) m e =
+    by (Err (unsound i)) m e =
         let f = rw m at e in
         (i, cc, (names_the_broken (Exactly (length bytes)) bytes i b).0 (rw m))
-    by (ok p) m e = absurd (not-ok (sym (rw m at e)))
+    by (Ok p) m e = absurd (not-ok (sym (rw m at e)))
 
-    back : (i : ℕ) → r ≡ Refusal.Bitmap 0 i → Broken (Exactly (length bytes)) bytes i → rows32 bytes ≡ refuse r
+    back : (i : ℕ) → r ≡ Refusal.Bitmap 0 i → Broken (Exactly (length bytes)) bytes i → rows32 bytes ≡ Err r
     back i e w = rw (not_sound (measured (Exactly (length bytes)) bytes) (sym ((names_the_broken (Exactly (length bytes)) bytes i b).1 w)), e)
 
 -- the kind that two tests say
@@ -130,7 +131,7 @@ module _ (bytes : List ℕ) (b : Bytes bytes) (h : 4 ≤ length bytes) where
       number_at_back little 4 bytes b h
       ∙ ap (λ (v : ℕ). le 4 v ++ drop 4 bytes) (eqb-true (le_at 4 bytes 0) magic64 (kind_64 (begins_with_magic bytes) (has_magic64 bytes) e))
 
-  behind_back : (rows : List ℕ) (k : Kind) → kind_of bytes ≡ k → rows_behind k (drop 4 bytes) ≡ ok rows → EitherBin rows bytes
+  behind_back : (rows : List ℕ) (k : Kind) → kind_of bytes ≡ k → rows_behind k (drop 4 bytes) ≡ Ok rows → EitherBin rows bytes
   unfolding rows_behind
   behind_back rows Unknown e f = absurd (not-ok f)
   behind_back rows Bits32 e f = rw (begins_32 e) (bits_32 (bitmap_back (drop 4 bytes) rows (bytes_drop 4 bytes b) f))
@@ -143,7 +144,7 @@ module _ (bytes : List ℕ) (b : Bytes bytes) (h : 4 ≤ length bytes) where
   no_kind n Bits32 e = absurd (n (drop 4 bytes, inl (begins_32 e)))
   no_kind n Bits64 e = absurd (n (drop 4 bytes, inr (begins_64 e)))
 
-pub bin_back : (x : Bin) (rows : List ℕ) → Bytes x.bytes → 4 ≤ length x.bytes → rows_of_bin x ≡ ok rows → EitherBin rows x.bytes × (x ≡ summed x.bytes)
+pub bin_back : (x : Bin) (rows : List ℕ) → Bytes x.bytes → 4 ≤ length x.bytes → rows_of_bin x ≡ Ok rows → EitherBin rows x.bytes × (x ≡ summed x.bytes)
 unfolding rows_of_bin is_true_checksum
 bin_back x rows b h e =
     let k = check-ok (known (kind_of x.bytes)) Magic _ _ e in
@@ -152,7 +153,7 @@ bin_back x rows b h e =
 
 -- ---- the tests of a bin
 
-pub bin-other-magic : (x : Bin) → Bytes x.bytes → 4 ≤ length x.bytes → (WithMagic x.bytes → ⊥) → rows_of_bin x ≡ refuse Magic
+pub bin-other-magic : (x : Bin) → Bytes x.bytes → 4 ≤ length x.bytes → (WithMagic x.bytes → ⊥) → rows_of_bin x ≡ Err Magic
 unfolding rows_of_bin check
 bin-other-magic x b h n = rw (no_kind x.bytes b h n (kind_of x.bytes) refl)
 
@@ -161,16 +162,16 @@ unfolding kind_of begins_with_magic has_magic64 known
 with_kind bytes rest (inl e) = rw e
 with_kind bytes rest (inr e) = rw e
 
-pub bin-false-checksum : (x : Bin) → WithMagic x.bytes → (checksum x.bytes ≡ x.sum → ⊥) → rows_of_bin x ≡ refuse Checksum
+pub bin-false-checksum : (x : Bin) → WithMagic x.bytes → (checksum x.bytes ≡ x.sum → ⊥) → rows_of_bin x ≡ Err Checksum
 unfolding rows_of_bin is_true_checksum check
 bin-false-checksum x w n = rw (with_kind x.bytes w.0 w.1, ne_eqb (checksum x.bytes) x.sum n)
 
 -- what holds of MAGIC, of CHECKSUM and of each BITMAP of entry 0 holds of every refusal of a bin
 module _ (P : Refusal → Type 0) (bitmap : (i : ℕ) → P (Refusal.Bitmap 0 i)) where
-  measured_only : (o : Out Fault Parsed) → Only P (refused_as (λ why. Refusal.Bitmap bin_entry (container_of why)) o)
+  measured_only : (o : Result Parsed Fault) → Only P (refused_as (λ why. Refusal.Bitmap bin_entry (container_of why)) o)
   unfolding refused_as
-  measured_only (refuse why) = bitmap (container_of why)
-  measured_only (ok p) = tt
+  measured_only (Err why) = bitmap (container_of why)
+  measured_only (Ok p) = tt
 
   bitmap_only : (bytes : List ℕ) → Only P (rows32 bytes)
   unfolding rows32
@@ -190,11 +191,11 @@ module _ (P : Refusal → Type 0) (bitmap : (i : ℕ) → P (Refusal.Bitmap 0 i)
 -- ---- 01's reading of a bin
 
 -- the bytes behind its magic are read alike
-pub magic-or : (x : Bin) (t : Bool) → begins_with_magic x.bytes ≡ t → (after_magic x ≡ refuse Magic) ⊎ (rows_of_bin x ≡ and_then (after_magic x) rows32)
+pub magic-or : (x : Bin) (t : Bool) → begins_with_magic x.bytes ≡ t → (after_magic x ≡ Err Magic) ⊎ (rows_of_bin x ≡ and_then (after_magic x) rows32)
 unfolding after_magic rows_of_bin kind_of known rows_behind check and_then
 magic-or x true e = inr (rw e (by (is_true_checksum x.bytes x.sum)))
   where
-    by : (c : Bool) → check c Checksum (rows32 (drop 4 x.bytes)) ≡ and_then (check c Checksum (ok (drop 4 x.bytes))) rows32
+    by : (c : Bool) → check c Checksum (rows32 (drop 4 x.bytes)) ≡ and_then (check c Checksum (Ok (drop 4 x.bytes))) rows32
     by true = refl
     by false = refl
 magic-or x false e = inl (rw e)

@@ -10,7 +10,8 @@ use borrow.Author.Tests.{le-leb, leb-true, lt-ltb, ltb-true, eqb-true}
 use Rattle.numbers.specs.Meaning.{le, little, Bytes}
 use Rattle.numbers.proofs.ByteLists.{bytes-nil, bytes-append, bytes_le}
 use Rattle.numbers.proofs.Laws.{number_laid, on_number}
-use Rattle.refusal.specs.Reading.{Out, refuse, ok, check, and_then, refused_as}
+use Rattle.std.specs.Prelude.{Result, Err, Ok}
+use Rattle.refusal.specs.Reading.{check, and_then, refused_as}
 use Rattle.refusal.specs.declared.Refusal.{Refusal}
 use Rattle.refusal.proofs.Laws.{not-ok, ok_same, check-ok, then_ok, refused_as-ok}
 use Rattle.row_field.specs.Meaning.{above, Rising}
@@ -61,22 +62,22 @@ abbrev next : Indexed → List ℕ → IndexedRows
 next x behind = record { index = x.index; rows = above (x.index * index_rows) x.low; behind = behind }
 
 next_laid : (lo : ℕ) (x : Indexed) (t : List ℕ) → lo ≤ x.index → x.index < index_end → Bitmap x.low x.bitmap
-    → indexed_bitmap lo (le 4 x.index ++ (x.bitmap ++ t)) ≡ ok (next x t)
+    → indexed_bitmap lo (le 4 x.index ++ (x.bitmap ++ t)) ≡ Ok (next x t)
 unfolding indexed_bitmap check and_then refused_as
 next_laid lo x t h l m =
-    number_laid little 4 (refuse wrong) x.index (x.bitmap ++ t) _ (omega arith)
+    number_laid little 4 (Err wrong) x.index (x.bitmap ++ t) _ (omega arith)
     ∙ rw (le-leb lo x.index h, lt-ltb x.index index_end l, laid_out_is_read x.low x.bitmap t m)
 
-in_laid : (lo : ℕ) (xs : List Indexed) → IndexesRise lo xs → bitmaps_in (length xs) lo (indexed_bytes xs) ≡ ok (listed xs)
+in_laid : (lo : ℕ) (xs : List Indexed) → IndexesRise lo xs → bitmaps_in (length xs) lo (indexed_bytes xs) ≡ Ok (listed xs)
 unfolding bitmaps_in check and_then
 in_laid lo [] g = refl
 in_laid lo (x ∷ xs) g =
     rw (next_laid lo x (indexed_bytes xs) g.0 g.1 g.2, in_laid (x.index + 1) xs g.3)
 
-pub bitmaps-read : {rows bytes : List ℕ} → Bitmaps rows bytes → rows64 bytes ≡ ok rows
+pub bitmaps-read : {rows bytes : List ℕ} → Bitmaps rows bytes → rows64 bytes ≡ Ok rows
 unfolding rows64
 bitmaps-read (bitmaps xs g) =
-    number_laid little 8 (refuse wrong) (length xs) (indexed_bytes xs) _ (omega (arith, indexed_few 0 xs (omega arith) g))
+    number_laid little 8 (Err wrong) (length xs) (indexed_bytes xs) _ (omega (arith, indexed_few 0 xs (omega arith) g))
     ∙ in_laid 0 xs g
 
 -- ---- read, so laid out
@@ -91,10 +92,10 @@ record NextWas (lo : ℕ) (s : List ℕ) (n : IndexedRows) : Type 0 where
   are_bytes : Bytes n.behind
   is : next indexed n.behind ≡ n
 
-next_back : (lo : ℕ) (s : List ℕ) (n : IndexedRows) → Bytes s → indexed_bitmap lo s ≡ ok n → NextWas lo s n
+next_back : (lo : ℕ) (s : List ℕ) (n : IndexedRows) → Bytes s → indexed_bitmap lo s ≡ Ok n → NextWas lo s n
 unfolding indexed_bitmap
 next_back lo s n b e =
-    on_number little 4 (refuse wrong) (λ o. o ≡ ok n) (λ s. NextWas lo s n) s _ not-ok b e
+    on_number little 4 (Err wrong) (λ o. o ≡ Ok n) (λ s. NextWas lo s n) s _ not-ok b e
     (λ v t l c g.
     let h = check-ok (leb lo v) wrong _ _ g in
     let k = check-ok (ltb v index_end) wrong _ _ h.1 in
@@ -132,7 +133,7 @@ in_more {more = more} {n = n} x i e =
       are_rows = ap (λ (t : List ℕ). above (y.index * index_rows) y.low ++ t) i.are_rows ∙ ap (λ (m : IndexedRows). m.rows ++ more) x.is ∙ e;
     }
 
-in_back : (count lo : ℕ) (s rows : List ℕ) → Bytes s → bitmaps_in count lo s ≡ ok rows → InWas count lo s rows
+in_back : (count lo : ℕ) (s rows : List ℕ) → Bytes s → bitmaps_in count lo s ≡ Ok rows → InWas count lo s rows
 unfolding bitmaps_in
 in_back zero lo s rows b e =
     let c = check-ok (eqb (length s) 0) wrong _ _ e in
@@ -146,19 +147,19 @@ in_back (suc count) lo s rows b e =
 in_all : {count : ℕ} {s rows : List ℕ} → InWas count 0 s rows → Bitmaps rows (le 8 count ++ s)
 in_all i = rw (i.cut, ← i.many, ← i.are_rows) (bitmaps i.all i.rise)
 
-pub rows_back : (bytes rows : List ℕ) → Bytes bytes → rows64 bytes ≡ ok rows → Bitmaps rows bytes
+pub rows_back : (bytes rows : List ℕ) → Bytes bytes → rows64 bytes ≡ Ok rows → Bitmaps rows bytes
 unfolding rows64
 rows_back bytes rows b e =
-    on_number little 8 (refuse wrong) (λ o. o ≡ ok rows) (Bitmaps rows) bytes _ not-ok b e (λ count t l c g. in_all (in_back count 0 t rows c g))
+    on_number little 8 (Err wrong) (λ o. o ≡ Ok rows) (Bitmaps rows) bytes _ not-ok b e (λ count t l c g. in_all (in_back count 0 t rows c g))
 
 -- ---- whatever is wrong is refused alike
 
 -- what holds of that refusal holds of every one
 module _ (P : Refusal → Type 0) (p : P wrong) where
-  read_only : (o : Out Fault Parsed) → Only P (refused_as (λ why. wrong) o)
+  read_only : (o : Result Parsed Fault) → Only P (refused_as (λ why. wrong) o)
   unfolding refused_as
-  read_only (refuse why) = p
-  read_only (ok q) = tt
+  read_only (Err why) = p
+  read_only (Ok q) = tt
 
   next_only : (lo : ℕ) (s : List ℕ) → Only P (indexed_bitmap lo s)
   unfolding indexed_bitmap
@@ -173,13 +174,13 @@ module _ (P : Refusal → Type 0) (p : P wrong) where
   unfolding rows64
   rows_only bytes = search (number_only P, in_only)
 
-wrong_only : (bytes : List ℕ) (r : Refusal) → rows64 bytes ≡ refuse r → r ≡ wrong
+wrong_only : (bytes : List ℕ) (r : Refusal) → rows64 bytes ≡ Err r → r ≡ wrong
 wrong_only bytes r e = rw e at (rows_only (λ q. q ≡ wrong) refl bytes)
 
 -- and refused is exactly what is laid out for no rows
-pub refused_64 : (bytes : List ℕ) (r : Refusal) → Bytes bytes → (rows64 bytes ≡ refuse r) ↔ ((r ≡ wrong) × ((rows : List ℕ) → Bitmaps rows bytes → ⊥))
+pub refused_64 : (bytes : List ℕ) (r : Refusal) → Bytes bytes → (rows64 bytes ≡ Err r) ↔ ((r ≡ wrong) × ((rows : List ℕ) → Bitmaps rows bytes → ⊥))
 refused_64 bytes r b = (λ e. (wrong_only bytes r e, λ rows m. not-ok (sym e ∙ bitmaps-read m)), by (rows64 bytes) refl)
   where
-    by : (o : Out Refusal (List ℕ)) → rows64 bytes ≡ o → (r ≡ wrong) × ((rows : List ℕ) → Bitmaps rows bytes → ⊥) → rows64 bytes ≡ refuse r
-    by (refuse q) e w = e ∙ ap refuse (wrong_only bytes q e ∙ sym w.0)
-    by (ok rows) e w = absurd (w.1 rows (rows_back bytes rows b e))
+    by : (o : Result (List ℕ) Refusal) → rows64 bytes ≡ o → (r ≡ wrong) × ((rows : List ℕ) → Bitmaps rows bytes → ⊥) → rows64 bytes ≡ Err r
+    by (Err q) e w = e ∙ ap Err (wrong_only bytes q e ∙ sym w.0)
+    by (Ok rows) e w = absurd (w.1 rows (rows_back bytes rows b e))

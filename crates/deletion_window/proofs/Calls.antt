@@ -8,7 +8,8 @@ use lib.Dec.{leb}
 use lib.ListN.{length}
 use borrow.Author.Tests.{le-leb, leb-true}
 use Rattle.refusal.specs.Meaning.{limit}
-use Rattle.refusal.specs.Reading.{Out, refuse, ok, check, and_then}
+use Rattle.std.specs.Prelude.{Result, Err, Ok}
+use Rattle.refusal.specs.Reading.{check, and_then}
 use Rattle.refusal.specs.declared.Refusal.{Refusal}
 use Rattle.refusal.specs.declared.Refusal.TheVariants.{Limit}
 use Rattle.refusal.proofs.Laws.{not-ok, check-ok, then_ok}
@@ -28,20 +29,20 @@ use Rattle.deletion_window.proofs.Bins.{bin_rises, bin_only}
 use Rattle.deletion_window.proofs.Files.{laid_rows}
 use Rattle.refusal.proofs.Only.{Only, check_only, then_only}
 
-marked_refused : (first n : ℕ) (field : List ℕ) (r : Refusal) (o : Out Refusal (List ℕ)) → (marked_in first n o field ≡ refuse r) ↔ (o ≡ refuse r)
+marked_refused : (first n : ℕ) (field : List ℕ) (r : Refusal) (o : Result (List ℕ) Refusal) → (marked_in first n o field ≡ Err r) ↔ (o ≡ Err r)
 unfolding marked_in and_then
-marked_refused first n field r (refuse q) = (λ e. e, λ e. e)
-marked_refused first n field r (ok rows) = (λ e. absurd (not-ok (sym e)), λ e. absurd (not-ok (sym e)))
+marked_refused first n field r (Err q) = (λ e. e, λ e. e)
+marked_refused first n field r (Ok rows) = (λ e. absurd (not-ok (sym e)), λ e. absurd (not-ok (sym e)))
 
 -- ---- within the limits and with room
 
 -- whether row r is among those that were read
-abbrev pub has : Out Refusal (List ℕ) → ℕ → Bool
-has (refuse why) r = false
-has (ok rows) r = member r rows
+abbrev pub has : Result (List ℕ) Refusal → ℕ → Bool
+has (Err why) r = false
+has (Ok rows) r = member r rows
 
 module _ (file : List ℕ) (b first n : ℕ) (buffer : List ℕ) (a : Allowed file first n buffer) where
-  ready_so : window_ready file first n buffer ≡ ok (cleared n buffer)
+  ready_so : window_ready file first n buffer ≡ Ok (cleared n buffer)
   unfolding window_ready deletions_ready check
   ready_so =
       rw (
@@ -55,19 +56,19 @@ module _ (file : List ℕ) (b first n : ℕ) (buffer : List ℕ) (a : Allowed fi
   unfolding window_deletions and_then
   call_so = rw ready_so
 
-  pub refused_so : (r : Refusal) → (window_deletions file b first n buffer ≡ refuse r) ↔ (rows_in b file ≡ refuse r)
+  pub refused_so : (r : Refusal) → (window_deletions file b first n buffer ≡ Err r) ↔ (rows_in b file ≡ Err r)
   refused_so r = rw call_so (marked_refused first n (cleared n buffer) r (rows_in b file))
 
-  pub marked_so : (rows : List ℕ) → rows_in b file ≡ ok rows → window_deletions file b first n buffer ≡ ok (mark_all (cleared n buffer) (rows_in_window first n rows))
+  pub marked_so : (rows : List ℕ) → rows_in b file ≡ Ok rows → window_deletions file b first n buffer ≡ Ok (mark_all (cleared n buffer) (rows_in_window first n rows))
   unfolding marked_in and_then
   marked_so rows e = call_so ∙ rw e
 
   -- a row of the buffer then
   module _ (r : ℕ) (h : r < n) where
-    bit_go : (o : Out Refusal (List ℕ)) → bit (left_by (marked_in first n o (cleared n buffer)) (cleared n buffer)) r ≡ has o (first + r)
+    bit_go : (o : Result (List ℕ) Refusal) → bit (left_by (marked_in first n o (cleared n buffer)) (cleared n buffer)) r ≡ has o (first + r)
     unfolding marked_in and_then left_by
-    bit_go (refuse why) = bit-cleared first n r h buffer
-    bit_go (ok rows) = bit_marked first n r h buffer rows a.room
+    bit_go (Err why) = bit-cleared first n r h buffer
+    bit_go (Ok rows) = bit_marked first n r h buffer rows a.room
 
     pub bit_so : bit (window_buffer file b first n buffer) r ≡ has (rows_in b file) (first + r)
     unfolding window_buffer left_by
@@ -86,8 +87,8 @@ module _ (file : List ℕ) (b first n : ℕ) (buffer : List ℕ) (a : Allowed fi
 -- ---- what was accepted
 
 module _ (file : List ℕ) (b first n : ℕ) (buffer : List ℕ) where
-  pub accepted_so : {after : List ℕ} → window_deletions file b first n buffer ≡ ok after
-      → Allowed file first n buffer × ((rows : List ℕ) × (rows_in b file ≡ ok rows))
+  pub accepted_so : {after : List ℕ} → window_deletions file b first n buffer ≡ Ok after
+      → Allowed file first n buffer × ((rows : List ℕ) × (rows_in b file ≡ Ok rows))
   unfolding window_deletions window_ready marked_in
   accepted_so e =
       let (clear, is, m) = then_ok (window_ready file first n buffer) _ _ e in
@@ -99,7 +100,7 @@ module _ (file : List ℕ) (b first n : ℕ) (buffer : List ℕ) where
       )
 
   -- the number that is said counts the buffer's rows
-  pub deleted_so : {after : List ℕ} → window_deletions file b first n buffer ≡ ok after
+  pub deleted_so : {after : List ℕ} → window_deletions file b first n buffer ≡ Ok after
       → deletions_by n (window_deletions file b first n buffer) ≡ Deleted (count (window_buffer file b first n buffer) n)
   unfolding window_buffer deletions_by left_by
   deleted_so e = rw e
@@ -112,9 +113,9 @@ module _ (file : List ℕ) (b first n : ℕ) (buffer : List ℕ) where
 
 -- ---- what it refuses with
 
-bare_only : {A : Type 0} (o : Out Refusal A) → CarriesNothing o → Only BitmapOrBare o
-bare_only (refuse r) c = inl c
-bare_only (ok a) c = tt
+bare_only : {A : Type 0} (o : Result A Refusal) → CarriesNothing o → Only BitmapOrBare o
+bare_only (Err r) c = inl c
+bare_only (Ok a) c = tt
 
 ready_only : (file : List ℕ) (first n : ℕ) (buffer : List ℕ) → Only BitmapOrBare (window_ready file first n buffer)
 unfolding window_ready

@@ -6,7 +6,8 @@ use mathlib.Core.List.{List, [], ◌∷◌}
 use native.Mathlib.Omega.{arith}
 use lib.ListN.{length, get_or}
 use Rattle.numbers.specs.Meaning.{All, Bytes}
-use Rattle.refusal.specs.Reading.{Out, refuse, ok, and_then}
+use Rattle.std.specs.Prelude.{Result, Err, Ok}
+use Rattle.refusal.specs.Reading.{and_then}
 use Rattle.refusal.specs.declared.Refusal.{Refusal}
 use Rattle.refusal.specs.declared.Refusal.TheVariants.{Magic}
 use Rattle.refusal.proofs.Laws.{then_ok}
@@ -24,14 +25,14 @@ use Rattle.deletion_window.proofs.Bins.{bin_bytes_lem, bin_least, bin-read, bin_
 
 -- ---- laid out, so read
 
-pub asked_read : {b : ℕ} {x : Bin} {file : List ℕ} → HasFrame b x file → bin_asked_for b file ≡ ok x
+pub asked_read : {b : ℕ} {x : Bin} {file : List ℕ} → HasFrame b x file → bin_asked_for b file ≡ Ok x
 asked_read (has-frame earlier later x f) = asked_laid earlier x later f
 
 pub held_rows : {b : ℕ} {x : Bin} {file : List ℕ} → HasFrame b x file → rows_in b file ≡ rows_of_bin x
 unfolding rows_in and_then
 held_rows h = rw (asked_read h)
 
-pub laid_rows : {b : ℕ} {rows file : List ℕ} → HasRows b rows file → rows_in b file ≡ ok rows
+pub laid_rows : {b : ℕ} {rows file : List ℕ} → HasRows b rows file → rows_in b file ≡ Ok rows
 laid_rows h = held_rows h.stands ∙ bin-read h.bin
 
 -- ---- read, so laid out
@@ -41,12 +42,12 @@ file-has-rows : {xs : List Bin} {b : ℕ} {rows bytes file : List ℕ} → Betwe
 file-has-rows {bytes = bytes} i m f e =
     record { bytes = bytes; bin = m; stands = rw (← i.number, e, i.cut) (has-frame i.earlier i.later (summed bytes) (rw i.cut at f)) }
 
-cut-has-rows : {file : List ℕ} {b : ℕ} {x : Bin} {rows : List ℕ} → BinCut file b x → rows_of_bin x ≡ ok rows → HasRows b rows file
+cut-has-rows : {file : List ℕ} {b : ℕ} {x : Bin} {rows : List ℕ} → BinCut file b x → rows_of_bin x ≡ Ok rows → HasRows b rows file
 cut-has-rows {x = x} {rows = rows} c e =
     let (m, same) = bin_back x rows c.are_bytes c.magic_fits e in
     file-has-rows (rw same at c.between) m c.framed c.cut
 
-pub rows_cut : (file : List ℕ) (b : ℕ) (rows : List ℕ) → Bytes file → rows_in b file ≡ ok rows → HasRows b rows file
+pub rows_cut : (file : List ℕ) (b : ℕ) (rows : List ℕ) → Bytes file → rows_in b file ≡ Ok rows → HasRows b rows file
 unfolding rows_in
 rows_cut file b rows t e = let (x, is, are) = then_ok (bin_asked_for b file) rows_of_bin rows e in cut-has-rows (bin-cut file b x t is) are
 
@@ -95,10 +96,10 @@ pub held_bin : {b : ℕ} {rows bytes f : List ℕ} → old.HoldsBytes b bytes f 
 held_bin (old.holds_bytes earlier later bytes f) m = old.has-bin earlier later m f
 
 -- the bytes behind 01's magic are read alike
-pub as_without : (b : ℕ) (file : List ℕ) → (bitmap_in b file ≡ refuse Magic) ⊎ (rows_in b file ≡ and_then (bitmap_in b file) rows32)
+pub as_without : (b : ℕ) (file : List ℕ) → (bitmap_in b file ≡ Err Magic) ⊎ (rows_in b file ≡ and_then (bitmap_in b file) rows32)
 unfolding bitmap_in rows_in and_then
 as_without b file = by (bin_asked_for b file)
   where
-    by : (o : Out Refusal Bin) → (and_then o after_magic ≡ refuse Magic) ⊎ (and_then o rows_of_bin ≡ and_then (and_then o after_magic) rows32)
-    by (refuse r) = inr refl
-    by (ok x) = magic-or x (begins_with_magic x.bytes) refl
+    by : (o : Result Bin Refusal) → (and_then o after_magic ≡ Err Magic) ⊎ (and_then o rows_of_bin ≡ and_then (and_then o after_magic) rows32)
+    by (Err r) = inr refl
+    by (Ok x) = magic-or x (begins_with_magic x.bytes) refl

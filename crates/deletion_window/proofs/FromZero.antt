@@ -12,7 +12,8 @@ use lib.ListN.{length, drop}
 use borrow.Author.Tests.{le-leb, lt-leb}
 use Rattle.numbers.specs.Meaning.{Bytes}
 use Rattle.refusal.specs.Meaning.{limit}
-use Rattle.refusal.specs.Reading.{Out, refuse, ok, check, and_then, refused_as}
+use Rattle.std.specs.Prelude.{Result, Err, Ok}
+use Rattle.refusal.specs.Reading.{check, and_then, refused_as}
 use Rattle.refusal.specs.declared.Refusal.{Refusal}
 use Rattle.refusal.specs.declared.Refusal.TheVariants.{Bitmap, Range, Magic}
 use Rattle.refusal.proofs.Laws.{not-ok}
@@ -47,40 +48,40 @@ ready_zero file n buffer = ready_zero_go file n buffer (leb (length file) limit)
 
 -- where that call's refusal comes from
 data RefusedAt (file : List ℕ) (b n : ℕ) (buffer : List ℕ) (r : Refusal) : Type 0 where
-  at_ready : deletions_ready file n buffer ≡ refuse r → RefusedAt file b n buffer r
-  at_bin : {clear : List ℕ} → deletions_ready file n buffer ≡ ok clear → bitmap_in b file ≡ refuse r → RefusedAt file b n buffer r
-  at_bitmap : {clear bytes : List ℕ} → deletions_ready file n buffer ≡ ok clear → bitmap_in b file ≡ ok bytes → bitmap_marked bytes n clear ≡ refuse r
+  at_ready : deletions_ready file n buffer ≡ Err r → RefusedAt file b n buffer r
+  at_bin : {clear : List ℕ} → deletions_ready file n buffer ≡ Ok clear → bitmap_in b file ≡ Err r → RefusedAt file b n buffer r
+  at_bitmap : {clear bytes : List ℕ} → deletions_ready file n buffer ≡ Ok clear → bitmap_in b file ≡ Ok bytes → bitmap_marked bytes n clear ≡ Err r
       → RefusedAt file b n buffer r
 
-refused_at : (file : List ℕ) (b n : ℕ) (buffer : List ℕ) (r : Refusal) → deletions file b n buffer ≡ refuse r → RefusedAt file b n buffer r
+refused_at : (file : List ℕ) (b n : ℕ) (buffer : List ℕ) (r : Refusal) → deletions file b n buffer ≡ Err r → RefusedAt file b n buffer r
 unfolding deletions bin_marked and_then
 refused_at file b n buffer r e = ready (deletions_ready file n buffer) refl e
   where
-    bin : {clear : List ℕ} (o : Out Refusal (List ℕ)) → deletions_ready file n buffer ≡ ok clear → bitmap_in b file ≡ o
-        → and_then o (λ bytes. bitmap_marked bytes n clear) ≡ refuse r → RefusedAt file b n buffer r
-    bin (refuse q) x y f = at_bin x (y ∙ f)
-    bin (ok bytes) x y f = at_bitmap x y f
+    bin : {clear : List ℕ} (o : Result (List ℕ) Refusal) → deletions_ready file n buffer ≡ Ok clear → bitmap_in b file ≡ o
+        → and_then o (λ bytes. bitmap_marked bytes n clear) ≡ Err r → RefusedAt file b n buffer r
+    bin (Err q) x y f = at_bin x (y ∙ f)
+    bin (Ok bytes) x y f = at_bitmap x y f
 
-    ready : (o : Out Refusal (List ℕ)) → deletions_ready file n buffer ≡ o → and_then o (bin_marked file b n) ≡ refuse r → RefusedAt file b n buffer r
-    ready (refuse q) x f = at_ready (x ∙ f)
-    ready (ok clear) x f = bin (bitmap_in b file) x refl f
+    ready : (o : Result (List ℕ) Refusal) → deletions_ready file n buffer ≡ o → and_then o (bin_marked file b n) ≡ Err r → RefusedAt file b n buffer r
+    ready (Err q) x f = at_ready (x ∙ f)
+    ready (Ok clear) x f = bin (bitmap_in b file) x refl f
 
 -- what is refused there but for RANGE is refused here
-range_go : (r : Refusal) (t : Bool) (after rows : List ℕ) → check t (Range bin_entry) (ok after) ≡ refuse r → ((entry : ℕ) → r ≡ Range entry → ⊥)
-    → ◌≡◌ {A = Out Refusal (List ℕ)} (ok rows) (refuse r)
+range_go : (r : Refusal) (t : Bool) (after rows : List ℕ) → check t (Range bin_entry) (Ok after) ≡ Err r → ((entry : ℕ) → r ≡ Range entry → ⊥)
+    → ◌≡◌ {A = Result (List ℕ) Refusal} (Ok rows) (Err r)
 unfolding check
 range_go r true after rows e n = absurd (not-ok (sym e))
 range_go r false after rows e n = absurd (n bin_entry (cc))
 
-bitmap_refused : (bytes field : List ℕ) (n : ℕ) (r : Refusal) → bitmap_marked bytes n field ≡ refuse r
-    → ((entry : ℕ) → r ≡ Range entry → ⊥) → rows32 bytes ≡ refuse r
+bitmap_refused : (bytes field : List ℕ) (n : ℕ) (r : Refusal) → bitmap_marked bytes n field ≡ Err r
+    → ((entry : ℕ) → r ≡ Range entry → ⊥) → rows32 bytes ≡ Err r
 unfolding bitmap_marked rows32 and_then
 bitmap_refused bytes field n r e f = by (refused_as (λ why. Bitmap bin_entry (container_of why)) (measured (Exactly (length bytes)) bytes)) e
   where
-    by : (o : Out Refusal Parsed) → and_then o (λ p. check (leb (end_of p.rows) n) (Range bin_entry) (ok (mark_all field p.rows))) ≡ refuse r
-        → and_then o (λ p. ok p.rows) ≡ refuse r
-    by (refuse q) g = (let h : q ≡ r = cc in ap refuse h)
-    by (ok p) g = range_go r (leb (end_of p.rows) n) _ p.rows g f
+    by : (o : Result Parsed Refusal) → and_then o (λ p. check (leb (end_of p.rows) n) (Range bin_entry) (Ok (mark_all field p.rows))) ≡ Err r
+        → and_then o (λ p. Ok p.rows) ≡ Err r
+    by (Err q) g = (let h : q ≡ r = cc in ap Err h)
+    by (Ok p) g = range_go r (leb (end_of p.rows) n) _ p.rows g f
 
 -- ---- the answers
 
@@ -88,11 +89,11 @@ module _ (file : List ℕ) (b n : ℕ) (buffer : List ℕ) (t : Bytes file) wher
   allowed_zero : length file ≤ limit → n ≤ limit → size n ≤ length buffer → Allowed file 0 n buffer
   allowed_zero l k h = record { file_in-limit = l; count_in-limit = k; end_in_limit = omega arith; room = h }
 
-  when_ready : {clear : List ℕ} → deletions_ready file n buffer ≡ ok clear → Allowed file 0 n buffer
+  when_ready : {clear : List ℕ} → deletions_ready file n buffer ≡ Ok clear → Allowed file 0 n buffer
   when_ready {clear} e = let l = ready_back file n buffer clear e in allowed_zero l.file_in-limit l.count_in-limit l.room
 
   -- rows that are all below n are those of the window
-  pub accepted_zero : (marked : List ℕ) → deletions file b n buffer ≡ ok marked → window_deletions file b 0 n buffer ≡ ok marked
+  pub accepted_zero : (marked : List ℕ) → deletions file b n buffer ≡ Ok marked → window_deletions file b 0 n buffer ≡ Ok marked
   unfolding deletions_buffer deletions_by left_by
   accepted_zero marked e =
       let c = without.accepted_was_laid_out file b n buffer (count marked n) t (rw e) in
@@ -101,10 +102,10 @@ module _ (file : List ℕ) (b n : ℕ) (buffer : List ℕ) (t : Bytes file) wher
       let w : rows_in_window 0 n rows ≡ rows = windowed-whole (row_window 0 n) refl refl rows (rw zero-add c.allowed.below) in
       let f : marked ≡ field_of n rows ++ drop (size n) buffer = rw e at c.answers.field in
       marked_so file b 0 n buffer a rows (laid_rows (bin-has-rows c.laid_out))
-      ∙ ap ok (field_in 0 n buffer rows a.room ∙ ap (λ (rs : List ℕ). field_of n rs ++ drop (size n) buffer) w ∙ sym f)
+      ∙ ap Ok (field_in 0 n buffer rows a.room ∙ ap (λ (rs : List ℕ). field_of n rs ++ drop (size n) buffer) w ∙ sym f)
 
   -- RANGE comes from a bitmap alone
-  outside_go : (entry : ℕ) → deletions file b n buffer ≡ refuse (Range entry) → RefusedAt file b n buffer (Range entry)
+  outside_go : (entry : ℕ) → deletions file b n buffer ≡ Err (Range entry) → RefusedAt file b n buffer (Range entry)
       → (rows : List ℕ) × HasBin b rows file × AnswersRows file b 0 n buffer rows
   outside_go entry e (at_ready x) = absurd (rw x at (ready_bare file n buffer))
   outside_go entry e (at_bin x y) = absurd (rw y at (bitmap_bare b file))
@@ -115,12 +116,12 @@ module _ (file : List ℕ) (b n : ℕ) (buffer : List ℕ) (t : Bytes file) wher
       let i = held_bin h o.bitmap in
       (o.rows, i, answers_so file b 0 n buffer a o.rows (bin-has-rows i))
 
-  pub outside-zero : (entry : ℕ) → deletions file b n buffer ≡ refuse (Range entry) → (rows : List ℕ) × HasBin b rows file × AnswersRows file b 0 n buffer rows
+  pub outside-zero : (entry : ℕ) → deletions file b n buffer ≡ Err (Range entry) → (rows : List ℕ) × HasBin b rows file × AnswersRows file b 0 n buffer rows
   outside-zero entry e = outside_go entry e (refused_at file b n buffer (Range entry) e)
 
   module _ (r : Refusal) (no-magic : r ≡ Magic → ⊥) (no-range : (entry : ℕ) → r ≡ Range entry → ⊥) where
-    refused_go : RefusedAt file b n buffer r → (bitmap_in b file ≡ refuse Magic) ⊎ (rows_in b file ≡ and_then (bitmap_in b file) rows32)
-        → window_deletions file b 0 n buffer ≡ refuse r
+    refused_go : RefusedAt file b n buffer r → (bitmap_in b file ≡ Err Magic) ⊎ (rows_in b file ≡ and_then (bitmap_in b file) rows32)
+        → window_deletions file b 0 n buffer ≡ Err r
     unfolding window_deletions and_then
     refused_go (at_ready x) w = rw (ready_zero file n buffer, x)
     refused_go (at_bin x y) (inl w) = absurd (no-magic (cc))
@@ -129,17 +130,17 @@ module _ (file : List ℕ) (b n : ℕ) (buffer : List ℕ) (t : Bytes file) wher
     refused_go (at_bitmap {clear} {bytes} x y z) (inr w) =
         (refused_so file b 0 n buffer (when_ready x) r).1 (w ∙ rw y (bitmap_refused bytes clear n r z no-range))
 
-    pub refused_zero : deletions file b n buffer ≡ refuse r → window_deletions file b 0 n buffer ≡ refuse r
+    pub refused_zero : deletions file b n buffer ≡ Err r → window_deletions file b 0 n buffer ≡ Err r
     refused_zero e = refused_go (refused_at file b n buffer r e) (as_without b file)
 
-  buffers_go : (o : Out Refusal (List ℕ)) → deletions file b n buffer ≡ o → (deletions file b n buffer ≡ refuse Magic → ⊥)
-      → ((entry : ℕ) → deletions file b n buffer ≡ refuse (Range entry) → ⊥) → window_buffer file b 0 n buffer ≡ deletions_buffer file b n buffer
+  buffers_go : (o : Result (List ℕ) Refusal) → deletions file b n buffer ≡ o → (deletions file b n buffer ≡ Err Magic → ⊥)
+      → ((entry : ℕ) → deletions file b n buffer ≡ Err (Range entry) → ⊥) → window_buffer file b 0 n buffer ≡ deletions_buffer file b n buffer
   unfolding window_buffer deletions_buffer left_by
-  buffers_go (refuse r) e no-magic no-range =
-      let w = refused_zero r (λ x. no-magic (e ∙ ap refuse x)) (λ entry x. no-range entry (e ∙ ap refuse x)) e in
+  buffers_go (Err r) e no-magic no-range =
+      let w = refused_zero r (λ x. no-magic (e ∙ ap Err x)) (λ entry x. no-range entry (e ∙ ap Err x)) e in
       rw (e, w, ready_zero file n buffer)
-  buffers_go (ok marked) e no-magic no-range = rw (e, accepted_zero marked e)
+  buffers_go (Ok marked) e no-magic no-range = rw (e, accepted_zero marked e)
 
-  pub buffers_zero : (deletions file b n buffer ≡ refuse Magic → ⊥) → ((entry : ℕ) → deletions file b n buffer ≡ refuse (Range entry) → ⊥)
+  pub buffers_zero : (deletions file b n buffer ≡ Err Magic → ⊥) → ((entry : ℕ) → deletions file b n buffer ≡ Err (Range entry) → ⊥)
       → window_buffer file b 0 n buffer ≡ deletions_buffer file b n buffer
   buffers_zero = buffers_go (deletions file b n buffer) refl

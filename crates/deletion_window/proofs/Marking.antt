@@ -13,7 +13,8 @@ use Rattle.numbers.specs.Meaning.{le_at, little, Bytes, four_bytes}
 use Rattle.numbers.proofs.Laws.{number_at_lem, number_short}
 use Rattle.refusal.specs.declared.Refusal.{Refusal}
 use Rattle.refusal.specs.declared.Refusal.TheVariants.{Bitmap}
-use Rattle.refusal.specs.Reading.{Out, refuse, ok, check, and_then, refused_as}
+use Rattle.std.specs.Prelude.{Result, Err, Ok}
+use Rattle.refusal.specs.Reading.{check, and_then, refused_as}
 use Rattle.refusal.proofs.Laws.{then_same}
 use Rattle.row_field.specs.Meaning.{size, mark_all, cleared, above, count, Below}
 use Rattle.row_field.specs.Promises.{MarkedRows}
@@ -93,34 +94,34 @@ module _ (first n : ℕ) (field bytes : List ℕ) {m : Measured} (p : MeasurePro
 
 -- ---- the bitmaps in turn
 
-then_itself : {A : Type 0} (o : Out Refusal (List A)) → o ≡ and_then o (λ more. ok ([] ++ more))
+then_itself : {A : Type 0} (o : Result (List A) Refusal) → o ≡ and_then o (λ more. Ok ([] ++ more))
 unfolding and_then
-then_itself (refuse r) = refl
-then_itself (ok a) = refl
+then_itself (Err r) = refl
+then_itself (Ok a) = refl
 
 -- what is left of the bitmaps, from the rows so far, gives the whole, and those rows are marked
 pub record Each (first n : ℕ) (bytes f₀ f : List ℕ) (left at least : ℕ) : Type 0 where
   pub so_far : List ℕ
-  pub so : rows64 bytes ≡ and_then (bitmaps_in left least (drop at bytes)) (λ more. ok (so_far ++ more))
+  pub so : rows64 bytes ≡ and_then (bitmaps_in left least (drop at bytes)) (λ more. Ok (so_far ++ more))
   pub marked : f ≡ mark_all f₀ (rows_in_window first n so_far)
 
 -- some rows of the window are marked, and the bin is refused
 module _ (first n : ℕ) (bytes : List ℕ) where
   pub no_count : (f : List ℕ) → length bytes < 8 → MarksEach first n bytes f f false
   unfolding rows64 mark_all
-  no_count f h = (number_short little 8 (refuse wrong) bytes 0 _ (omega arith), ([], tt, refl))
+  no_count f h = (number_short little 8 (Err wrong) bytes 0 _ (omega arith), ([], tt, refl))
 
   pub each_first : (f : List ℕ) {left : ℕ} → 8 ≤ length bytes → left ≡ le_at 8 bytes 0 → Each first n bytes f f left 8 0
   unfolding rows64 windowed mark_all
   each_first f {left} h e =
       record {
         so_far = [];
-        so = number_at_lem little 8 (refuse wrong) bytes 0 _ h ∙ rw (← e) (then_itself (bitmaps_in left 0 (drop 8 bytes)));
+        so = number_at_lem little 8 (Err wrong) bytes 0 _ h ∙ rw (← e) (then_itself (bitmaps_in left 0 (drop 8 bytes)));
         marked = refl;
       }
 
   module _ {f₀ f : List ℕ} {left at least : ℕ} (st : Each first n bytes f₀ f left at least) where
-    some_marked : rows64 bytes ≡ refuse wrong → MarksEach first n bytes f₀ f false
+    some_marked : rows64 bytes ≡ Err wrong → MarksEach first n bytes f₀ f false
     some_marked e =
         let z : 0 + (first + n - first) ≡ n = omega arith in
         (e, (rows_in_window first n st.so_far, rw z at (windowed-below (row_window first n) st.so_far), st.marked))
@@ -130,12 +131,12 @@ module _ (first n : ℕ) (bytes : List ℕ) where
       one_more = omega arith
 
       turn : rows64 bytes
-          ≡ and_then (and_then (indexed_bitmap least (drop at bytes)) (λ x. and_then (bitmaps_in (left - 1) (x.index + 1) x.behind) (λ more. ok (x.rows ++ more))))
-          (λ more. ok (st.so_far ++ more))
+          ≡ and_then (and_then (indexed_bitmap least (drop at bytes)) (λ x. and_then (bitmaps_in (left - 1) (x.index + 1) x.behind) (λ more. Ok (x.rows ++ more))))
+          (λ more. Ok (st.so_far ++ more))
       unfolding bitmaps_in
-      turn = st.so ∙ ap (λ (k : ℕ). and_then (bitmaps_in k least (drop at bytes)) (λ more. ok (st.so_far ++ more))) one_more
+      turn = st.so ∙ ap (λ (k : ℕ). and_then (bitmaps_in k least (drop at bytes)) (λ more. Ok (st.so_far ++ more))) one_more
 
-      pub each_unsound : indexed_bitmap least (drop at bytes) ≡ refuse wrong → MarksEach first n bytes f₀ f false
+      pub each_unsound : indexed_bitmap least (drop at bytes) ≡ Err wrong → MarksEach first n bytes f₀ f false
       unfolding and_then
       each_unsound e = some_marked (turn ∙ rw e)
 
@@ -145,19 +146,19 @@ module _ (first n : ℕ) (bytes : List ℕ) where
       unfolding and_then
       each_next {index} {start} {end} w {f'} m =
           let rows : List ℕ = above (index * index_rows) w.bitmap.rows in
-          let rest : Out Refusal (List ℕ) = bitmaps_in (left - 1) (index + 1) (drop end bytes) in
+          let rest : Result (List ℕ) Refusal = bitmaps_in (left - 1) (index + 1) (drop end bytes) in
           let g : f' ≡ mark_all f (rows_in_window first n rows) = rw (rows_of (read (drop start bytes)) w.bitmap w.is_read) at m in
           record {
             so_far = st.so_far ++ rows;
-            so = turn ∙ rw w.so (then_then rest _ _ ∙ then_same rest _ _ (λ more. ap ok (sym (append_assoc st.so_far rows more))));
+            so = turn ∙ rw w.so (then_then rest _ _ ∙ then_same rest _ _ (λ more. ap Ok (sym (append_assoc st.so_far rows more))));
             marked = g ∙ rw st.marked (sym (mark_all-append f₀ (rows_in_window first n st.so_far) (rows_in_window first n rows)))
                 ∙ ap (mark_all f₀) (sym (windowed-append (row_window first n) st.so_far rows));
           }
 
     module _ (z : left ≡ 0) where
-      none_left : rows64 bytes ≡ and_then (check (eqb (length (drop at bytes)) 0) wrong (ok [])) (λ more. ok (st.so_far ++ more))
+      none_left : rows64 bytes ≡ and_then (check (eqb (length (drop at bytes)) 0) wrong (Ok [])) (λ more. Ok (st.so_far ++ more))
       unfolding bitmaps_in
-      none_left = st.so ∙ ap (λ (k : ℕ). and_then (bitmaps_in k least (drop at bytes)) (λ more. ok (st.so_far ++ more))) z
+      none_left = st.so ∙ ap (λ (k : ℕ). and_then (bitmaps_in k least (drop at bytes)) (λ more. Ok (st.so_far ++ more))) z
 
       done_go : at ≤ length bytes → Dec (at ≡ length bytes) → MarksEach first n bytes f₀ f (eqb at (length bytes))
       unfolding and_then check

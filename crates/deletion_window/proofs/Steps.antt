@@ -15,7 +15,8 @@ use Rattle.numbers.proofs.ByteLists.{bytes_drop}
 use Rattle.numbers.proofs.Laws.{number_at_lem, number_short}
 use Rattle.refusal.specs.declared.Refusal.{Refusal}
 use Rattle.refusal.specs.declared.Refusal.TheVariants.{Magic, Checksum, Limit}
-use Rattle.refusal.specs.Reading.{Out, refuse, ok, check, and_then, refused_as}
+use Rattle.std.specs.Prelude.{Result, Err, Ok}
+use Rattle.refusal.specs.Reading.{check, and_then, refused_as}
 use Rattle.roaring.specs.declared.Extent.TheVariants.{AsLong}
 use Rattle.roaring.specs.declared.Measured.{Measured}
 use Rattle.roaring.specs.Reading.{Parsed, read, measured}
@@ -72,9 +73,9 @@ pub to_end : (p : ℕ) (s : List ℕ) → take (length s - p) (drop p s) ≡ dro
 to_end p s = take_all (length s - p) (drop p s) (rw length-drop (omega arith))
 
 module _ (lo : ℕ) (s : List ℕ) (p : ℕ) where
-  pub next-cut : length s - p < 4 → indexed_bitmap lo (drop p s) ≡ refuse wrong
+  pub next-cut : length s - p < 4 → indexed_bitmap lo (drop p s) ≡ Err wrong
   unfolding indexed_bitmap
-  next-cut h = number_short little 4 (refuse wrong) s p _ h
+  next-cut h = number_short little 4 (Err wrong) s p _ h
 
   module _ (h : p + 4 ≤ length s) {index : ℕ} (e : index ≡ le_at 4 s p) where
     -- what was read of it
@@ -82,27 +83,27 @@ module _ (lo : ℕ) (s : List ℕ) (p : ℕ) where
     said q = record { index = index; rows = above (index * index_rows) q.rows; behind = q.behind }
 
     opened : indexed_bitmap lo (drop p s)
-        ≡ check (leb lo index) wrong (check (ltb index index_end) wrong (and_then (refused_as (λ why. wrong) (read (drop (p + 4) s))) (λ q. ok (said q))))
+        ≡ check (leb lo index) wrong (check (ltb index index_end) wrong (and_then (refused_as (λ why. wrong) (read (drop (p + 4) s))) (λ q. Ok (said q))))
     unfolding indexed_bitmap
-    opened = number_at_lem little 4 (refuse wrong) s p _ h ∙ rw (← e)
+    opened = number_at_lem little 4 (Err wrong) s p _ h ∙ rw (← e)
 
-    pub next_low : index < lo → indexed_bitmap lo (drop p s) ≡ refuse wrong
+    pub next_low : index < lo → indexed_bitmap lo (drop p s) ≡ Err wrong
     unfolding check
     next_low l = opened ∙ rw (lt-leb lo index l)
 
     module _ (a : lo ≤ index) where
-      pub next-high : index_end ≤ index → indexed_bitmap lo (drop p s) ≡ refuse wrong
+      pub next-high : index_end ≤ index → indexed_bitmap lo (drop p s) ≡ Err wrong
       unfolding check
       next-high l = opened ∙ rw (le-leb lo index a, le-ltb index index_end l)
 
       module _ (b : index < index_end) {m : Measured} (w : MeasurePromise AsLong (drop (p + 4) s) m) where
-        pub next-unsound : {i : ℕ} → m ≡ Measured.Unsound i → indexed_bitmap lo (drop p s) ≡ refuse wrong
+        pub next-unsound : {i : ℕ} → m ≡ Measured.Unsound i → indexed_bitmap lo (drop p s) ≡ Err wrong
         unfolding check and_then refused_as measured
         next-unsound g =
             let u = not_sound (measured AsLong (drop (p + 4) s)) (sym g ∙ w.answer) in
             opened ∙ rw (le-leb lo index a, lt-ltb index index_end b, u)
 
-        found_so : (q : Parsed) {long : ℕ} → read (drop (p + 4) s) ≡ ok q → long ≡ q.long → Bytes s → FoundBitmap lo p s index (p + 4) (p + 4 + long)
+        found_so : (q : Parsed) {long : ℕ} → read (drop (p + 4) s) ≡ Ok q → long ≡ q.long → Bytes s → FoundBitmap lo p s index (p + 4) (p + 4 + long)
         unfolding check and_then refused_as
         found_so q {long} r l t =
             let at = p + 4 in
@@ -131,18 +132,18 @@ module _ (lo : ℕ) (s : List ℕ) (p : ℕ) where
 -- ---- a reading that refuses, and one that is another
 
 module _ (first n : ℕ) {field : List ℕ} where
-  pub marks_refused : (o : Out Refusal (List ℕ)) {r : Refusal} → o ≡ refuse r → MarksRows n (marked_in first n o) field field (Deletions.Refused r)
+  pub marks_refused : (o : Result (List ℕ) Refusal) {r : Refusal} → o ≡ Err r → MarksRows n (marked_in first n o) field field (Deletions.Refused r)
   unfolding marked_in and_then deletions_by left_by
   marks_refused o e = record { answer = rw e; field = rw e }
 
-  pub marks_same : (o q : Out Refusal (List ℕ)) → o ≡ q → {after : List ℕ} {answer : Deletions} → MarksRows n (marked_in first n q) field after answer
+  pub marks_same : (o q : Result (List ℕ) Refusal) → o ≡ q → {after : List ℕ} {answer : Deletions} → MarksRows n (marked_in first n q) field after answer
       → MarksRows n (marked_in first n o) field after answer
   marks_same o q e m = rw e m
 
 -- ---- what a kind leads to
 
 module _ (bytes : List ℕ) {kind : Kind} where
-  pub behind_unknown : kind ≡ Unknown → rows_behind kind bytes ≡ refuse Magic
+  pub behind_unknown : kind ≡ Unknown → rows_behind kind bytes ≡ Err Magic
   unfolding rows_behind
   behind_unknown e = ap (λ (k : Kind). rows_behind k bytes) e
 
@@ -157,12 +158,12 @@ module _ (bytes : List ℕ) {kind : Kind} where
 -- ---- a bin at its place of the file
 
 module _ (s : List ℕ) (start end : ℕ) {kind : Kind} (k : kind ≡ kind_of (part start end s)) where
-  pub unknown_so : known kind ≡ false → rows_of_bin (bin_from start end s) ≡ refuse Magic
+  pub unknown_so : known kind ≡ false → rows_of_bin (bin_from start end s) ≡ Err Magic
   unfolding rows_of_bin check
   unknown_so n = rw (← k, n)
 
   module _ (is : known kind ≡ true) {holds : Bool} {sum : ℕ} (c : holds ≡ is_true_checksum (part start end s) sum) (f : sum ≡ be_at 4 s end) where
-    pub sum_wrong : holds ≡ false → rows_of_bin (bin_from start end s) ≡ refuse Checksum
+    pub sum_wrong : holds ≡ false → rows_of_bin (bin_from start end s) ≡ Err Checksum
     unfolding rows_of_bin check
     sum_wrong n = rw (← k, is, ← f, ← c, n)
 
@@ -173,18 +174,18 @@ module _ (s : List ℕ) (start end : ℕ) {kind : Kind} (k : kind ≡ kind_of (p
         rw (← k, is, ← f, ← c, n, drop-take 4 (end - start) (drop start s), drop-drop 4 start s, e)
 
 module _ (b : ℕ) (file : List ℕ) where
-  pub not_found : {r : Refusal} → bin_asked_for b file ≡ refuse r → rows_in b file ≡ refuse r
+  pub not_found : {r : Refusal} → bin_asked_for b file ≡ Err r → rows_in b file ≡ Err r
   unfolding rows_in and_then
   not_found e = rw e
 
-  pub bin-found : {x : Bin} → bin_asked_for b file ≡ ok x → rows_in b file ≡ rows_of_bin x
+  pub bin-found : {x : Bin} → bin_asked_for b file ≡ Ok x → rows_in b file ≡ rows_of_bin x
   unfolding rows_in and_then
   bin-found e = rw e
 
 -- ---- the call
 
 module _ (file : List ℕ) (b first n : ℕ) (field : List ℕ) where
-  said_by : {answer : Deletions} {after : List ℕ} (o ready : Out Refusal (List ℕ)) → window_ready file first n field ≡ ready → window_deletions file b first n field ≡ o
+  said_by : {answer : Deletions} {after : List ℕ} (o ready : Result (List ℕ) Refusal) → window_ready file first n field ≡ ready → window_deletions file b first n field ≡ o
       → answer ≡ deletions_by n o → after ≡ left_by o (left_by ready field) → WindowPromise file b first n field after answer
   unfolding window_buffer
   said_by o ready i e a f =
@@ -195,9 +196,9 @@ module _ (file : List ℕ) (b first n : ℕ) (field : List ℕ) where
         buffer = rw (e, i) f;
       }
 
-  refused : {r : Refusal} → window_ready file first n field ≡ refuse r → WindowPromise file b first n field field (Deletions.Refused r)
+  refused : {r : Refusal} → window_ready file first n field ≡ Err r → WindowPromise file b first n field field (Deletions.Refused r)
   unfolding window_deletions and_then deletions_by left_by
-  refused {r} i = said_by (refuse r) (refuse r) i (rw i) refl refl
+  refused {r} i = said_by (Err r) (Err r) i (rw i) refl refl
 
   module _ {past : Bool} (p : past ≡ ltb end_of_all_rows (first + n)) where
     pub too_far : past ≡ true → WindowPromise file b first n field field (Deletions.Refused Limit)
@@ -222,4 +223,4 @@ module _ (file : List ℕ) (b first n : ℕ) (field : List ℕ) where
       unfolding window_deletions and_then left_by
       when_prepared {clear} w m =
           let i = ready_so ∙ w.0 in
-          said_by (marked_in first n (rows_in b file) clear) (ok clear) i (rw i) m.answer m.field
+          said_by (marked_in first n (rows_in b file) clear) (Ok clear) i (rw i) m.answer m.field

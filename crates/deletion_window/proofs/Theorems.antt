@@ -11,7 +11,8 @@ use lib.ListN.{length, get_or}
 use borrow.Author.Tests.{le-leb}
 use Rattle.numbers.specs.Meaning.{be, le}
 use Rattle.refusal.specs.Meaning.{limit}
-use Rattle.refusal.specs.Reading.{refuse, check, and_then}
+use Rattle.std.specs.Prelude.{Err}
+use Rattle.refusal.specs.Reading.{check, and_then}
 use Rattle.refusal.specs.declared.Refusal.TheVariants.{Short, Magic, Version, Checksum}
 use Rattle.refusal.proofs.Laws.{then_same}
 use Rattle.row_field.specs.Meaning.{size, bit, count}
@@ -74,7 +75,7 @@ accepted_was_laid_out file b first n buffer k t e =
     record { rows = rows; laid_out = h; allowed = a; answers = bin_is_read file b first n buffer rows h a }
 
 no_version : (file : List ℕ) (b first n : ℕ) (clear : List ℕ) → (get_or file 0 0 ≡ 1 → ⊥)
-    → marked_in first n (rows_in b file) clear ≡ check (leb 1 (length file)) Short (refuse Version)
+    → marked_in first n (rows_in b file) clear ≡ check (leb 1 (length file)) Short (Err Version)
 unfolding marked_in rows_in
 no_version file b first n clear h =
     rw (without.asked_no_version file b h, without.ends (leb 1 (length file)) Short Version rows_of_bin) (without.ends (leb 1 (length file)) Short Version _)
@@ -120,7 +121,7 @@ from-row-zero file b n buffer t =
 pub without_window_is_magic : WithoutWindowIsMagic
 unfolding deletions deletions_ready bin_marked check and_then
 without_window_is_magic file b n buffer bytes sum h l k room =
-    let e : bitmap_in b file ≡ refuse Magic = the_bin b file (asked_read h) ∙ not-magic bytes sum in
+    let e : bitmap_in b file ≡ Err Magic = the_bin b file (asked_read h) ∙ not-magic bytes sum in
     rw (le-leb (length file) limit l, le-leb n limit k, le-leb (size n) (length buffer) room, e)
 
 -- ---- 5

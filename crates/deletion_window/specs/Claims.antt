@@ -1,8 +1,8 @@
 -- What is claimed of bins of either kind, read through a window (02, Ticket 8). proofs/Theorems proves each.
-use Rattle.std.specs.Prelude.{ℕ, ◌+◌, ◌<◌, ◌≤◌, ◌≡◌, ◌↔◌, ◌⊎◌, true, List, [], ◌∷◌, ◌++◌, leb, length, drop, get_or}
+use Rattle.std.specs.Prelude.{ℕ, ◌+◌, ◌<◌, ◌≤◌, ◌≡◌, ◌↔◌, ◌⊎◌, true, List, [], ◌∷◌, ◌++◌, leb, length, drop, get_or, Err, Ok}
 use Rattle.numbers.specs.Meaning.{le, Bytes}
 use Rattle.refusal.specs.Meaning.{limit}
-use Rattle.refusal.specs.Reading.{refuse, ok, check, and_then}
+use Rattle.refusal.specs.Reading.{check, and_then}
 use Rattle.refusal.specs.Claims.{Bare}
 use Rattle.refusal.specs.declared.Refusal.{Refusal}
 use Rattle.refusal.specs.declared.Refusal.TheVariants.{Short, Magic, Version, Bitmap, Range, Checksum}
@@ -87,7 +87,7 @@ AcceptedWasLaidOut =
 abbrev pub OtherVersion : Type 0
 OtherVersion =
     (file : List ℕ) (b first n : ℕ) (buffer : List ℕ) → (get_or file 0 0 ≡ 1 → ⊥)
-    → window_deletions file b first n buffer ≡ and_then (window_ready file first n buffer) (λ _. check (leb 1 (length file)) Short (refuse Version))
+    → window_deletions file b first n buffer ≡ and_then (window_ready file first n buffer) (λ _. check (leb 1 (length file)) Short (Err Version))
 
 -- ---- 3. what is refused, within the limits and with room
 
@@ -99,25 +99,25 @@ WithMagic bytes = (rest : List ℕ) × ((bytes ≡ bin_bytes rest) ⊎ (bytes �
 abbrev pub OtherMagic : Type 0
 OtherMagic =
     (file : List ℕ) (b first n : ℕ) (buffer : List ℕ) (x : Bin) → Bytes file → HasFrame b x file → Allowed file first n buffer → (WithMagic x.bytes → ⊥)
-    → window_deletions file b first n buffer ≡ refuse Magic
+    → window_deletions file b first n buffer ≡ Err Magic
 
 -- one that begins with either and whose checksum is not true is CHECKSUM
 abbrev pub FalseChecksum : Type 0
 FalseChecksum =
     (file : List ℕ) (b first n : ℕ) (buffer : List ℕ) (x : Bin) → HasFrame b x file → Allowed file first n buffer → WithMagic x.bytes
-    → (checksum x.bytes ≡ x.sum → ⊥) → window_deletions file b first n buffer ≡ refuse Checksum
+    → (checksum x.bytes ≡ x.sum → ⊥) → window_deletions file b first n buffer ≡ Err Checksum
 
 -- "any fault behind the magic is BITMAP, container 0": a 64-bit bin with a true checksum is refused exactly if what lies behind its magic is no layout of any rows
 abbrev pub Faulty64 : Type 0
 Faulty64 =
     (file : List ℕ) (b first n : ℕ) (buffer bytes : List ℕ) (r : Refusal) → Bytes file → HasBytes b (bin_bytes64 bytes) file → Allowed file first n buffer
-    → (window_deletions file b first n buffer ≡ refuse r) ↔ ((r ≡ Bitmap 0 0) × ((rows : List ℕ) → Bitmaps rows bytes → ⊥))
+    → (window_deletions file b first n buffer ≡ Err r) ↔ ((r ≡ Bitmap 0 0) × ((rows : List ℕ) → Bitmaps rows bytes → ⊥))
 
 -- "A 32-bit bin read through a window follows the same rule, containers by Ticket 2": BITMAP names the container that is broken, and nothing else is refused
 abbrev pub Faulty32 : Type 0
 Faulty32 =
     (file : List ℕ) (b first n : ℕ) (buffer bytes : List ℕ) (r : Refusal) → Bytes file → HasBytes b (bin_bytes bytes) file → Allowed file first n buffer
-    → (window_deletions file b first n buffer ≡ refuse r) ↔ ((i : ℕ) × (r ≡ Bitmap 0 i) × Broken (Exactly (length bytes)) bytes i)
+    → (window_deletions file b first n buffer ≡ Err r) ↔ ((i : ℕ) × (r ≡ Bitmap 0 i) × Broken (Exactly (length bytes)) bytes i)
 
 -- for any bytes: a refusal carries nothing, or it is BITMAP of entry 0. So none is RANGE: "rows outside the window are no fault"
 abbrev pub BitmapOrBare : Refusal → Type 0
@@ -125,20 +125,20 @@ BitmapOrBare r = Bare r ⊎ ((container : ℕ) × (r ≡ Bitmap 0 container))
 
 abbrev pub OnlyBitmapCarries : Type 0
 OnlyBitmapCarries =
-    (file : List ℕ) (b first n : ℕ) (buffer : List ℕ) (r : Refusal) → window_deletions file b first n buffer ≡ refuse r → BitmapOrBare r
+    (file : List ℕ) (b first n : ℕ) (buffer : List ℕ) (r : Refusal) → window_deletions file b first n buffer ≡ Err r → BitmapOrBare r
 
 -- ---- 4. beside the call without a window, which reads from row 0 on
 
 pub record AsWithoutWindow (file : List ℕ) (b n : ℕ) (buffer : List ℕ) : Type 0 where
   -- where that accepts, the answer is the same
-  pub accepted : (marked : List ℕ) → deletions file b n buffer ≡ ok marked → window_deletions file b 0 n buffer ≡ ok marked
+  pub accepted : (marked : List ℕ) → deletions file b n buffer ≡ Ok marked → window_deletions file b 0 n buffer ≡ Ok marked
   -- where that says RANGE, the bin is a bitmap of rows, and the answer is those below n
-  pub outside : (entry : ℕ) → deletions file b n buffer ≡ refuse (Range entry) → (rows : List ℕ) × HasBin b rows file × AnswersRows file b 0 n buffer rows
+  pub outside : (entry : ℕ) → deletions file b n buffer ≡ Err (Range entry) → (rows : List ℕ) × HasBin b rows file × AnswersRows file b 0 n buffer rows
   -- any other refusal but MAGIC is the same
-  pub refused : (r : Refusal) → deletions file b n buffer ≡ refuse r → (r ≡ Magic → ⊥) → ((entry : ℕ) → r ≡ Range entry → ⊥)
-      → window_deletions file b 0 n buffer ≡ refuse r
+  pub refused : (r : Refusal) → deletions file b n buffer ≡ Err r → (r ≡ Magic → ⊥) → ((entry : ℕ) → r ≡ Range entry → ⊥)
+      → window_deletions file b 0 n buffer ≡ Err r
   -- and so is the buffer, but with MAGIC and RANGE
-  pub buffers : (deletions file b n buffer ≡ refuse Magic → ⊥) → ((entry : ℕ) → deletions file b n buffer ≡ refuse (Range entry) → ⊥)
+  pub buffers : (deletions file b n buffer ≡ Err Magic → ⊥) → ((entry : ℕ) → deletions file b n buffer ≡ Err (Range entry) → ⊥)
       → window_buffer file b 0 n buffer ≡ deletions_buffer file b n buffer
 
 abbrev pub FromRowZero : Type 0
@@ -148,14 +148,14 @@ FromRowZero = (file : List ℕ) (b n : ℕ) (buffer : List ℕ) → Bytes file �
 abbrev pub WithoutWindowIsMagic : Type 0
 WithoutWindowIsMagic =
     (file : List ℕ) (b n : ℕ) (buffer bytes : List ℕ) (sum : ℕ) → HasFrame b (record { bytes = bin_bytes64 bytes; sum = sum }) file → length file ≤ limit → n ≤ limit
-    → size n ≤ length buffer → deletions file b n buffer ≡ refuse Magic
+    → size n ≤ length buffer → deletions file b n buffer ≡ Err Magic
 
 -- ---- 5. two windows side by side give what one over both gives, so a data file can be read in parts
 
 pub record SideBySide (file : List ℕ) (b first n m : ℕ) (whole left right : List ℕ) : Type 0 where
   -- the parts are refused exactly if the whole is, and alike
-  pub refused_left : (r : Refusal) → (window_deletions file b first (n + m) whole ≡ refuse r) ↔ (window_deletions file b first n left ≡ refuse r)
-  pub refused_right : (r : Refusal) → (window_deletions file b first (n + m) whole ≡ refuse r) ↔ (window_deletions file b (first + n) m right ≡ refuse r)
+  pub refused_left : (r : Refusal) → (window_deletions file b first (n + m) whole ≡ Err r) ↔ (window_deletions file b first n left ≡ Err r)
+  pub refused_right : (r : Refusal) → (window_deletions file b first (n + m) whole ≡ Err r) ↔ (window_deletions file b (first + n) m right ≡ Err r)
   -- the same rows are set, whatever was answered
   pub rows_left : (r : ℕ) → r < n → bit (window_buffer file b first (n + m) whole) r ≡ bit (window_buffer file b first n left) r
   pub rows_right : (r : ℕ) → r < m → bit (window_buffer file b first (n + m) whole) (n + r) ≡ bit (window_buffer file b (first + n) m right) r

@@ -1,8 +1,8 @@
 -- What reading a bin through a window answers for any bytes, and what the buffer holds then (02, Ticket 8). The stages stand in 01's order, without RANGE: LIMIT,
 -- ROOM, SHORT for an empty file, VERSION, the walk over all sizes, NOBIN, MAGIC, CHECKSUM, BITMAP.
-use Rattle.std.specs.Prelude.{ℕ, zero, suc, ◌+◌, ◌*◌, Bool, true, false, cond, List, [], ◌++◌, eqb, leb, ltb, length, drop}
+use Rattle.std.specs.Prelude.{ℕ, zero, suc, ◌+◌, ◌*◌, Bool, true, false, cond, List, [], ◌++◌, eqb, leb, ltb, length, drop, Result, Err, Ok}
 use Rattle.numbers.specs.Meaning.{le_at, little, number}
-use Rattle.refusal.specs.Reading.{Out, refuse, ok, check, and_then, refused_as}
+use Rattle.refusal.specs.Reading.{check, and_then, refused_as}
 use Rattle.refusal.specs.declared.Refusal.{Refusal}
 use Rattle.refusal.specs.declared.Refusal.TheVariants.{Magic, Bitmap, Limit, Checksum}
 use Rattle.row_field.specs.Meaning.{mark_all, above}
@@ -28,27 +28,27 @@ pub record IndexedRows : Type 0 where
   pub behind : List ℕ
 
 -- "a 4-byte index .. and a 32-bit bitmap, as long as it is": the index is at least lo and "below 2147483648". "A row is index times 4294967296 plus the low part"
-unfoldable pub indexed_bitmap : ℕ → List ℕ → Out Refusal IndexedRows
+unfoldable pub indexed_bitmap : ℕ → List ℕ → Result IndexedRows Refusal
 indexed_bitmap lo s =
-    number little index_size (refuse wrong) s (λ index s. check (leb lo index) wrong (check (ltb index index_end) wrong
-    (and_then (refused_as (λ why. wrong) (read s)) (λ p. ok (record { index = index; rows = above (index * index_rows) p.rows; behind = p.behind })))))
+    number little index_size (Err wrong) s (λ index s. check (leb lo index) wrong (check (ltb index index_end) wrong
+    (and_then (refused_as (λ why. wrong) (read s)) (λ p. Ok (record { index = index; rows = above (index * index_rows) p.rows; behind = p.behind })))))
 
 -- so many bitmaps, the indexes rising strictly from lo on; "the bin ends with the last bitmap"
-unfoldable pub bitmaps_in : ℕ → ℕ → List ℕ → Out Refusal (List ℕ)
-bitmaps_in zero lo s = check (eqb (length s) 0) wrong (ok [])
+unfoldable pub bitmaps_in : ℕ → ℕ → List ℕ → Result (List ℕ) Refusal
+bitmaps_in zero lo s = check (eqb (length s) 0) wrong (Ok [])
 bitmaps_in (suc count) lo s =
-    and_then (indexed_bitmap lo s) (λ x. and_then (bitmaps_in count (x.index + 1) x.behind) (λ more. ok (x.rows ++ more)))
+    and_then (indexed_bitmap lo s) (λ x. and_then (bitmaps_in count (x.index + 1) x.behind) (λ more. Ok (x.rows ++ more)))
 
 -- "an 8-byte number of bitmaps", unsigned, then these
-unfoldable pub rows64 : List ℕ → Out Refusal (List ℕ)
-rows64 bytes = number little count_size (refuse wrong) bytes (λ count s. bitmaps_in count 0 s)
+unfoldable pub rows64 : List ℕ → Result (List ℕ) Refusal
+rows64 bytes = number little count_size (Err wrong) bytes (λ count s. bitmaps_in count 0 s)
 
 -- ---- the rows of a bin of either kind
 
 -- behind 01's magic, "one bitmap filling the rest": BITMAP, "containers by Ticket 2"
-unfoldable pub rows32 : List ℕ → Out Refusal (List ℕ)
+unfoldable pub rows32 : List ℕ → Result (List ℕ) Refusal
 rows32 bytes =
-    and_then (refused_as (λ why. Bitmap bin_entry (container_of why)) (measured (Exactly (length bytes)) bytes)) (λ p. ok p.rows)
+    and_then (refused_as (λ why. Bitmap bin_entry (container_of why)) (measured (Exactly (length bytes)) bytes)) (λ p. Ok p.rows)
 
 -- whether the bytes begin with "magic 1681511377 .. (.. little-endian)"
 unfoldable pub has_magic64 : List ℕ → Bool
@@ -64,35 +64,35 @@ known Bits32 = true
 known Bits64 = true
 
 -- the rows that the bytes behind a magic list
-unfoldable pub rows_behind : Kind → List ℕ → Out Refusal (List ℕ)
-rows_behind Unknown bytes = refuse Magic
+unfoldable pub rows_behind : Kind → List ℕ → Result (List ℕ) Refusal
+rows_behind Unknown bytes = Err Magic
 rows_behind Bits32 bytes = rows32 bytes
 rows_behind Bits64 bytes = rows64 bytes
 
 -- the rows of a bin: MAGIC, where it is neither; CHECKSUM; BITMAP
-unfoldable pub rows_of_bin : Bin → Out Refusal (List ℕ)
+unfoldable pub rows_of_bin : Bin → Result (List ℕ) Refusal
 rows_of_bin x =
     check (known (kind_of x.bytes)) Magic
     (check (is_true_checksum x.bytes x.sum) Checksum
     (rows_behind (kind_of x.bytes) (drop number_size x.bytes)))
 
 -- the rows of bin b of a file: SHORT, VERSION, the walk, NOBIN come first
-unfoldable pub rows_in : ℕ → List ℕ → Out Refusal (List ℕ)
+unfoldable pub rows_in : ℕ → List ℕ → Result (List ℕ) Refusal
 rows_in b file = and_then (bin_asked_for b file) rows_of_bin
 
 -- ---- the call: bin b of a file, through the window of n rows from `first` on, into a buffer
 
 -- a field with those of the rows marked that the window has: "marks r exactly if row first + r is listed"; "rows outside the window are no fault"
-unfoldable pub marked_in : ℕ → ℕ → Out Refusal (List ℕ) → List ℕ → Out Refusal (List ℕ)
-marked_in first n listed field = and_then listed (λ rows. ok (mark_all field (rows_in_window first n rows)))
+unfoldable pub marked_in : ℕ → ℕ → Result (List ℕ) Refusal → List ℕ → Result (List ℕ) Refusal
+marked_in first n listed field = and_then listed (λ rows. Ok (mark_all field (rows_in_window first n rows)))
 
 -- all that comes before a byte of the buffer is written: "A first row plus n above 2^63 is LIMIT", and LIMIT and ROOM as without a window. Then the field is
 -- cleared
-unfoldable pub window_ready : List ℕ → ℕ → ℕ → List ℕ → Out Refusal (List ℕ)
+unfoldable pub window_ready : List ℕ → ℕ → ℕ → List ℕ → Result (List ℕ) Refusal
 window_ready file first n buffer = check (leb (first + n) end_of_all_rows) Limit (deletions_ready file n buffer)
 
 -- the buffer with the rows marked
-unfoldable pub window_deletions : List ℕ → ℕ → ℕ → ℕ → List ℕ → Out Refusal (List ℕ)
+unfoldable pub window_deletions : List ℕ → ℕ → ℕ → ℕ → List ℕ → Result (List ℕ) Refusal
 window_deletions file b first n buffer = and_then (window_ready file first n buffer) (marked_in first n (rows_in b file))
 
 -- the buffer then: untouched by refusals up to ROOM, and its field zero after later ones

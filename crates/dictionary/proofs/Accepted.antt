@@ -16,7 +16,8 @@ use Rattle.refusal.specs.Meaning.{limit}
 use Rattle.refusal.specs.declared.Refusal.{Refusal}
 use Rattle.refusal.specs.declared.Refusal.TheVariants.{Short, Dict}
 use Rattle.stored_value.specs.Meaning.{Cell, null, value, Value, same_cell}
-use Rattle.refusal.specs.Reading.{Out, refuse, ok, check, and_then}
+use Rattle.std.specs.Prelude.{Result, Err, Ok}
+use Rattle.refusal.specs.Reading.{check, and_then}
 use Rattle.stored_value.specs.Reading.{value_size, value_of}
 use Rattle.dictionary.specs.Layout.{Entry, most_values1, most_values2, most_blocks, Patterns, NullOnly, some_has, Distinct, NoExtents, value_bytes, entries1, has_null_byte, null1, body1, first, Past, Rises, NoneEmpty, entries2, block, blocks, directory, null2, body2}
 use Rattle.dictionary.specs.Promises.{AfterEntries}
@@ -26,24 +27,24 @@ use Rattle.stored_value.proofs.Laws.{same_cell-sym, value_read}
 use Rattle.dictionary.proofs.LaidOut.{Apart, listings_of, last_of, Begins, behind_is}
 
 -- accepted
-abbrev pub Good : {A : Type 0} → Out Refusal A → Type 0
-Good (refuse r) = ⊥
-Good (ok a) = Unit {0}
+abbrev pub Good : {A : Type 0} → Result A Refusal → Type 0
+Good (Err r) = ⊥
+Good (Ok a) = Unit {0}
 
-on_check : {A X : Type 0} (b : Bool) (r : Refusal) (x : Out Refusal A) → Good (check b r x) → (b ≡ true → Good x → X) → X
+on_check : {A X : Type 0} (b : Bool) (r : Refusal) (x : Result A Refusal) → Good (check b r x) → (b ≡ true → Good x → X) → X
 unfolding check
 on_check true r x g f = f refl g
 on_check false r x g f = absurd g
 
-on_word : {A : Type 0} (w : ℕ) (P : List ℕ → Type 0) (s : List ℕ) (k : ℕ → List ℕ → Out Refusal A) → Bytes s → Good (number big w (refuse Short) s k)
+on_word : {A : Type 0} (w : ℕ) (P : List ℕ → Type 0) (s : List ℕ) (k : ℕ → List ℕ → Result A Refusal) → Bytes s → Good (number big w (Err Short) s k)
     → ((v : ℕ) (s : List ℕ) → v < 256 ^ w → Bytes s → Good (k v s) → P (be w v ++ s)) → P s
-on_word w P s k h g f = on_number big w (refuse Short) Good P s k (λ x. x) h g f
+on_word w P s k h g f = on_number big w (Err Short) Good P s k (λ x. x) h g f
 
-on_byte : {A : Type 0} (P : List ℕ → Type 0) (s : List ℕ) (k : ℕ → List ℕ → Out Refusal A) → Bytes s → Good (number big 1 (refuse Short) s k)
+on_byte : {A : Type 0} (P : List ℕ → Type 0) (s : List ℕ) (k : ℕ → List ℕ → Result A Refusal) → Bytes s → Good (number big 1 (Err Short) s k)
     → ((v : ℕ) (s : List ℕ) → v < 256 → Bytes s → Good (k v s) → P (v ∷ s)) → P s
 on_byte P s k h g f = on_word 1 P s k h g (λ v s l h g. let e : v % 256 ≡ v = omega arith in rw e (f v s l h g))
 
-on_counted : {A : Type 0} (most : ℕ) (P : List ℕ → Type 0) (s : List ℕ) (k : ℕ → List ℕ → Out Refusal A) → Bytes s → Good (count_at_most most s k)
+on_counted : {A : Type 0} (most : ℕ) (P : List ℕ → Type 0) (s : List ℕ) (k : ℕ → List ℕ → Result A Refusal) → Bytes s → Good (count_at_most most s k)
     → ((n : ℕ) (s : List ℕ) → n ≤ most → n ≤ limit → Bytes s → Good (k n s) → P (be 4 n ++ s)) → P s
 unfolding count_at_most
 on_counted most P s k h g f =
@@ -51,14 +52,14 @@ on_counted most P s k h g f =
     let p' : n < sign_bit = ltb-true n sign_bit p in
     f n s (leb-true n most q) (omega arith) h g)))
 
-on_value : {A : Type 0} (P : List ℕ → Type 0) (t : ℕ) (s : List ℕ) (k : List ℕ → List ℕ → Out Refusal A) → Bytes s → Good (value_of Short Dict t s k)
+on_value : {A : Type 0} (P : List ℕ → Type 0) (t : ℕ) (s : List ℕ) (k : List ℕ → List ℕ → Result A Refusal) → Bytes s → Good (value_of Short Dict t s k)
     → ((v s : List ℕ) → Value t v → Bytes s → Good (k v s) → P (v ++ s)) → P s
 unfolding value_of and_then
 on_value P t s k h g f = go (value_size Short Dict t s) refl g
   where
-    go : (o : Out Refusal ℕ) → value_size Short Dict t s ≡ o → Good (and_then o (λ n. k (take n s) (drop n s))) → P s
-    go (refuse r) e g = absurd g
-    go (ok n) e g =
+    go : (o : Result ℕ Refusal) → value_size Short Dict t s ≡ o → Good (and_then o (λ n. k (take n s) (drop n s))) → P s
+    go (Err r) e g = absurd g
+    go (Ok n) e g =
         subst P (take-append-drop n s) (f (take n s) (drop n s) ((value_read Short Dict t s n e).whole h) (bytes_drop n s h) g)
 
 -- ---- version 1
@@ -104,7 +105,7 @@ length-listings : (at : ℕ) (bs : List (List Entry)) → length (listings_of at
 length-listings at [] = refl
 length-listings at (b ∷ bs) = ap suc (length-listings (at + length (block b)) bs)
 
-on_listings : {A : Type 0} (P : List ℕ → Type 0) (t n : ℕ) (before : List Listing) (s : List ℕ) (k : List Listing → List ℕ → Out Refusal A)
+on_listings : {A : Type 0} (P : List ℕ → Type 0) (t n : ℕ) (before : List Listing) (s : List ℕ) (k : List Listing → List ℕ → Result A Refusal)
     → Bytes s → Good (listings t n before s k)
     → ((ds : List Listing) (s : List ℕ) → length ds ≡ n → Bytes s → Good (k (before ++ ds) s) → P (listing_bytes ds ++ s)) → P s
 unfolding listings
@@ -124,7 +125,7 @@ unfolding past
 past_back t null v p = tt
 past_back t (value u) v p = p
 
-on_entries_two : {A : Type 0} (P : List ℕ → Type 0) (t n : ℕ) (before due : Cell) (sofar : List Entry) (s : List ℕ) (k : Cell → List Entry → List ℕ → Out Refusal A)
+on_entries_two : {A : Type 0} (P : List ℕ → Type 0) (t n : ℕ) (before due : Cell) (sofar : List Entry) (s : List ℕ) (k : Cell → List Entry → List ℕ → Result A Refusal)
     → Bytes s → Good (entries_version_two t n before due sofar s k)
     → ((es : List Entry) (s : List ℕ) → length es ≡ n → Rises t before es → Begins due es → Patterns es → Bytes s
     → Good (k (last_of before es) (sofar ++ es) s) → P (entries2 es ++ s)) → P s

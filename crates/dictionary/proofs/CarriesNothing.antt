@@ -3,7 +3,7 @@ use Prim.Native.Nat.{ℕ, zero, suc}
 use mathlib.Core.Bool.{Bool, true, false}
 use mathlib.Core.List.{List, [], ◌∷◌}
 use Rattle.refusal.specs.declared.Refusal.{Refusal}
-use Rattle.refusal.specs.Reading.{Out}
+use Rattle.std.specs.Prelude.{Result}
 use Rattle.refusal.specs.Claims.{CarriesNothing}
 use Rattle.refusal.proofs.CarriesNothing.{bare}
 use Rattle.stored_value.specs.Meaning.{Cell}
@@ -12,18 +12,18 @@ use Rattle.dictionary.specs.Layout.{Entry}
 use Rattle.dictionary.specs.Reading.{count_at_most, Dictionary, entries_version_one, Listing, listings, entries_version_two, blocks_of, blocked, null_of, dictionary}
 
 module _ {A : Type 0} where
-  count_bare : (most : ℕ) (s : List ℕ) (k : ℕ → List ℕ → Out Refusal A) → ((n : ℕ) (r : List ℕ) → CarriesNothing (k n r))
+  count_bare : (most : ℕ) (s : List ℕ) (k : ℕ → List ℕ → Result A Refusal) → ((n : ℕ) (r : List ℕ) → CarriesNothing (k n r))
       → CarriesNothing (count_at_most most s k)
   unfolding count_at_most
   count_bare most s k f = search bare
 
-  listings_bare : (t n : ℕ) (ds : List Listing) (s : List ℕ) (k : List Listing → List ℕ → Out Refusal A)
+  listings_bare : (t n : ℕ) (ds : List Listing) (s : List ℕ) (k : List Listing → List ℕ → Result A Refusal)
       → ((es : List Listing) (r : List ℕ) → CarriesNothing (k es r)) → CarriesNothing (listings t n ds s k)
   unfolding listings
   listings_bare t zero ds s k f = f ds s
   listings_bare t (suc n) ds s k f = search (bare, value_bare, listings_bare t n)
 
-  entries_two_bare : (t n : ℕ) (before due : Cell) (es : List Entry) (s : List ℕ) (k : Cell → List Entry → List ℕ → Out Refusal A)
+  entries_two_bare : (t n : ℕ) (before due : Cell) (es : List Entry) (s : List ℕ) (k : Cell → List Entry → List ℕ → Result A Refusal)
       → ((last : Cell) (fs : List Entry) (r : List ℕ) → CarriesNothing (k last fs r)) → CarriesNothing (entries_version_two t n before due es s k)
   unfolding entries_version_two
   entries_two_bare t zero before due es s k f = f before es s
@@ -34,7 +34,7 @@ unfolding entries_version_one
 entries_one_bare t rows zero nulls es s = tt
 entries_one_bare t rows (suc n) nulls es s = search (bare, value_bare, entries_one_bare t rows n)
 
-module _ (k : List Entry → List ℕ → Out Refusal Dictionary) (f : (es : List Entry) (r : List ℕ) → CarriesNothing (k es r)) where
+module _ (k : List Entry → List ℕ → Result Dictionary Refusal) (f : (es : List Entry) (r : List ℕ) → CarriesNothing (k es r)) where
   blocks_bare : (t : ℕ) (ds : List Listing) (base : List ℕ) (before : Cell) (es : List Entry) (s : List ℕ) → CarriesNothing (blocks_of t ds base before es s k)
   unfolding blocks_of
   blocks_bare t [] base before es s = f es s

@@ -18,7 +18,8 @@ use Rattle.stored_value.specs.Meaning.{types}
 use Rattle.refusal.specs.Meaning.{limit}
 use Rattle.refusal.specs.declared.Refusal.{Refusal}
 use Rattle.refusal.specs.declared.Refusal.TheVariants.{Short, Version, Dict, Literal, Limit}
-use Rattle.refusal.specs.Reading.{Out, refuse, check, numbers_of}
+use Rattle.std.specs.Prelude.{Result, Err}
+use Rattle.refusal.specs.Reading.{check, numbers_of}
 use Rattle.numbers.specs.declared.Position.{Position}
 use Rattle.dictionary.specs.declared.Cursor.{Cursor}
 use Rattle.dictionary.specs.declared.Summary.{Summary}
@@ -38,7 +39,7 @@ use Rattle.dictionary.proofs.Steps.{word_at, word_short}
 -- ---- a count
 
 module _ (most : ℕ) (s : List ℕ) (p : ℕ) where
-  pub count-short : length s - p < 4 → (f : AfterCount) → count_at_most most (drop p s) f ≡ refuse Short
+  pub count-short : length s - p < 4 → (f : AfterCount) → count_at_most most (drop p s) f ≡ Err Short
   unfolding count_at_most
   count-short h f = word_short 4 s p _ h
 
@@ -47,11 +48,11 @@ module _ (most : ℕ) (s : List ℕ) (p : ℕ) where
     unfolding count_at_most
     tested f = rw e (word_at 4 s p _ h)
 
-    pub count_negative : sign_bit ≤ n → (f : AfterCount) → count_at_most most (drop p s) f ≡ refuse Dict
+    pub count_negative : sign_bit ≤ n → (f : AfterCount) → count_at_most most (drop p s) f ≡ Err Dict
     unfolding check
     count_negative l f = tested f ∙ rw le-ltb
 
-    pub count-over : n < sign_bit → most < n → (f : AfterCount) → count_at_most most (drop p s) f ≡ refuse Limit
+    pub count-over : n < sign_bit → most < n → (f : AfterCount) → count_at_most most (drop p s) f ≡ Err Limit
     unfolding check
     count-over l m f = tested f ∙ rw (lt-ltb, lt-leb)
 
@@ -71,11 +72,11 @@ module _ (s : List ℕ) (p : ℕ) (version2 : Bool) {has : Bool} where
   null-none n o x f = rw n
 
   module _ (y : has ≡ true) where
-    pub null-short : length s - p < 4 → (f : AfterEntries) → null_of version2 has (drop p s) f ≡ refuse Short
+    pub null-short : length s - p < 4 → (f : AfterEntries) → null_of version2 has (drop p s) f ≡ Err Short
     unfolding null_of
     null-short h f = rw y (go version2)
       where
-        go : (version2 : Bool) → null_of version2 true (drop p s) f ≡ refuse Short
+        go : (version2 : Bool) → null_of version2 true (drop p s) f ≡ Err Short
         go false = word_short 4 s p _ h
         go true = word_short 4 s p _ h
 
@@ -88,7 +89,7 @@ module _ (s : List ℕ) (p : ℕ) (version2 : Bool) {has : Bool} where
       null-one w f = rw (y, w, e) (word_at 4 s p _ h)
 
       module _ (w : version2 ≡ true) where
-        pub null-cut : length s - (p + 4) < 4 → (f : AfterEntries) → null_of version2 has (drop p s) f ≡ refuse Short
+        pub null-cut : length s - (p + 4) < 4 → (f : AfterEntries) → null_of version2 has (drop p s) f ≡ Err Short
         unfolding null_of
         null-cut l f = rw (y, w) (word_at 4 s p _ h ∙ word_short 4 s (p + 4) _ l)
 
@@ -103,14 +104,14 @@ pub byte_at : (s : List ℕ) (p : ℕ) → be_at 1 s p ≡ get_or s p 0
 byte_at s p = simp (zero-add, add-zero)
 
 -- what follows a version v
-abbrev opened : ℕ → ℕ → List ℕ → Out Refusal Dictionary
+abbrev opened : ℕ → ℕ → List ℕ → Result Dictionary Refusal
 opened t v s =
     count_at_most limit s (λ rows s. count_at_most (cond (eqb v 2) most_values2 most_values1) s (λ n s.
-    number big 1 (refuse Short) s (λ h s. check (leb h 1) Dict (null_of (eqb v 2) (eqb h 1) s (λ ns s. entries_of (eqb v 2) t rows n ns s)))))
+    number big 1 (Err Short) s (λ h s. check (leb h 1) Dict (null_of (eqb v 2) (eqb h 1) s (λ ns s. entries_of (eqb v 2) t rows n ns s)))))
 
 known : (t v : ℕ) (s : List ℕ) → 1 ≤ v → v ≤ 2 → check (eqb v 1 || eqb v 2) Version
     (count_at_most limit s (λ rows s. count_at_most (cond (eqb v 1) most_values1 most_values2) s (λ n s.
-    number big 1 (refuse Short) s (λ has_null_byte s. check (leb has_null_byte 1) Dict
+    number big 1 (Err Short) s (λ has_null_byte s. check (leb has_null_byte 1) Dict
     (null_of (eqb v 2) (eqb has_null_byte 1) s (λ nulls s.
     cond (eqb v 1) (entries_version_one t rows n nulls [] s) (blocked t rows n nulls s))))))) ≡ opened t v s
 unfolding check
@@ -120,20 +121,20 @@ known t (suc (suc zero)) s l m = refl
 known t (suc (suc (suc v))) s l m = absurd (omega arith)
 
 module _ (s : List ℕ) where
-  pub fixed_empty : length s < 1 → (t : ℕ) → t < types → dictionary t s ≡ refuse Short
+  pub fixed_empty : length s < 1 → (t : ℕ) → t < types → dictionary t s ≡ Err Short
   unfolding dictionary check
   fixed_empty h t k = rw (lt-ltb t types k) (word_short 1 s 0 _ (omega arith))
 
   module _ (l : 1 ≤ length s) {v : ℕ} (e : v ≡ get_or s 0 0) where
     versioned : (t : ℕ) → t < types → dictionary t s ≡ check (eqb v 1 || eqb v 2) Version
         (count_at_most limit (drop 1 s) (λ rows s. count_at_most (cond (eqb v 1) most_values1 most_values2) s (λ n s.
-        number big 1 (refuse Short) s (λ has_null_byte s. check (leb has_null_byte 1) Dict
+        number big 1 (Err Short) s (λ has_null_byte s. check (leb has_null_byte 1) Dict
         (null_of (eqb v 2) (eqb has_null_byte 1) s (λ nulls s.
         cond (eqb v 1) (entries_version_one t rows n nulls [] s) (blocked t rows n nulls s)))))))
     unfolding dictionary check
     versioned t k = let b : be_at 1 s 0 ≡ v = byte_at s 0 ∙ sym e in rw (lt-ltb t types k) (word_at 1 s 0 _ l ∙ simp b)
 
-    pub fixed_version : (v < 1) ⊎ (2 < v) → (t : ℕ) → t < types → dictionary t s ≡ refuse Version
+    pub fixed_version : (v < 1) ⊎ (2 < v) → (t : ℕ) → t < types → dictionary t s ≡ Err Version
     unfolding check
     fixed_version h t k = versioned t k ∙ simp (ne_eqb v 1 (λ q. ⊎_elim (λ w. omega arith) (λ w. omega arith) h), ne_eqb v 2 (λ q. ⊎_elim (λ w. omega arith) (λ w. omega arith) h))
 
@@ -141,25 +142,25 @@ module _ (s : List ℕ) where
       pub fixed_opened : (t : ℕ) → t < types → dictionary t s ≡ opened t v (drop 1 s)
       fixed_opened t k = versioned t k ∙ known t v (drop 1 s) lo hi
 
-      pub fixed_rows : {r : Refusal} → CountAt limit s 1 (Count.Refused r) → (t : ℕ) → t < types → dictionary t s ≡ refuse r
+      pub fixed_rows : {r : Refusal} → CountAt limit s 1 (Count.Refused r) → (t : ℕ) → t < types → dictionary t s ≡ Err r
       fixed_rows q t k = fixed_opened t k ∙ q _
 
       module _ {rows m : ℕ} (R : CountAt limit s 1 (Is rows)) (M : m ≡ cond (eqb v 2) most_values2 most_values1) where
-        pub fixed_values : {r : Refusal} → CountAt m s 5 (Count.Refused r) → (t : ℕ) → t < types → dictionary t s ≡ refuse r
+        pub fixed_values : {r : Refusal} → CountAt m s 5 (Count.Refused r) → (t : ℕ) → t < types → dictionary t s ≡ Err r
         fixed_values q t k = fixed_opened t k ∙ R.0 _ ∙ rw M at q _
 
         module _ {n : ℕ} (N : CountAt m s 5 (Is n)) where
-          numbered : (t : ℕ) → t < types → dictionary t s ≡ number big 1 (refuse Short) (drop 9 s) (λ h s. check (leb h 1) Dict (null_of (eqb v 2) (eqb h 1) s (λ ns s. entries_of (eqb v 2) t rows n ns s)))
+          numbered : (t : ℕ) → t < types → dictionary t s ≡ number big 1 (Err Short) (drop 9 s) (λ h s. check (leb h 1) Dict (null_of (eqb v 2) (eqb h 1) s (λ ns s. entries_of (eqb v 2) t rows n ns s)))
           numbered t k = fixed_opened t k ∙ R.0 _ ∙ (rw M at N).0 _
 
-          pub fixed_short : length s < 10 → (t : ℕ) → t < types → dictionary t s ≡ refuse Short
+          pub fixed_short : length s < 10 → (t : ℕ) → t < types → dictionary t s ≡ Err Short
           fixed_short h t k = numbered t k ∙ word_short 1 s 9 _ (omega arith)
 
           module _ (r : 10 ≤ length s) {h : ℕ} (g : h ≡ get_or s 9 0) where
             flagged : (t : ℕ) → t < types → dictionary t s ≡ check (leb h 1) Dict (null_of (eqb v 2) (eqb h 1) (drop 10 s) (λ ns s. entries_of (eqb v 2) t rows n ns s))
             flagged t k = let b : be_at 1 s 9 ≡ h = byte_at s 9 ∙ sym g in numbered t k ∙ word_at 1 s 9 _ r ∙ simp b
 
-            pub fixed_wrong : 1 < h → (t : ℕ) → t < types → dictionary t s ≡ refuse Dict
+            pub fixed_wrong : 1 < h → (t : ℕ) → t < types → dictionary t s ≡ Err Dict
             unfolding check
             fixed_wrong w t k = flagged t k ∙ simp (lt-leb h 1 w)
 
@@ -176,7 +177,7 @@ pub by_one : (t n : ℕ) (s : List ℕ) (at : ℕ) (version2 : Bool) (r : AllEnt
 by_one t n s at version2 r h w = rw h w
 
 module _ (t : ℕ) (s : List ℕ) where
-  pub refused_so : {r : Refusal} → dictionary t s ≡ refuse r → ReadsDictionary t s (Checked.Refused r)
+  pub refused_so : {r : Refusal} → dictionary t s ≡ Err r → ReadsDictionary t s (Checked.Refused r)
   unfolding numbers_of
   refused_so e = record { answer = e; numbers = rw e }
 

@@ -16,7 +16,8 @@ use Rattle.refusal.specs.Meaning.{limit}
 use Rattle.refusal.specs.declared.Refusal.{Refusal}
 use Rattle.refusal.specs.declared.Refusal.TheVariants.{Short, Dict}
 use Rattle.stored_value.specs.Meaning.{types, Cell, null, value, same_cell}
-use Rattle.refusal.specs.Reading.{Out, refuse, ok, check, and_then}
+use Rattle.std.specs.Prelude.{Result, Err, Ok}
+use Rattle.refusal.specs.Reading.{check, and_then}
 use Rattle.stored_value.specs.Reading.{value_of}
 use Rattle.dictionary.specs.Layout.{Entry, most_values1, most_values2, most_blocks, Patterns, Valued, NullOnly, some_has, Distinct, NoExtents, value_bytes, entries1, has_null_byte, null1, body1, first, Past, Rises, NoneEmpty, entries2, block, blocks, directory, null2, body2}
 use Rattle.dictionary.specs.Promises.{AfterEntries}
@@ -30,7 +31,7 @@ pub cell_back : (t : ℕ) (c : Cell) → Valued t c → value (value_bytes c) �
 cell_back t null h = absurd h
 cell_back t (value v) h = refl
 
-pub value_of_laid : {A : Type 0} (t : ℕ) (c : Cell) (tail : List ℕ) (k : List ℕ → List ℕ → Out Refusal A) → Valued t c
+pub value_of_laid : {A : Type 0} (t : ℕ) (c : Cell) (tail : List ℕ) (k : List ℕ → List ℕ → Result A Refusal) → Valued t c
     → value_of Short Dict t (value_bytes c ++ tail) k ≡ k (value_bytes c) tail
 unfolding value_of and_then
 value_of_laid t null tail k v = absurd v
@@ -60,7 +61,7 @@ apart_none [] = tt
 apart_none (e ∷ es) = (refl, apart_none es)
 
 entries_one_laid : (t rows : ℕ) (nulls before es : List Entry) (region : List ℕ) → Distinct t es → Apart before es → NoExtents es → Patterns es
-    → entries_version_one t rows (length es) nulls before (entries1 es ++ region) ≡ ok (record { rows = rows; entries = nulls ++ (before ++ es); region = region })
+    → entries_version_one t rows (length es) nulls before (entries1 es ++ region) ≡ Ok (record { rows = rows; entries = nulls ++ (before ++ es); region = region })
 unfolding entries_version_one check
 entries_one_laid t rows nulls before [] region d a x p = simp append-nil
 entries_one_laid t rows nulls before (e ∷ es) region d a x p =
@@ -68,7 +69,7 @@ entries_one_laid t rows nulls before (e ∷ es) region d a x p =
     rw (append_assoc (value_bytes c) (be 4 e.offset ++ entries1 es) region)
     (value_of_laid t c (be 4 e.offset ++ (entries1 es ++ region)) _ d.0
     ∙ rw (cell_back t c d.0, a.0)
-    (number_laid big 4 (refuse Short) e.offset (entries1 es ++ region) _ p.0
+    (number_laid big 4 (Err Short) e.offset (entries1 es ++ region) _ p.0
     ∙ rw (← x.0) (entries_one_laid t rows nulls (before ++ (e ∷ [])) es region d.2 (apart_more before e es a.1 d.1) x.1 p.2
     ∙ rw (append_assoc before (e ∷ []) es))))
 
@@ -82,12 +83,12 @@ extents_cut : (xs ys : List Entry) → NoExtents (xs ++ ys) → NoExtents xs × 
 extents_cut [] ys p = (tt, p)
 extents_cut (x ∷ xs) ys p = let q = extents_cut xs ys p.1 in ((p.0, q.0), q.1)
 
-pub counted_laid : {A : Type 0} (most n : ℕ) (s : List ℕ) (k : ℕ → List ℕ → Out Refusal A) → n ≤ most → n ≤ limit → count_at_most most (be 4 n ++ s) k ≡ k n s
+pub counted_laid : {A : Type 0} (most n : ℕ) (s : List ℕ) (k : ℕ → List ℕ → Result A Refusal) → n ≤ most → n ≤ limit → count_at_most most (be 4 n ++ s) k ≡ k n s
 unfolding count_at_most check
 counted_laid most n s k h l =
-    number_laid big 4 (refuse Short) n s _ (omega arith) ∙ rw (lt-ltb n sign_bit (omega arith), le-leb n most h)
+    number_laid big 4 (Err Short) n s _ (omega arith) ∙ rw (lt-ltb n sign_bit (omega arith), le-leb n most h)
 
-pub byte_laid : {A : Type 0} (b : ℕ) (s : List ℕ) (k : ℕ → List ℕ → Out Refusal A) → number big 1 (refuse Short) (b ∷ s) k ≡ k b s
+pub byte_laid : {A : Type 0} (b : ℕ) (s : List ℕ) (k : ℕ → List ℕ → Result A Refusal) → number big 1 (Err Short) (b ∷ s) k ≡ k b s
 unfolding number
 byte_laid b s k = rw (le-leb 1 (suc (length s)) (omega arith), zero-add b)
 
@@ -117,21 +118,21 @@ null1_laid : (nulls : List Entry) (s : List ℕ) (k : AfterEntries) → NullOnly
 unfolding null_of
 null1_laid [] s k h x p = refl
 null1_laid (e ∷ es) s k h x p =
-    number_laid big 4 (refuse Short) e.offset s _ p.0 ∙ rw (← h.0, ← x.0, h.1)
+    number_laid big 4 (Err Short) e.offset s _ p.0 ∙ rw (← h.0, ← x.0, h.1)
 
 -- whatever follows it
-pub null2_laid : {A : Type 0} (nulls : List Entry) (s : List ℕ) (k : List Entry → List ℕ → Out Refusal A) → NullOnly nulls → Patterns nulls
+pub null2_laid : {A : Type 0} (nulls : List Entry) (s : List ℕ) (k : List Entry → List ℕ → Result A Refusal) → NullOnly nulls → Patterns nulls
     → null_of true (eqb (has_null_byte nulls) 1) (null2 nulls ++ s) k ≡ k nulls s
 unfolding null_of
 null2_laid [] s k h p = refl
 null2_laid (e ∷ es) s k h p =
-    number_laid big 4 (refuse Short) e.offset (be 4 e.extent ++ s) _ p.0
-    ∙ number_laid big 4 (refuse Short) e.extent s _ p.1 ∙ rw (← h.0, h.1)
+    number_laid big 4 (Err Short) e.offset (be 4 e.extent ++ s) _ p.0
+    ∙ number_laid big 4 (Err Short) e.extent s _ p.1 ∙ rw (← h.0, h.1)
 
 -- laid out in version 1, so read
 pub one_laid : (t rows : ℕ) (nulls es : List Entry) (region : List ℕ) → t < types → Distinct t es → NullOnly nulls → NoExtents (nulls ++ es)
     → Patterns (nulls ++ es) → rows ≤ limit → length es ≤ most_values1
-    → dictionary t (body1 rows nulls es region) ≡ ok (record { rows = rows; entries = nulls ++ es; region = region })
+    → dictionary t (body1 rows nulls es region) ≡ Ok (record { rows = rows; entries = nulls ++ es; region = region })
 unfolding most
 one_laid t rows nulls es region h d o x p r l =
     let q = patterns_cut nulls es p in
@@ -170,7 +171,7 @@ headed t before (b ∷ bs) h r =
     let q = rises_cut t before b (joined bs) r in
     (first_valued t before b h.0 q.0, headed t (last_of before b) bs h.1 q.1)
 
-listings_laid : {A : Type 0} (t at : ℕ) (bs : List (List Entry)) (ds : List Listing) (s : List ℕ) (k : List Listing → List ℕ → Out Refusal A)
+listings_laid : {A : Type 0} (t at : ℕ) (bs : List (List Entry)) (ds : List Listing) (s : List ℕ) (k : List Listing → List ℕ → Result A Refusal)
     → Headed t bs → at + length (blocks bs) ≤ limit → listings t (length bs) ds (directory at bs ++ s) k ≡ k (ds ++ listings_of at bs) s
 unfolding listings
 listings_laid t at [] ds s k v l = simp append-nil
@@ -180,7 +181,7 @@ listings_laid t at (b ∷ bs) ds s k v l =
     let m : length (block b ++ blocks bs) ≡ length (block b) + length (blocks bs) = length-append (block b) (blocks bs) in
     rw (append_assoc (value_bytes c) (be 4 at ++ rest) s)
     (value_of_laid t c (be 4 at ++ (rest ++ s)) _ v.0
-    ∙ number_laid big 4 (refuse Short) at (rest ++ s) _ (omega arith)
+    ∙ number_laid big 4 (Err Short) at (rest ++ s) _ (omega arith)
     ∙ listings_laid t (at + length (block b)) bs (ds ++ (record { first = value_bytes c; at = at } ∷ [])) s k v.1 (omega arith)
     ∙ rw (append_assoc ds (record { first = value_bytes c; at = at } ∷ []) (listings_of (at + length (block b)) bs)))
 
@@ -207,7 +208,7 @@ unfolding is_value_due
 begins_own [] = tt
 begins_own (e ∷ es) = same_refl (value_bytes e.cell)
 
-entries_two_laid : {A : Type 0} (t : ℕ) (before due : Cell) (es sofar : List Entry) (s : List ℕ) (k : Cell → List Entry → List ℕ → Out Refusal A)
+entries_two_laid : {A : Type 0} (t : ℕ) (before due : Cell) (es sofar : List Entry) (s : List ℕ) (k : Cell → List Entry → List ℕ → Result A Refusal)
     → Rises t before es → Begins due es → Patterns es
     → entries_version_two t (length es) before due sofar (entries2 es ++ s) k ≡ k (last_of before es) (sofar ++ es) s
 unfolding entries_version_two check
@@ -217,8 +218,8 @@ entries_two_laid t before due (e ∷ es) sofar s k r b p =
     rw (append_assoc (value_bytes c) (be 4 e.offset ++ (be 4 e.extent ++ entries2 es)) s)
     (value_of_laid t c (be 4 e.offset ++ (be 4 e.extent ++ (entries2 es ++ s))) _ r.0
     ∙ rw (past-true t before c r.0 r.1, b, cell_back t c r.0)
-    (number_laid big 4 (refuse Short) e.offset (be 4 e.extent ++ (entries2 es ++ s)) _ p.0
-    ∙ number_laid big 4 (refuse Short) e.extent (entries2 es ++ s) _ p.1
+    (number_laid big 4 (Err Short) e.offset (be 4 e.extent ++ (entries2 es ++ s)) _ p.0
+    ∙ number_laid big 4 (Err Short) e.extent (entries2 es ++ s) _ p.1
     ∙ entries_two_laid t c null es (sofar ++ (e ∷ [])) s k r.2 (begins_any es) p.2
     ∙ rw (append_assoc sofar (e ∷ []) es)))
 
@@ -240,7 +241,7 @@ blocks_of_laid t at base before (b ∷ bs) sofar s k z n r p l =
     let q = patterns_cut b (joined bs) p in
     let u = rises_cut t before b (joined bs) r in
     rw (e, behind_is at base (block b ++ rest) z', eq-eqb at at refl)
-    (number_laid big 4 (refuse Short) (length b) (entries2 b ++ rest) _ (omega arith)
+    (number_laid big 4 (Err Short) (length b) (entries2 b ++ rest) _ (omega arith)
     ∙ rw (le-leb 1 (length b) n.0, lt-ltb (length b) sign_bit (omega arith))
     (entries_two_laid t before (value (value_bytes (first b))) b sofar rest _ u.0 (begins_own b) q.0
     ∙ blocks_of_laid t (at + length (block b)) base (last_of before b) bs (sofar ++ b) s k w n.1 u.1 q.1 (omega arith)
@@ -256,7 +257,7 @@ none_exactly (b ∷ bs) n =
 blocked_laid : (t rows : ℕ) (nulls : List Entry) (bs : List (List Entry)) (region : List ℕ) → NoneEmpty bs → Rises t null (joined bs)
     → Patterns (joined bs) → length (joined bs) ≤ most_values2 → length bs ≤ most_blocks → length (blocks bs) ≤ limit
     → blocked t rows (length (joined bs)) nulls (be 4 (length bs) ++ (directory 0 bs ++ (be 4 (length (blocks bs)) ++ (blocks bs ++ region))))
-    ≡ ok (record { rows = rows; entries = nulls ++ joined bs; region = region })
+    ≡ Ok (record { rows = rows; entries = nulls ++ joined bs; region = region })
 unfolding blocked check
 blocked_laid t rows nulls bs region n r p l m z =
     let base : List ℕ = blocks bs ++ region in
@@ -264,7 +265,7 @@ blocked_laid t rows nulls bs region n r p l m z =
     counted_laid most_blocks (length bs) (directory 0 bs ++ (be 4 (length (blocks bs)) ++ base)) _ m (omega arith)
     ∙ rw (none_exactly bs n)
     (listings_laid t 0 bs [] (be 4 (length (blocks bs)) ++ base) _ (headed t null bs n r) (omega arith)
-    ∙ number_laid big 4 (refuse Short) (length (blocks bs)) base _ (omega arith)
+    ∙ number_laid big 4 (Err Short) (length (blocks bs)) base _ (omega arith)
     ∙ blocks_of_laid t 0 base null bs [] region _ (omega arith) n r p l
     ∙ rw (
       behind_is (length (blocks bs)) base region d,
@@ -276,7 +277,7 @@ blocked_laid t rows nulls bs region n r p l m z =
 pub two_laid : (t rows : ℕ) (nulls : List Entry) (bs : List (List Entry)) (region : List ℕ) → t < types → NullOnly nulls → NoneEmpty bs
     → Rises t null (joined bs) → Patterns (nulls ++ joined bs) → rows ≤ limit → length (joined bs) ≤ most_values2 → length bs ≤ most_blocks
     → length (body2 rows nulls bs region) ≤ limit
-    → dictionary t (body2 rows nulls bs region) ≡ ok (record { rows = rows; entries = nulls ++ joined bs; region = region })
+    → dictionary t (body2 rows nulls bs region) ≡ Ok (record { rows = rows; entries = nulls ++ joined bs; region = region })
 unfolding most
 two_laid t rows nulls bs region h o n r p hr l m z =
     let q = patterns_cut nulls (joined bs) p in

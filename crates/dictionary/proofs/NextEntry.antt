@@ -13,7 +13,7 @@ use Rattle.numbers.specs.Meaning.{big, be_at, signed32, Bytes, minus_one_32, pos
 use Rattle.numbers.proofs.Laws.{number_at-drop, number_at-lt}
 use Rattle.refusal.specs.declared.Refusal.{Refusal}
 use Rattle.refusal.specs.declared.Refusal.TheVariants.{Short, Dict}
-use Rattle.refusal.specs.Reading.{refuse, ok}
+use Rattle.std.specs.Prelude.{Err, Ok}
 use Rattle.stored_value.specs.Reading.{value_size}
 use Rattle.dictionary.specs.declared.Cursor.{Cursor}
 use Rattle.dictionary.specs.declared.EntryAt.{EntryAt}
@@ -47,11 +47,11 @@ module _ (t : ℕ) (version2 : Bool) (s : List ℕ) (c : Cursor) where
     unfolding entry_in_block
     sized = rw (ne_eqb c.left 0 (λ q. omega arith))
 
-    pub entry_lost : {r : Refusal} → value_size Short Dict t (drop c.at.0 s) ≡ refuse r → no_entry_there ≡ entry_in_block t version2 s c
+    pub entry_lost : {r : Refusal} → value_size Short Dict t (drop c.at.0 s) ≡ Err r → no_entry_there ≡ entry_in_block t version2 s c
     unfolding entry_of_size
     entry_lost v = sym (sized ∙ rw v)
 
-    module _ {k : ℕ} (v : value_size Short Dict t (drop c.at.0 s) ≡ ok k) where
+    module _ {k : ℕ} (v : value_size Short Dict t (drop c.at.0 s) ≡ Ok k) where
       pub entry-short : length s < c.at.0 + k + tail version2 → no_entry_there ≡ entry_in_block t version2 s c
       unfolding entry_of_size
       entry-short h = sym (sized ∙ rw (v, lt-leb (c.at.0 + k + tail version2) (length s) h))
@@ -61,7 +61,7 @@ module _ (t : ℕ) (version2 : Bool) (s : List ℕ) (c : Cursor) where
       entry_found h = sym (sized ∙ rw (v, le-leb (c.at.0 + k + tail version2) (length s) h))
 
     -- the same, by where the value ends
-    module _ {q : ℕ} (v : value_size Short Dict t (drop c.at.0 s) ≡ ok (q - c.at.0)) (g : c.at.0 ≤ q) where
+    module _ {q : ℕ} (v : value_size Short Dict t (drop c.at.0 s) ≡ Ok (q - c.at.0)) (g : c.at.0 ≤ q) where
       ended : c.at.0 + (q - c.at.0) ≡ q
       ended = omega arith
 

@@ -12,7 +12,8 @@ use Rattle.numbers.specs.Meaning.{big, be_at, number, position}
 use Rattle.numbers.proofs.Laws.{number_at_lem, number_short, number_at-drop}
 use Rattle.refusal.specs.declared.Refusal.{Refusal}
 use Rattle.refusal.specs.declared.Refusal.TheVariants.{Short, Dict}
-use Rattle.refusal.specs.Reading.{Out, refuse, ok, check}
+use Rattle.std.specs.Prelude.{Result, Err, Ok}
+use Rattle.refusal.specs.Reading.{check}
 use Rattle.stored_value.specs.declared.Sized.{Sized}
 use Rattle.stored_value.specs.declared.Sized.TheVariants.{Bytes}
 use Rattle.stored_value.specs.Promises.{SizePromise}
@@ -25,19 +26,19 @@ use Rattle.dictionary.specs.Promises.{tail, entry_of, EntriesFrom, EndsAt, Value
 
 -- ---- a number of w bytes behind k others
 
-module _ {A : Type 0} (w : ℕ) (s : List ℕ) (k : ℕ) (f : ℕ → List ℕ → Out Refusal A) where
-  pub word_at : k + w ≤ length s → number big w (refuse Short) (drop k s) f ≡ f (be_at w s k) (drop (k + w) s)
-  word_at h = number_at_lem big w (refuse Short) s k f h
+module _ {A : Type 0} (w : ℕ) (s : List ℕ) (k : ℕ) (f : ℕ → List ℕ → Result A Refusal) where
+  pub word_at : k + w ≤ length s → number big w (Err Short) (drop k s) f ≡ f (be_at w s k) (drop (k + w) s)
+  word_at h = number_at_lem big w (Err Short) s k f h
 
-  pub word_short : length s - k < w → number big w (refuse Short) (drop k s) f ≡ refuse Short
-  word_short h = number_short big w (refuse Short) s k f h
+  pub word_short : length s - k < w → number big w (Err Short) (drop k s) f ≡ Err Short
+  word_short h = number_short big w (Err Short) s k f h
 
   -- as a test
-  pub word_test : 0 < w → number big w (refuse Short) (drop k s) f ≡ check (leb (k + w) (length s)) Short (f (be_at w s k) (drop (k + w) s))
+  pub word_test : 0 < w → number big w (Err Short) (drop k s) f ≡ check (leb (k + w) (length s)) Short (f (be_at w s k) (drop (k + w) s))
   unfolding check
   word_test z = go (leb (k + w) (length s)) refl
     where
-      go : (b : Bool) → leb (k + w) (length s) ≡ b → number big w (refuse Short) (drop k s) f ≡ check b Short (f (be_at w s k) (drop (k + w) s))
+      go : (b : Bool) → leb (k + w) (length s) ≡ b → number big w (Err Short) (drop k s) f ≡ check b Short (f (be_at w s k) (drop (k + w) s))
       go true h = word_at (leb-true (k + w) (length s) h)
       go false h = let l : length s < k + w = leb-false (k + w) (length s) h in word_short (omega arith)
 
@@ -56,7 +57,7 @@ module _ (t : ℕ) (s : List ℕ) (at : ℕ) {x : Sized} (e : SizePromise (value
       (rw z o, omega (arith, w.some), omega (arith, w.some))
 
 -- a value that was read, by its size
-module _ (t : ℕ) (s : List ℕ) (p k : ℕ) (e : value_size Short Dict t (drop p s) ≡ ok k) where
+module _ (t : ℕ) (s : List ℕ) (p k : ℕ) (e : value_size Short Dict t (drop p s) ≡ Ok k) where
   pub known-to : {n : ℕ} → n ≡ k → EndsAt t s p (p + n)
   known-to {n} q =
       let w = value_read Short Dict t (drop p s) k e in
@@ -83,7 +84,7 @@ unfolding EntriesFrom
 stand_none t version2 left s = tt
 
 -- one more in front, in a block that is open
-pub stand_cons : (t : ℕ) (version2 : Bool) (left : ℕ) (s : List ℕ) (k : ℕ) (es : List Entry) → 1 ≤ left → value_size Short Dict t s ≡ ok k → k + tail version2 ≤ length s
+pub stand_cons : (t : ℕ) (version2 : Bool) (left : ℕ) (s : List ℕ) (k : ℕ) (es : List Entry) → 1 ≤ left → value_size Short Dict t s ≡ Ok k → k + tail version2 ≤ length s
     → EntriesFrom t version2 (left - 1) (drop (k + tail version2) s) es → EntriesFrom t version2 left s (entry_of version2 k s ∷ es)
 unfolding EntriesFrom
 stand_cons t version2 left s k es h e l r =
@@ -92,7 +93,7 @@ stand_cons t version2 left s k es h e l r =
 
 -- the first, in a block that is open
 pub stand_first : (t : ℕ) (version2 : Bool) (left : ℕ) (s : List ℕ) (e : Entry) (es : List Entry) → 1 ≤ left → EntriesFrom t version2 left s (e ∷ es)
-    → (k : ℕ) × (value_size Short Dict t s ≡ ok k) × (k + tail version2 ≤ length s) × (e ≡ entry_of version2 k s) × EntriesFrom t version2 (left - 1) (drop (k + tail version2) s) es
+    → (k : ℕ) × (value_size Short Dict t s ≡ Ok k) × (k + tail version2 ≤ length s) × (e ≡ entry_of version2 k s) × EntriesFrom t version2 (left - 1) (drop (k + tail version2) s) es
 unfolding EntriesFrom
 stand_first t version2 left s e es h st =
     let z : eqb left 0 ≡ false = ne_eqb left 0 (λ q. omega arith) in

@@ -8,7 +8,8 @@ use lib.Seq.{get_or-append-add}
 use borrow.Author.Tests.{lt-ltb, le-ltb, ltb-true, ne_eqb}
 use Rattle.numbers.specs.Meaning.{be, joined, Bytes}
 use Rattle.refusal.specs.Meaning.{limit}
-use Rattle.refusal.specs.Reading.{ok, check}
+use Rattle.std.specs.Prelude.{Ok}
+use Rattle.refusal.specs.Reading.{check}
 use Rattle.refusal.proofs.Laws.{check-ok}
 use Rattle.stored_value.specs.Meaning.{types, Cell, null, value, same_cell, less}
 use Rattle.stored_value.proofs.Order.{less_trans, less_differs}
@@ -26,7 +27,7 @@ pub read_is_laid_out : ReadIsLaidOut
 unfolding dictionary
 read_is_laid_out t s d h m e =
     let k : t < types = ltb-true t types (check-ok _ _ _ d e).0 in
-    let laid = on_dictionary (λ (x : List ℕ). length x ≤ limit → dictionary t x ≡ ok d → LaidOut t x d) t s h (subst Good (sym e) tt)
+    let laid = on_dictionary (λ (x : List ℕ). length x ≤ limit → dictionary t x ≡ Ok d → LaidOut t x d) t s h (subst Good (sym e) tt)
     (λ rows nulls es region a o x p r n _ e.
     let z = one_laid t rows nulls es region k a o x p r n in
     in_one rows nulls es region a o x p r n (cc) refl)

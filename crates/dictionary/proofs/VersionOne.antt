@@ -7,7 +7,7 @@ use native.Mathlib.Omega.{arith}
 use lib.ListN.{length, take, drop, replicate, length-append, length-replicate}
 use Rattle.numbers.specs.Meaning.{same, position}
 use Rattle.refusal.specs.declared.Refusal.TheVariants.{Short, Dict}
-use Rattle.refusal.specs.Reading.{ok}
+use Rattle.std.specs.Prelude.{Ok}
 use Rattle.hash_table.specs.Promises.{slot, among, Holds, Fits, Inserts}
 use Rattle.hash_table.proofs.Chaining.{among-more, holds_none, insert_old, insert_new}
 use Rattle.refusal.specs.Meaning.{limit}
@@ -34,7 +34,7 @@ sought-first t v s i = record { so = λ es h. let z : i - 0 ≡ i = omega arith 
 
 -- the first of those left
 ones_turn : (t : ℕ) (v : List ℕ) (m : ℕ) (es : List Entry) (s : List ℕ) → OnesFrom t m s es → 0 < m
-    → (k : ℕ) × (value_size Short Dict t s ≡ ok k) × ((more : List Entry) × OnesFrom t (m - 1) (drop (k + 4) s) more × (some_has (value v) es ≡ (same v (take k s) || some_has (value v) more)))
+    → (k : ℕ) × (value_size Short Dict t s ≡ Ok k) × ((more : List Entry) × OnesFrom t (m - 1) (drop (k + 4) s) more × (some_has (value v) es ≡ (same v (take k s) || some_has (value v) more)))
 ones_turn t v m [] s h z = absurd (omega (arith, h.count))
 ones_turn t v m (e ∷ es) s h z =
     let x = stand_first t false h.left s e es (omega (arith, h.within)) h.stand in

@@ -13,7 +13,8 @@ use Rattle.numbers.proofs.Laws.{number_at-drop}
 use Rattle.refusal.specs.declared.Refusal.{Refusal}
 use Rattle.refusal.specs.declared.Refusal.TheVariants.{Short, Dict}
 use Rattle.stored_value.specs.Meaning.{Cell, null, value}
-use Rattle.refusal.specs.Reading.{Out, refuse, ok, check}
+use Rattle.std.specs.Prelude.{Result, Err, Ok}
+use Rattle.refusal.specs.Reading.{check}
 use Rattle.stored_value.specs.Reading.{value_size}
 use Rattle.dictionary.specs.declared.Span.{Span}
 use Rattle.dictionary.specs.declared.BlockEntries.{BlockEntries}
@@ -69,7 +70,7 @@ pub block_on : {t n : ℕ} {x₀ : Cell × Cell} {start : List ℕ} {i : ℕ} {r
 block_on s p e l st = rw (cell_some s (span p e) l) st
 
 pub block_fails : (t n : ℕ) {r : Refusal} (s : List ℕ) (before due : Span) (at : ℕ)
-    → ((q : List Entry × AfterBlock) → (in_block t).reads q n (cell_at s before, cell_at s due) [] (drop at s) ≡ refuse r) → BlockEntriesAt t n before due s at (BlockEntries.Refused r)
+    → ((q : List Entry × AfterBlock) → (in_block t).reads q n (cell_at s before, cell_at s due) [] (drop at s) ≡ Err r) → BlockEntriesAt t n before due s at (BlockEntries.Refused r)
 block_fails t n s before due at h es f = rw append-nil at (h (es, f))
 
 pub block_ends : {t n i : ℕ} {h : Cell} (s : List ℕ) (before due : Span) (at p : ℕ) (last : Span)
@@ -82,7 +83,7 @@ block_ends {n = n} {i = i} s before due at p last st l m a r e =
 
 -- ---- a block: its listing stands at q, with a value that ends at e, and the block at p
 
-listed-first : (t : ℕ) (s : List ℕ) (k : ℕ) (d : Listing) (ds : List Listing) → value_size Short Dict t s ≡ ok k → ListingsFrom t s (d ∷ ds)
+listed-first : (t : ℕ) (s : List ℕ) (k : ℕ) (d : Listing) (ds : List Listing) → value_size Short Dict t s ≡ Ok k → ListingsFrom t s (d ∷ ds)
     → (d ≡ listing k s) × ListingsFrom t (drop (k + 4) s) ds
 unfolding ListingsFrom
 listed-first t s k d ds e l = let q : l.0 ≡ k = cc l.1 in (rw q at l.3, rw q at l.4)
@@ -118,7 +119,7 @@ module _ {t : ℕ} {s : List ℕ} {base q p e : ℕ} {before : Span} {d : Listin
 
   module _ (es : List Entry) (f : AfterEntries) where
     block_turn : blocks_of t (d ∷ ds) (drop base s) (cell_at s before) es (drop p s) f ≡ check (eqb (be_at 4 s e) (p - base)) Dict
-        (number big 4 (refuse Short) (drop p s) (λ n s'. check (leb 1 n && ltb n sign_bit) Dict
+        (number big 4 (Err Short) (drop p s) (λ n s'. check (leb 1 n && ltb n sign_bit) Dict
         (entries_version_two t n (cell_at s before) (cell_at s (span q e)) es s' (λ before es s'. blocks_of t ds (drop base s) before es s' f))))
     unfolding blocks_of
     block_turn =
@@ -128,17 +129,17 @@ module _ {t : ℕ} {s : List ℕ} {base q p e : ℕ} {before : Span} {d : Listin
         let c = cell_some s (span q e) here.value.1 in
         simp (h.0, o, behind_at s base p here.from here.to, c)
 
-    pub block_misplaced : {a : ℕ} → a ≡ be_at 4 s e → (a ≡ p - base → ⊥) → blocks_of t (d ∷ ds) (drop base s) (cell_at s before) es (drop p s) f ≡ refuse Dict
+    pub block_misplaced : {a : ℕ} → a ≡ be_at 4 s e → (a ≡ p - base → ⊥) → blocks_of t (d ∷ ds) (drop base s) (cell_at s before) es (drop p s) f ≡ Err Dict
     unfolding check
     block_misplaced g h = block_turn ∙ simp (← g, ne_eqb _ (p - base) h)
 
     module _ {a : ℕ} (g : a ≡ be_at 4 s e) (h : a ≡ p - base) where
-      block-placed : blocks_of t (d ∷ ds) (drop base s) (cell_at s before) es (drop p s) f ≡ number big 4 (refuse Short) (drop p s) (λ n s'. check (leb 1 n && ltb n sign_bit) Dict
+      block-placed : blocks_of t (d ∷ ds) (drop base s) (cell_at s before) es (drop p s) f ≡ number big 4 (Err Short) (drop p s) (λ n s'. check (leb 1 n && ltb n sign_bit) Dict
           (entries_version_two t n (cell_at s before) (cell_at s (span q e)) es s' (λ before es s'. blocks_of t ds (drop base s) before es s' f)))
       unfolding check
       block-placed = block_turn ∙ simp (← g, eq-eqb a (p - base) h)
 
-      pub block-short : length s - p < 4 → blocks_of t (d ∷ ds) (drop base s) (cell_at s before) es (drop p s) f ≡ refuse Short
+      pub block-short : length s - p < 4 → blocks_of t (d ∷ ds) (drop base s) (cell_at s before) es (drop p s) f ≡ Err Short
       block-short c = block-placed ∙ word_short 4 s p _ c
 
       module _ (r : p + 4 ≤ length s) {n : ℕ} (m : n ≡ be_at 4 s p) where
@@ -146,11 +147,11 @@ module _ {t : ℕ} {s : List ℕ} {base q p e : ℕ} {before : Span} {d : Listin
             (entries_version_two t n (cell_at s before) (cell_at s (span q e)) es (drop (p + 4) s) (λ before es s'. blocks_of t ds (drop base s) before es s' f))
         block_numbered = block-placed ∙ rw m (word_at 4 s p _ r)
 
-        pub block_none : n < 1 → blocks_of t (d ∷ ds) (drop base s) (cell_at s before) es (drop p s) f ≡ refuse Dict
+        pub block_none : n < 1 → blocks_of t (d ∷ ds) (drop base s) (cell_at s before) es (drop p s) f ≡ Err Dict
         unfolding check
         block_none c = block_numbered ∙ simp (lt-leb 1 n c)
 
-        pub block_negative : 1 ≤ n → sign_bit ≤ n → blocks_of t (d ∷ ds) (drop base s) (cell_at s before) es (drop p s) f ≡ refuse Dict
+        pub block_negative : 1 ≤ n → sign_bit ≤ n → blocks_of t (d ∷ ds) (drop base s) (cell_at s before) es (drop p s) f ≡ Err Dict
         unfolding check
         block_negative c u = block_numbered ∙ simp (le-leb 1 n c, le-ltb n sign_bit u)
 
@@ -161,7 +162,7 @@ module _ {t : ℕ} {s : List ℕ} {base q p e : ℕ} {before : Span} {d : Listin
           block-sound = block_numbered ∙ simp (le-leb 1 n c, lt-ltb n sign_bit u)
 
           pub block_refused : {r : Refusal} → BlockEntriesAt t n before (span q e) s (p + 4) (BlockEntries.Refused r)
-              → blocks_of t (d ∷ ds) (drop base s) (cell_at s before) es (drop p s) f ≡ refuse r
+              → blocks_of t (d ∷ ds) (drop base s) (cell_at s before) es (drop p s) f ≡ Err r
           block_refused x = block-sound ∙ x es _
 
           pub block_passed : {next : ℕ} (last : Span) (x : BlockEntriesAt t n before (span q e) s (p + 4) (BlockEntries.To (position next) last))
@@ -205,10 +206,10 @@ module _ {t : ℕ} {ds : List Listing} {base : List ℕ} {i : ℕ} {dir : List �
 
 module _ {t : ℕ} {ds : List Listing} {i sum : ℕ} (s : List ℕ) (base q p : ℕ) (before : Span) (st : InBlocks t ds (drop base s) i (drop q s) (cell_at s before) sum (drop p s)) (lt : i < length ds) where
   pub in_blocks_refused : {r : Refusal} → BlockAt t before s base q p (Block.Refused r)
-      → (f : AfterEntries) → blocks_of t ds (drop base s) null [] (drop base s) f ≡ refuse r
+      → (f : AfterEntries) → blocks_of t ds (drop base s) null [] (drop base s) f ≡ Err r
   in_blocks_refused {r} x f = st.so f ∙ by st.left st.listed (omega (arith, st.count))
     where
-      by : (left : List Listing) → ListingsFrom t (drop q s) left → 0 < length left → blocks_of t left (drop base s) (cell_at s before) st.es (drop p s) f ≡ refuse r
+      by : (left : List Listing) → ListingsFrom t (drop q s) left → 0 < length left → blocks_of t left (drop base s) (cell_at s before) st.es (drop p s) f ≡ Err r
       by [] l z = absurd (omega arith)
       by (d ∷ left) l z = x d left l st.es f
 
@@ -241,9 +242,9 @@ fit_none n b h = rw (eq-eqb n 0 h)
 pub fit_some : (n b : ℕ) → (n ≡ 0 → ⊥) → leb 1 b ≡ cond (eqb n 0) (eqb b 0) (leb 1 b)
 fit_some n b h = rw (ne_eqb n 0 h)
 
-abbrev behind_blocks : (t rows n : ℕ) (ns : List Entry) (offset : ℕ) (base : List ℕ) (es : List Entry) (region : List ℕ) → Out Refusal Dictionary
+abbrev behind_blocks : (t rows n : ℕ) (ns : List Entry) (offset : ℕ) (base : List ℕ) (es : List Entry) (region : List ℕ) → Result Dictionary Refusal
 behind_blocks t rows n ns offset base es region =
-    check (eqb offset (behind base region)) Dict (check (eqb (length es) n) Dict (ok (record { rows = rows; entries = ns ++ es; region = region })))
+    check (eqb offset (behind base region)) Dict (check (eqb (length es) n) Dict (Ok (record { rows = rows; entries = ns ++ es; region = region })))
 
 module _ (t n : ℕ) (s : List ℕ) (at : ℕ) where
   pub two-count : {r : Refusal} → CountAt most_blocks s at (Count.Refused r) → AllEntriesAt true t n s at (AllEntries.Refused r)
@@ -252,7 +253,7 @@ module _ (t n : ℕ) (s : List ℕ) (at : ℕ) where
 
   module _ {b : ℕ} (x : CountAt most_blocks s at (Is b)) where
     two_counted : (rows : ℕ) (ns : List Entry) → blocked t rows n ns (drop at s) ≡ check (cond (eqb n 0) (eqb b 0) (leb 1 b)) Dict
-        (listings t b [] (drop (at + 4) s) (λ ds s'. number big 4 (refuse Short) s' (λ offset base. blocks_of t ds base null [] base (behind_blocks t rows n ns offset base))))
+        (listings t b [] (drop (at + 4) s) (λ ds s'. number big 4 (Err Short) s' (λ offset base. blocks_of t ds base null [] base (behind_blocks t rows n ns offset base))))
     unfolding blocked
     two_counted rows ns = x.0 _
 
@@ -262,7 +263,7 @@ module _ (t n : ℕ) (s : List ℕ) (at : ℕ) where
 
     module _ {y : Bool} (g : y ≡ cond (eqb n 0) (eqb b 0) (leb 1 b)) (fit : y ≡ true) where
       two_fit : (rows : ℕ) (ns : List Entry) → blocked t rows n ns (drop at s)
-          ≡ listings t b [] (drop (at + 4) s) (λ ds s'. number big 4 (refuse Short) s' (λ offset base. blocks_of t ds base null [] base (behind_blocks t rows n ns offset base)))
+          ≡ listings t b [] (drop (at + 4) s) (λ ds s'. number big 4 (Err Short) s' (λ offset base. blocks_of t ds base null [] base (behind_blocks t rows n ns offset base)))
       unfolding check
       two_fit rows ns = two_counted rows ns ∙ simp (← g, fit)
 
@@ -286,7 +287,7 @@ module _ (t n : ℕ) (s : List ℕ) (at : ℕ) where
             es = (z.0 d.0 d.2).0
 
             two-read : (rows : ℕ) (ns : List Entry) → blocked t rows n ns (drop at s) ≡ check (eqb offset (next - (e + 4))) Dict (check (eqb sum n) Dict
-                (ok (record { rows = rows; entries = ns ++ es; region = drop next s })))
+                (Ok (record { rows = rows; entries = ns ++ es; region = drop next s })))
             unfolding es
             two-read rows ns =
                 two-opened rows ns ∙ (z.0 d.0 d.2).1 _

@@ -11,7 +11,8 @@ use borrow.Author.Tests.{leb-true, leb-false, le-leb, lt-leb}
 use Rattle.numbers.specs.Meaning.{big, be_at, number}
 use Rattle.refusal.specs.declared.Refusal.{Refusal}
 use Rattle.refusal.specs.declared.Refusal.TheVariants.{Short, Dict}
-use Rattle.refusal.specs.Reading.{Out, refuse, ok, check, and_then}
+use Rattle.std.specs.Prelude.{Result, Err, Ok}
+use Rattle.refusal.specs.Reading.{check, and_then}
 use Rattle.refusal.proofs.Laws.{then_same}
 use Rattle.stored_value.specs.Meaning.{Cell, null, value}
 use Rattle.stored_value.specs.Reading.{value_size, value_of}
@@ -23,14 +24,14 @@ use Rattle.dictionary.proofs.Steps.{word_test, word_at, word_short, drop_past, s
 
 -- ---- a step: a value at the front of s that keeps a rule, and w bytes behind it; what follows is told how long the value is
 
-abbrev step_of : {A : Type 0} (t w : ℕ) (rule : List ℕ → Bool) (s : List ℕ) (f : ℕ → Out Refusal A) → Out Refusal A
+abbrev step_of : {A : Type 0} (t w : ℕ) (rule : List ℕ → Bool) (s : List ℕ) (f : ℕ → Result A Refusal) → Result A Refusal
 step_of t w rule s f = and_then (value_size Short Dict t s) (λ k. check (rule (take k s)) Dict (check (leb (k + w) (length s)) Short (f k)))
 
 -- items, each a value and w bytes, that are read one after another: `reads q m x is s` has m of them to come at the front of s, and `is` before. `x` is what
 -- the rule of the next goes by, and `on x v` the same behind the value v. `item k s` is the item whose value takes the k bytes at the front of s. `Stand m
 -- s is` says that the items `is` stand there, m being left
 pub record Walk (t w : ℕ) (Q X I : Type 0) : Type 1 where
-  pub reads : Q → ℕ → X → List I → List ℕ → Out Refusal Dictionary
+  pub reads : Q → ℕ → X → List I → List ℕ → Result Dictionary Refusal
   pub rule : X → List I → List ℕ → Bool
   pub on : X → List ℕ → X
   pub item : ℕ → List ℕ → I
@@ -38,7 +39,7 @@ pub record Walk (t w : ℕ) (Q X I : Type 0) : Type 1 where
   pub step : (q : Q) (m : ℕ) (x : X) (is : List I) (s : List ℕ) → 0 < m
       → reads q m x is s ≡ step_of t w (rule x is) s (λ k. reads q (m - 1) (on x (take k s)) (is ++ (item k s ∷ [])) (drop (k + w) s))
   pub none : (m : ℕ) (s : List ℕ) → Stand m s []
-  pub more : (m : ℕ) (s : List ℕ) (k : ℕ) (is : List I) → 0 < m → value_size Short Dict t s ≡ ok k → k + w ≤ length s
+  pub more : (m : ℕ) (s : List ℕ) (k : ℕ) (is : List I) → 0 < m → value_size Short Dict t s ≡ Ok k → k + w ≤ length s
       → Stand (m - 1) (drop (k + w) s) is → Stand m s (item k s ∷ is)
 
 -- i of the n items from `start` on are read, and `rest` is left
@@ -64,18 +65,18 @@ module _ {t w : ℕ} {Q X I : Type 0} {W : Walk t w Q X I} {n : ℕ} {x₀ : X} 
         (λ k. W.reads q (n - i - 1) (W.on x (take k (drop p s))) (st.items ++ (W.item k (drop p s) ∷ [])) (drop (k + w) (drop p s)))
     walk_turn q = st.so q ∙ W.step q (n - i) x st.items (drop p s) (omega arith)
 
-    pub walk_refused : {r : Refusal} → ValueAt t s p (ValueEnd.Refused r) → (q : Q) → W.reads q n x₀ [] start ≡ refuse r
+    pub walk_refused : {r : Refusal} → ValueAt t s p (ValueEnd.Refused r) → (q : Q) → W.reads q n x₀ [] start ≡ Err r
     unfolding and_then
     walk_refused v q = walk_turn q ∙ rw v
 
     -- and ends at e
     module _ (e : ℕ) (v : EndsAt t s p e) where
-      pub walk_barred : W.rule x st.items (take (e - p) (drop p s)) ≡ false → (q : Q) → W.reads q n x₀ [] start ≡ refuse Dict
+      pub walk_barred : W.rule x st.items (take (e - p) (drop p s)) ≡ false → (q : Q) → W.reads q n x₀ [] start ≡ Err Dict
       unfolding and_then check
       walk_barred b q = walk_turn q ∙ rw (v.0, b)
 
       module _ (b : W.rule x st.items (take (e - p) (drop p s)) ≡ true) where
-        pub walk_short : length s - e < w → (q : Q) → W.reads q n x₀ [] start ≡ refuse Short
+        pub walk_short : length s - e < w → (q : Q) → W.reads q n x₀ [] start ≡ Err Short
         unfolding and_then check
         walk_short h q =
             let l : length (drop p s) < e - p + w = simp length-drop (omega arith) in
@@ -134,7 +135,7 @@ pub listing_none : (t : ℕ) (s : List ℕ) → ListingsFrom t s []
 unfolding ListingsFrom
 listing_none t s = tt
 
-pub listing-more : (t : ℕ) (s : List ℕ) (k : ℕ) (ds : List Listing) → value_size Short Dict t s ≡ ok k → k + 4 ≤ length s → ListingsFrom t (drop (k + 4) s) ds
+pub listing-more : (t : ℕ) (s : List ℕ) (k : ℕ) (ds : List Listing) → value_size Short Dict t s ≡ Ok k → k + 4 ≤ length s → ListingsFrom t (drop (k + 4) s) ds
     → ListingsFrom t s (listing k s ∷ ds)
 unfolding ListingsFrom
 listing-more t s k ds e l h = (k, e, l, refl, h)
@@ -152,19 +153,19 @@ directory t = record {
 }
 
 -- a block's entries, behind any others; an entry's two numbers are one test
-either : {x : Out Refusal Dictionary} (b : Bool) → x ≡ refuse Short → check b Short x ≡ refuse Short
+either : {x : Result Dictionary Refusal} (b : Bool) → x ≡ Err Short → check b Short x ≡ Err Short
 unfolding check
 either true h = h
 either false h = refl
 
-numbers_test : (s : List ℕ) (k : ℕ) (f : ℕ → ℕ → List ℕ → Out Refusal Dictionary)
-    → number big 4 (refuse Short) (drop k s) (λ offset s'. number big 4 (refuse Short) s' (λ extent s'. f offset extent s'))
+numbers_test : (s : List ℕ) (k : ℕ) (f : ℕ → ℕ → List ℕ → Result Dictionary Refusal)
+    → number big 4 (Err Short) (drop k s) (λ offset s'. number big 4 (Err Short) s' (λ extent s'. f offset extent s'))
     ≡ check (leb (k + 8) (length s)) Short (f (be_at 4 s k) (be_at 4 s (k + 4)) (drop (k + 8) s))
 unfolding check
 numbers_test s k f = go (leb (k + 8) (length s)) refl
   where
     go : (b : Bool) → leb (k + 8) (length s) ≡ b
-        → number big 4 (refuse Short) (drop k s) (λ offset s'. number big 4 (refuse Short) s' (λ extent s'. f offset extent s')) ≡ check b Short (f (be_at 4 s k) (be_at 4 s (k + 4)) (drop (k + 8) s))
+        → number big 4 (Err Short) (drop k s) (λ offset s'. number big 4 (Err Short) s' (λ extent s'. f offset extent s')) ≡ check b Short (f (be_at 4 s k) (be_at 4 s (k + 4)) (drop (k + 8) s))
     go true h =
         let l : k + 8 ≤ length s = leb-true (k + 8) (length s) h in
         let q : k + 4 + 4 ≡ k + 8 = omega arith in
@@ -179,7 +180,7 @@ unfolding entries_version_two value_of
 block_step t zero b h es new s f z = absurd (omega arith)
 block_step t (suc m) b h es new s f z =
     let c : suc m - 1 ≡ m = omega arith in
-    let on : ℕ → ℕ → ℕ → List ℕ → Out Refusal Dictionary = λ k offset extent s'. entries_version_two t m (value (take k s)) null ((es ++ new) ++ (record { cell = value (take k s); offset = offset; extent = extent } ∷ [])) s' f in
+    let on : ℕ → ℕ → ℕ → List ℕ → Result Dictionary Refusal = λ k offset extent s'. entries_version_two t m (value (take k s)) null ((es ++ new) ++ (record { cell = value (take k s); offset = offset; extent = extent } ∷ [])) s' f in
     rw c (then_same (value_size Short Dict t s) _ _ (λ k. rw (numbers_test s k (on k)) (simp append_assoc)))
 
 abbrev pub in_block : (t : ℕ) → Walk t 8 (List Entry × AfterBlock) (Cell × Cell) Entry

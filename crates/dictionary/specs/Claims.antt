@@ -1,9 +1,8 @@
 -- What a dictionary's layout and its reading have to do with each other. proofs/Theorems proves each claim.
-use Rattle.std.specs.Prelude.{◌≡◌, ℕ, ◌≤◌, ◌<◌, false, List, [], ◌∷◌, ◌++◌, length}
+use Rattle.std.specs.Prelude.{◌≡◌, ℕ, ◌≤◌, ◌<◌, false, List, [], ◌∷◌, ◌++◌, length, Err, Ok}
 use Rattle.numbers.specs.Meaning.{joined, Bytes}
 use Rattle.refusal.specs.Meaning.{limit}
 use Rattle.refusal.specs.declared.Refusal.TheVariants.{Version, Literal}
-use Rattle.refusal.specs.Reading.{refuse, ok}
 use Rattle.stored_value.specs.Meaning.{types, null}
 use Rattle.dictionary.specs.Layout.{Entry, most_values1, most_values2, most_blocks, Patterns, NullOnly, some_has, Distinct, NoExtents, body1, Rises, NoneEmpty, body2}
 use Rattle.dictionary.specs.Reading.{Dictionary, dictionary}
@@ -19,18 +18,18 @@ pub data LaidOut (t : ℕ) (s : List ℕ) (d : Dictionary) : Type 0 where
 
 -- 1. A dictionary that is laid out is read: as its rows and its entries, null's first, with what lies behind it left over.
 abbrev pub LaidOutIsRead : Type 0
-LaidOutIsRead = (t : ℕ) (s : List ℕ) (d : Dictionary) → t < types → LaidOut t s d → dictionary t s ≡ ok d
+LaidOutIsRead = (t : ℕ) (s : List ℕ) (d : Dictionary) → t < types → LaidOut t s d → dictionary t s ≡ Ok d
 
 -- 2. Bytes that are read were laid out, for the rows and the entries that were read, and the type is known.
 abbrev pub ReadIsLaidOut : Type 0
-ReadIsLaidOut = (t : ℕ) (s : List ℕ) (d : Dictionary) → Bytes s → length s ≤ limit → dictionary t s ≡ ok d → (t < types) × LaidOut t s d
+ReadIsLaidOut = (t : ℕ) (s : List ℕ) (d : Dictionary) → Bytes s → length s ≤ limit → dictionary t s ≡ Ok d → (t < types) × LaidOut t s d
 
 -- 3. An unknown type is refused, whatever the bytes; and a body whose first byte is neither 1 nor 2 is refused for its version, whatever follows.
 abbrev pub UnknownTypeIsRefused : Type 0
-UnknownTypeIsRefused = (t : ℕ) (s : List ℕ) → types ≤ t → dictionary t s ≡ refuse Literal
+UnknownTypeIsRefused = (t : ℕ) (s : List ℕ) → types ≤ t → dictionary t s ≡ Err Literal
 
 abbrev pub UnknownVersionIsRefused : Type 0
-UnknownVersionIsRefused = (t v : ℕ) (s : List ℕ) → t < types → (v ≡ 1 → ⊥) → (v ≡ 2 → ⊥) → dictionary t (v ∷ s) ≡ refuse Version
+UnknownVersionIsRefused = (t v : ℕ) (s : List ℕ) → t < types → (v ≡ 1 → ⊥) → (v ≡ 2 → ⊥) → dictionary t (v ∷ s) ≡ Err Version
 
 -- 4. Each cell stands once among the entries.
 abbrev pub Once : List Entry → Type 0

@@ -1,10 +1,10 @@
 -- What the code's answers say, in the reading's terms: first the public functions', then the private ones'.
-use Rattle.std.specs.Prelude.{ℕ, ◌+◌, ◌-◌, ◌≤◌, ◌<◌, ◌≡◌, Bool, true, false, cond, List, [], ◌∷◌, ◌++◌, eqb, ltb, leb, ℤ, pos, length, take, drop, get_or}
+use Rattle.std.specs.Prelude.{ℕ, ◌+◌, ◌-◌, ◌≤◌, ◌<◌, ◌≡◌, Bool, true, false, cond, List, [], ◌∷◌, ◌++◌, eqb, ltb, leb, ℤ, pos, length, take, drop, get_or, Result, Err, Ok}
 use Rattle.std.specs.Int.{w32}
 use Rattle.std.proofs.Common.{of_z}
 use Rattle.numbers.specs.Meaning.{be_at, signed32, sign_bit, minus_one_32, four_bytes, position}
 use Rattle.refusal.specs.Meaning.{number_of}
-use Rattle.refusal.specs.Reading.{Out, refuse, ok, numbers_of}
+use Rattle.refusal.specs.Reading.{numbers_of}
 use Rattle.refusal.specs.declared.Refusal.{Refusal}
 use Rattle.refusal.specs.declared.Refusal.TheVariants.{Short, Dict}
 use Rattle.stored_value.specs.Meaning.{types, Cell, null, value}
@@ -52,7 +52,7 @@ unfoldable pub EntriesFrom : ℕ → Bool → ℕ → List ℕ → List Entry �
 EntriesFrom t version2 left s [] = Unit {0}
 EntriesFrom t version2 left s (e ∷ es) =
     (opening left ≤ length s) × (1 ≤ left_in left s)
-    × ((k : ℕ) × (value_size Short Dict t (drop (opening left) s) ≡ ok k) × (k + tail version2 ≤ length (drop (opening left) s))
+    × ((k : ℕ) × (value_size Short Dict t (drop (opening left) s) ≡ Ok k) × (k + tail version2 ≤ length (drop (opening left) s))
     × (e ≡ entry_of version2 k (drop (opening left) s)) × EntriesFrom t version2 (left_in left s - 1) (drop (k + tail version2) (drop (opening left) s)) es)
 
 -- the entries es stand one after another at a cursor
@@ -90,12 +90,12 @@ pub record Summarizes (t : ℕ) (s : List ℕ) (h : Summary) (es : List Entry) :
 -- the bytes are read as a dictionary with this summary
 pub record IsRead (t : ℕ) (s : List ℕ) (h : Summary) : Type 0 where
   pub entries : List Entry
-  pub so : dictionary t s ≡ ok (dictionary_of s h entries)
+  pub so : dictionary t s ≡ Ok (dictionary_of s h entries)
   pub summary : Summarizes t s h entries
 
 -- the reading's refusal, or the reading's dictionary
 abbrev pub SaysDictionary : ℕ → List ℕ → Checked → Type 0
-SaysDictionary t s (Checked.Refused r) = dictionary t s ≡ refuse r
+SaysDictionary t s (Checked.Refused r) = dictionary t s ≡ Err r
 SaysDictionary t s (Found h) = IsRead t s h
 
 -- the answer in numbers: its own, 0 or the refusal's; and the row count and the number of entries, null's among them
@@ -124,9 +124,9 @@ abbrev pub entry_ending : Bool → List ℕ → Cursor → ℕ → EntryAt
 entry_ending version2 s c e =
     record { start = c.at; end = position e; offset = signed32 (be_at 4 s e); extent = stored_extent_at version2 e s; next = cursor (e + tail version2) (c.left - 1) }
 
-unfoldable pub entry_of_size : Bool → List ℕ → Cursor → Out Refusal ℕ → EntryAt
-entry_of_size version2 s c (refuse r) = no_entry_there
-entry_of_size version2 s c (ok k) = cond (leb (c.at.0 + k + tail version2) (length s)) (entry_ending version2 s c (c.at.0 + k)) no_entry_there
+unfoldable pub entry_of_size : Bool → List ℕ → Cursor → Result ℕ Refusal → EntryAt
+entry_of_size version2 s c (Err r) = no_entry_there
+entry_of_size version2 s c (Ok k) = cond (leb (c.at.0 + k + tail version2) (length s)) (entry_ending version2 s c (c.at.0 + k)) no_entry_there
 
 -- the first of the entries left in a block that is open
 unfoldable pub entry_in_block : ℕ → Bool → List ℕ → Cursor → EntryAt
@@ -158,27 +158,27 @@ pub record NextAt (t : ℕ) (version2 : Bool) (s : List ℕ) (c : Cursor) (a : E
 -- ---- the private functions: what is said for anything that is read behind a count, listings, entries, a block's entries
 
 abbrev pub AfterCount : Type 0
-AfterCount = ℕ → List ℕ → Out Refusal Dictionary
+AfterCount = ℕ → List ℕ → Result Dictionary Refusal
 
 abbrev pub AfterListings : Type 0
-AfterListings = List Listing → List ℕ → Out Refusal Dictionary
+AfterListings = List Listing → List ℕ → Result Dictionary Refusal
 
 abbrev pub AfterEntries : Type 0
-AfterEntries = List Entry → List ℕ → Out Refusal Dictionary
+AfterEntries = List Entry → List ℕ → Result Dictionary Refusal
 
 abbrev pub AfterBlock : Type 0
-AfterBlock = Cell → List Entry → List ℕ → Out Refusal Dictionary
+AfterBlock = Cell → List Entry → List ℕ → Result Dictionary Refusal
 
 -- a value stands at a position, and where it ends
 abbrev pub StandsAt : ℕ → List ℕ → ℕ → Type 0
-StandsAt t s at = (k : ℕ) × (value_size Short Dict t (drop at s) ≡ ok k)
+StandsAt t s at = (k : ℕ) × (value_size Short Dict t (drop at s) ≡ Ok k)
 
 abbrev pub EndsAt : ℕ → List ℕ → ℕ → ℕ → Type 0
-EndsAt t s at e = (value_size Short Dict t (drop at s) ≡ ok (e - at)) × (at < e) × (e ≤ length s)
+EndsAt t s at e = (value_size Short Dict t (drop at s) ≡ Ok (e - at)) × (at < e) × (e ≤ length s)
 
 -- what is read of any bytes at a position as a value
 abbrev pub ValueAt : ℕ → List ℕ → ℕ → ValueEnd → Type 0
-ValueAt t s at (ValueEnd.Refused r) = value_size Short Dict t (drop at s) ≡ refuse r
+ValueAt t s at (ValueEnd.Refused r) = value_size Short Dict t (drop at s) ≡ Err r
 ValueAt t s at (ValueEnd.To e) = EndsAt t s at e.0
 
 -- i entries es of version 1 stand at the front of s, of `left` in all
@@ -194,7 +194,7 @@ HasValueAt t i s at v r = (es : List Entry) → OnesFrom t i (drop at s) es → 
 
 -- a count at a position
 abbrev pub CountAt : ℕ → List ℕ → ℕ → Count → Type 0
-CountAt most s at (Count.Refused r) = (f : AfterCount) → count_at_most most (drop at s) f ≡ refuse r
+CountAt most s at (Count.Refused r) = (f : AfterCount) → count_at_most most (drop at s) f ≡ Err r
 CountAt most s at (Count.Is n) =
     ((f : AfterCount) → count_at_most most (drop at s) f ≡ f n (drop (at + 4) s)) × (at + 4 ≤ length s) × (n ≤ most)
 
@@ -204,13 +204,13 @@ OffsetAt s at z = (z ≡ signed32 (be_at 4 s at)) × (be_at 4 s at < four_bytes)
 
 -- null's entry, if there is one, at a position
 abbrev pub NullAt : Bool → Bool → List ℕ → ℕ → Null → Type 0
-NullAt version2 has s at (Null.Refused r) = (f : AfterEntries) → null_of version2 has (drop at s) f ≡ refuse r
+NullAt version2 has s at (Null.Refused r) = (f : AfterEntries) → null_of version2 has (drop at s) f ≡ Err r
 NullAt version2 has s at (Null.Numbers offset extent next) =
     ((f : AfterEntries) → null_of version2 has (drop at s) f ≡ f (nulls has offset extent) (drop next.0 s)) × (next.0 ≤ length s)
     × (has ≡ false → (offset ≡ pos 0) × (extent ≡ 0))
 
 -- the entries of either version
-abbrev pub entries_of : Bool → ℕ → ℕ → ℕ → List Entry → List ℕ → Out Refusal Dictionary
+abbrev pub entries_of : Bool → ℕ → ℕ → ℕ → List Entry → List ℕ → Result Dictionary Refusal
 entries_of version2 t rows n ns s = cond version2 (blocked t rows n ns s) (entries_version_one t rows n ns [] s)
 
 -- 01's limit on the value number of each version
@@ -219,7 +219,7 @@ value_limit version2 = cond version2 most_values2 most_values1
 
 -- the ten bytes that every dictionary of a known type begins with
 abbrev pub FixedOf : List ℕ → Fixed → Type 0
-FixedOf s (Fixed.Refused r) = (t : ℕ) → t < types → dictionary t s ≡ refuse r
+FixedOf s (Fixed.Refused r) = (t : ℕ) → t < types → dictionary t s ≡ Err r
 FixedOf s (Fixed.Fields version2 has rows values) =
     ((t : ℕ) → t < types → dictionary t s ≡ null_of version2 has (drop 10 s) (λ ns s. entries_of version2 t rows values ns s)) × (10 ≤ length s)
     × (version2 ≡ eqb (get_or s 0 0) 2) × (values ≤ value_limit version2)
@@ -230,18 +230,18 @@ FixedOf s (Fixed.Fields version2 has rows values) =
 unfoldable pub ListingsFrom : ℕ → List ℕ → List Listing → Type 0
 ListingsFrom t s [] = Unit {0}
 ListingsFrom t s (d ∷ ds) =
-    (k : ℕ) × (value_size Short Dict t s ≡ ok k) × (k + 4 ≤ length s) × (d ≡ record { first = take k s; at = be_at 4 s k }) × ListingsFrom t (drop (k + 4) s) ds
+    (k : ℕ) × (value_size Short Dict t s ≡ Ok k) × (k + 4 ≤ length s) × (d ≡ record { first = take k s; at = be_at 4 s k }) × ListingsFrom t (drop (k + 4) s) ds
 
 -- n listings ds stand there; and one does
 abbrev pub DirectoryFrom : ℕ → ℕ → List ℕ → List Listing → Type 0
 DirectoryFrom t n s ds = ListingsFrom t s ds × (length ds ≡ n)
 
 abbrev pub ListingFrom : ℕ → List ℕ → Type 0
-ListingFrom t s = (k : ℕ) × (value_size Short Dict t s ≡ ok k) × (k + 4 ≤ length s)
+ListingFrom t s = (k : ℕ) × (value_size Short Dict t s ≡ Ok k) × (k + 4 ≤ length s)
 
 -- what is read of any bytes at a position as n listings, and where they end
 abbrev pub DirectoryAt : ℕ → ℕ → List ℕ → ℕ → Directory → Type 0
-DirectoryAt t n s at (Directory.Refused r) = (f : AfterListings) → listings t n [] (drop at s) f ≡ refuse r
+DirectoryAt t n s at (Directory.Refused r) = (f : AfterListings) → listings t n [] (drop at s) f ≡ Err r
 DirectoryAt t n s at (Directory.Ends next) =
     (ds : List Listing) × ((f : AfterListings) → listings t n [] (drop at s) f ≡ f ds (drop next.0 s))
     × DirectoryFrom t n (drop at s) ds × (next.0 ≤ length s)
@@ -256,7 +256,7 @@ cell_at s c = cond (ltb c.start.0 c.end.0) (value (bytes_at s c)) null
 -- n entries of a block at a position, behind the value `before`, where the value `due` is due: where they end, and the last value
 abbrev pub BlockEntriesAt : ℕ → ℕ → Span → Span → List ℕ → ℕ → BlockEntries → Type 0
 BlockEntriesAt t n before due s at (BlockEntries.Refused r) =
-    (es : List Entry) (f : AfterBlock) → entries_version_two t n (cell_at s before) (cell_at s due) es (drop at s) f ≡ refuse r
+    (es : List Entry) (f : AfterBlock) → entries_version_two t n (cell_at s before) (cell_at s due) es (drop at s) f ≡ Err r
 BlockEntriesAt t n before due s at (BlockEntries.To next last) =
     ((new : List Entry) × ((es : List Entry) (f : AfterBlock)
     → entries_version_two t n (cell_at s before) (cell_at s due) es (drop at s) f ≡ f (cell_at s last) (es ++ new) (drop next.0 s))
@@ -267,7 +267,7 @@ BlockEntriesAt t n before due s at (BlockEntries.To next last) =
 abbrev pub BlockAt : ℕ → Span → List ℕ → ℕ → ℕ → ℕ → Block → Type 0
 BlockAt t before s base q p (Block.Refused r) =
     (d : Listing) (ds : List Listing) → ListingsFrom t (drop q s) (d ∷ ds)
-    → (es : List Entry) (f : AfterEntries) → blocks_of t (d ∷ ds) (drop base s) (cell_at s before) es (drop p s) f ≡ refuse r
+    → (es : List Entry) (f : AfterEntries) → blocks_of t (d ∷ ds) (drop base s) (cell_at s before) es (drop p s) f ≡ Err r
 BlockAt t before s base q p (Block.Ends listing next last number) =
     ((d : Listing) (ds : List Listing) → ListingsFrom t (drop q s) (d ∷ ds) → ListingsFrom t (drop listing.0 s) ds
     × ((new : List Entry) × ((es : List Entry) (f : AfterEntries)
@@ -279,7 +279,7 @@ BlockAt t before s base q p (Block.Ends listing next last number) =
 abbrev pub BlocksAt : ℕ → ℕ → List ℕ → ℕ → ℕ → Blocks → Type 0
 BlocksAt t b s dir base (Blocks.Refused r) =
     (ds : List Listing) → DirectoryFrom t b (drop dir s) ds
-    → (f : AfterEntries) → blocks_of t ds (drop base s) null [] (drop base s) f ≡ refuse r
+    → (f : AfterEntries) → blocks_of t ds (drop base s) null [] (drop base s) f ≡ Err r
 BlocksAt t b s dir base (Blocks.End next sum) =
     ((ds : List Listing) → DirectoryFrom t b (drop dir s) ds
     → (es : List Entry) × ((f : AfterEntries) → blocks_of t ds (drop base s) null [] (drop base s) f ≡ f es (drop next.0 s))
@@ -288,7 +288,7 @@ BlocksAt t b s dir base (Blocks.End next sum) =
 
 -- the n entries of either version at a position: the cursor before the first, and where the region of bitmaps begins
 abbrev pub AllEntriesAt : Bool → ℕ → ℕ → List ℕ → ℕ → AllEntries → Type 0
-AllEntriesAt version2 t n s at (AllEntries.Refused r) = (rows : ℕ) (ns : List Entry) → entries_of version2 t rows n ns (drop at s) ≡ refuse r
+AllEntriesAt version2 t n s at (AllEntries.Refused r) = (rows : ℕ) (ns : List Entry) → entries_of version2 t rows n ns (drop at s) ≡ Err r
 AllEntriesAt version2 t n s at (AllEntries.Sound first region) =
-    (es : List Entry) × ((rows : ℕ) (ns : List Entry) → entries_of version2 t rows n ns (drop at s) ≡ ok (record { rows = rows; entries = ns ++ es; region = drop region.0 s }))
+    (es : List Entry) × ((rows : ℕ) (ns : List Entry) → entries_of version2 t rows n ns (drop at s) ≡ Ok (record { rows = rows; entries = ns ++ es; region = drop region.0 s }))
     × (length es ≡ n) × EntriesAt t version2 s first es × (first.left ≡ cond version2 0 n) × (first.at.0 ≤ length s) × (region.0 ≤ length s)

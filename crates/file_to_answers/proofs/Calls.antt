@@ -8,7 +8,8 @@ use Rattle.numbers.specs.Meaning.{Bytes}
 use Rattle.numbers.specs.declared.Position.{Position}
 use Rattle.refusal.specs.Meaning.{number_of}
 use Rattle.refusal.specs.declared.Refusal.{Refusal}
-use Rattle.refusal.specs.Reading.{Out, refuse, ok, and_then, numbers_of, fault_in}
+use Rattle.std.specs.Prelude.{Result, Err, Ok}
+use Rattle.refusal.specs.Reading.{and_then, numbers_of, fault_in}
 use Rattle.subtract.specs.Meaning.{no_record}
 use Rattle.index_file.specs.declared.Located.{Located}
 use Rattle.index_file.specs.Reading.{Part, Sought, found, absent, find, located_by, sought_numbers}
@@ -41,16 +42,16 @@ bytes-looked_at (x ∷ embedded) file a b = a
 
 -- ---- the reading of an answer
 
-abbrev reading_of : Located → Out Refusal (Sought Part)
-reading_of (Located.Found start size) = ok (found (record { start = start; length = size }))
-reading_of Located.Absent = ok absent
-reading_of (Located.Refused r) = refuse r
+abbrev reading_of : Located → Result (Sought Part) Refusal
+reading_of (Located.Found start size) = Ok (found (record { start = start; length = size }))
+reading_of Located.Absent = Ok absent
+reading_of (Located.Refused r) = Err r
 
-reading_back : (o : Out Refusal (Sought Part)) → reading_of (located_by o) ≡ o
+reading_back : (o : Result (Sought Part) Refusal) → reading_of (located_by o) ≡ o
 unfolding located_by
-reading_back (refuse r) = refl
-reading_back (ok absent) = refl
-reading_back (ok (found p)) = refl
+reading_back (Err r) = refl
+reading_back (Ok absent) = refl
+reading_back (Ok (found p)) = refl
 
 module _ (bytes column kind : List ℕ) {l : Located} (e : l ≡ located_by (find bytes column kind)) where
   was_read : {case : Located} → l ≡ case → find bytes column kind ≡ reading_of case
@@ -81,26 +82,26 @@ module _ (bytes column kind : List ℕ) {l : Located} (e : l ≡ located_by (fin
 -- ---- Locate, then Ask
 
 -- Ask's answer as the one call's, its numbers and its fault
-asked : (o : Out Refusal Answer) → FileAnswer.Answered (answered_by o) ≡ file_answer_by (and_then o (λ a. ok (found a)))
+asked : (o : Result Answer Refusal) → FileAnswer.Answered (answered_by o) ≡ file_answer_by (and_then o (λ a. Ok (found a)))
 unfolding file_answer_by and_then answered_by
-asked (refuse r) = refl
-asked (ok a) = refl
+asked (Err r) = refl
+asked (Ok a) = refl
 
-numbered : (o : Out Refusal Answer) → numbers_of no_record ask_numbers o ≡ numbers_of no_record ask_file_numbers (and_then o (λ a. ok (found a)))
+numbered : (o : Result Answer Refusal) → numbers_of no_record ask_numbers o ≡ numbers_of no_record ask_file_numbers (and_then o (λ a. Ok (found a)))
 unfolding numbers_of and_then ask_file_numbers
-numbered (refuse r) = refl
-numbered (ok a) = refl
+numbered (Err r) = refl
+numbered (Ok a) = refl
 
-at_fault : (o : Out Refusal Answer) → fault_in o ≡ fault_in (and_then o (λ a. ok (found a)))
+at_fault : (o : Result Answer Refusal) → fault_in o ≡ fault_in (and_then o (λ a. Ok (found a)))
 unfolding fault_in and_then
-at_fault (refuse r) = refl
-at_fault (ok a) = refl
+at_fault (Err r) = refl
+at_fault (Ok a) = refl
 
 -- for any bytes, and so for a column's file
 abbrev pub Promise : (bytes column kind : List ℕ) (t : ℕ) (q : Question) (literals before after : List ℕ) → FileAnswer → Type 0
 Promise bytes column kind t q literals before after r =
     AskFilePromise bytes column kind t q literals before after r
-    × FileAsScan bytes column kind t q literals before (λ a. (r ≡ file_answer_by (ok (found a))) × (after ≡ a.buffer))
+    × FileAsScan bytes column kind t q literals before (λ a. (r ≡ file_answer_by (Ok (found a))) × (after ≡ a.buffer))
 
 module _ (bytes column kind : List ℕ) (t : ℕ) (q : Question) (literals before : List ℕ) (b : Bytes before) where
   both : {after : List ℕ} {r : FileAnswer} → AskFilePromise bytes column kind t q literals before after r → Promise bytes column kind t q literals before after r

@@ -6,7 +6,8 @@ use native.Mathlib.Omega.{arith}
 use borrow.Author.Tests.{le-leb}
 use lib.ListN.{length, drop, length-append}
 use Rattle.refusal.specs.Meaning.{limit}
-use Rattle.refusal.specs.Reading.{ok, check, and_then}
+use Rattle.std.specs.Prelude.{Ok}
+use Rattle.refusal.specs.Reading.{check, and_then}
 use Rattle.row_field.specs.Meaning.{size, count}
 use Rattle.row_field.proofs.Fronts.{rows-front}
 use Rattle.subtract.specs.Meaning.{subtracted, removed}
@@ -53,7 +54,7 @@ module _ (q : Question) (ls : List (List ℕ)) (cells : List Cell) (field g : Li
   buffer_left = rw (le-leb n limit small, le-leb (size n) (length (f ++ behind)) first-room, le-leb (size n) (length g) room) rows_left
 
   pub drawn_from : (a : RecordCounts)
-      × (record_subtraction (scan_answer q ls cells field).said (scan_answer q ls cells field).buffer g ≡ ok a) × DrawnFrom q ls cells g a
+      × (record_subtraction (scan_answer q ls cells field).said (scan_answer q ls cells field).buffer g ≡ Ok a) × DrawnFrom q ls cells g a
   unfolding record_subtraction subtraction check and_then scan_record
   drawn_from = (
     record { said = replaced (scan_record q ls cells) (count g n) (count (subtracted n (f ++ behind) g) n); removed = removed n (f ++ behind) g },

@@ -9,7 +9,8 @@ use Rattle.numbers.specs.Meaning.{number, signed32, same, minus_one_32}
 use Rattle.numbers.proofs.ByteLists.{bytes_one}
 use Rattle.refusal.specs.Meaning.{limit}
 use Rattle.refusal.specs.declared.Refusal.TheVariants.{Range}
-use Rattle.refusal.specs.Reading.{refuse, check, and_then, numbers_of}
+use Rattle.std.specs.Prelude.{Err}
+use Rattle.refusal.specs.Reading.{check, and_then, numbers_of}
 use Rattle.row_field.specs.Meaning.{bit, mark, mark_all, any_set, zeroed, up_to, rows_from}
 use Rattle.subtract.specs.Meaning.{keeps}
 use Rattle.roaring.specs.Layout.{Bitmap, plain-bitmap, flagged-bitmap, array, runs}
@@ -122,7 +123,7 @@ run-bitmap =
     flagged-bitmap (record { key = 0; body = runs (record { start = 1; more = 3 } ∷ []) } ∷ []) (omega arith) (omega arith)
     (omega arith, omega arith, (omega arith, omega arith, (omega arith, omega arith, tt)), tt, tt)
 
-always : (entry extent n : ℕ) (region field : List ℕ) → n ≤ limit → entry_placed entry (signed32 0x80000000) extent n region field ≡ refuse (Range entry)
+always : (entry extent n : ℕ) (region field : List ℕ) → n ≤ limit → entry_placed entry (signed32 0x80000000) extent n region field ≡ Err (Range entry)
 unfolding entry_placed check
 always entry extent n region field h = rw (le-ltb 2147483647 n h)
 

@@ -7,7 +7,8 @@ use native.Mathlib.Decide.{ℕ_discrete}
 use native.Mathlib.Omega.{arith}
 use Rattle.numbers.specs.Meaning.{be_at}
 use Rattle.refusal.specs.declared.Refusal.{Refusal}
-use Rattle.refusal.specs.Reading.{Out, refuse, ok, and_then}
+use Rattle.std.specs.Prelude.{Result, Err, Ok}
+use Rattle.refusal.specs.Reading.{and_then}
 use Rattle.refusal.proofs.Laws.{not-ok, then_ok}
 use Rattle.stored_value.specs.Meaning.{Cell}
 use Rattle.index_file.specs.Layout.{file_version}
@@ -54,34 +55,34 @@ file_gives_the_graph t cells column kind bytes f field g b room room' q ls w =
 
 pub other_version_has_no_part : OtherVersionHasNoPart
 other_version_has_no_part bytes column kind other =
-    let part : Out Refusal (Sought Part) → List ℕ = λ o. part_of o bytes in
+    let part : Result (Sought Part) Refusal → List ℕ = λ o. part_of o bytes in
     ⊎_elim (λ e. ap part e) (⊎_elim (λ e. ap part e) (⊎_elim (λ e. ap part e) (⊎_elim (λ e. ap part e) (λ e. ap part e)))) (other_version_is_not_found bytes column kind other)
 
-refused_is_no_answer : (bytes column kind : List ℕ) (t : ℕ) (q : Question) (literals field : List ℕ) (a : Answer) (r : Refusal) → find bytes column kind ≡ refuse r
-    → file_asked bytes column kind t q literals field ≡ ok (found a) → ⊥
+refused_is_no_answer : (bytes column kind : List ℕ) (t : ℕ) (q : Question) (literals field : List ℕ) (a : Answer) (r : Refusal) → find bytes column kind ≡ Err r
+    → file_asked bytes column kind t q literals field ≡ Ok (found a) → ⊥
 unfolding file_asked and_then
 refused_is_no_answer bytes column kind t q literals field a r e h = not-ok (rw e at h)
 
-known-version : (bytes column kind : List ℕ) (t : ℕ) (q : Question) (literals field : List ℕ) (a : Answer) → file_asked bytes column kind t q literals field ≡ ok (found a)
+known-version : (bytes column kind : List ℕ) (t : ℕ) (q : Question) (literals field : List ℕ) (a : Answer) → file_asked bytes column kind t q literals field ≡ Ok (found a)
     → Dec (be_at 4 bytes 8 ≡ file_version) → be_at 4 bytes 8 ≡ file_version
 known-version bytes column kind t q literals field a h (yes e) = e
 known-version bytes column kind t q literals field a h (no n) =
-    let no_answer : (r : Refusal) → find bytes column kind ≡ refuse r → ⊥ = λ r e. refused_is_no_answer bytes column kind t q literals field a r e h in
+    let no_answer : (r : Refusal) → find bytes column kind ≡ Err r → ⊥ = λ r e. refused_is_no_answer bytes column kind t q literals field a r e h in
     absurd (⊎_elim (no_answer _) (⊎_elim (no_answer _) (⊎_elim (no_answer _) (⊎_elim (no_answer _) (no_answer _)))) (other_version_is_not_found bytes column kind n))
 
-known-body : (t : ℕ) (q : Question) (literals field : List ℕ) (a : Answer) (v : ℕ) (s : List ℕ) → ask t q literals (v ∷ s) field ≡ ok a → Dec (v ≡ 1) → Dec (v ≡ 2) → (v ≡ 1) ⊎ (v ≡ 2)
+known-body : (t : ℕ) (q : Question) (literals field : List ℕ) (a : Answer) (v : ℕ) (s : List ℕ) → ask t q literals (v ∷ s) field ≡ Ok a → Dec (v ≡ 1) → Dec (v ≡ 2) → (v ≡ 1) ⊎ (v ≡ 2)
 known-body t q literals field a v s h (yes e) d = inl e
 known-body t q literals field a v s h (no n) (yes e) = inr e
 known-body t q literals field a v s h (no n) (no n') = absurd ((unknown_version_yields_nothing t q v s literals field n n').1 a h)
 
-known-part : (bytes : List ℕ) (t : ℕ) (q : Question) (literals field : List ℕ) (a : Answer) (o : Out Refusal (Sought Part)) → and_then o (ask_part bytes t q literals field) ≡ ok (found a)
+known-part : (bytes : List ℕ) (t : ℕ) (q : Question) (literals field : List ℕ) (a : Answer) (o : Result (Sought Part) Refusal) → and_then o (ask_part bytes t q literals field) ≡ Ok (found a)
     → (v : ℕ) (s : List ℕ) → part_of o bytes ≡ v ∷ s → (v ≡ 1) ⊎ (v ≡ 2)
 unfolding and_then ask_part
-known-part bytes t q literals field a (refuse r) h v s e = absurd (not-ok h)
-known-part bytes t q literals field a (ok absent) h v s e = absurd (let z : ◌≡◌ {A = ℕ} 0 1 = cc in omega arith)
-known-part bytes t q literals field a (ok (found p)) h v s e =
+known-part bytes t q literals field a (Err r) h v s e = absurd (not-ok h)
+known-part bytes t q literals field a (Ok absent) h v s e = absurd (let z : ◌≡◌ {A = ℕ} 0 1 = cc in omega arith)
+known-part bytes t q literals field a (Ok (found p)) h v s e =
     let t-ok = then_ok (ask t q literals (bytes_of p bytes) field) _ (found a) h in
-    let asked : ask t q literals (v ∷ s) field ≡ ok t-ok.0 = ap (λ (b : List ℕ). ask t q literals b field) (sym e) ∙ t-ok.1 in
+    let asked : ask t q literals (v ∷ s) field ≡ Ok t-ok.0 = ap (λ (b : List ℕ). ask t q literals b field) (sym e) ∙ t-ok.1 in
     known-body t q literals field t-ok.0 v s asked (ℕ_discrete v 1) (ℕ_discrete v 2)
 
 pub answered_versions : AnsweredVersions

@@ -1,8 +1,7 @@
 -- Demand 3, one claim from file to answers: all versions, cuts, forms and editions at once, and over the scan. A reading that refuses everything does not have it.
 -- Then what a graph may claim of such a file once deletions are subtracted, and versions.
-use Rattle.std.specs.Prelude.{ℕ, ◌+◌, ◌≤◌, ◌≡◌, ◌⊎◌, List, [], ◌∷◌, ◌++◌, length, drop}
+use Rattle.std.specs.Prelude.{ℕ, ◌+◌, ◌≤◌, ◌≡◌, ◌⊎◌, List, [], ◌∷◌, ◌++◌, length, drop, Ok}
 use Rattle.numbers.specs.Meaning.{be_at, Bytes, joined}
-use Rattle.refusal.specs.Reading.{ok}
 use Rattle.row_field.specs.Meaning.{size, count}
 use Rattle.subtract.specs.Meaning.{subtracted}
 use Rattle.subtract.specs.Reading.{subtract_buffer, RecordCounts, record_subtraction}
@@ -21,7 +20,7 @@ use Rattle.file_to_answers.specs.Reading.{bytes_looked_at, part_of, file_asked, 
 -- and leaves the field zero, and Ask answers every well-formed question of the type, of either edition, as the scan does, bytes behind the field kept
 pub record FromFileToAnswers (t : ℕ) (cells : List Cell) (column kind bytes : List ℕ) : Type 0 where
   pub part : Part
-  pub is_found : find bytes column kind ≡ ok (found part)
+  pub is_found : find bytes column kind ≡ Ok (found part)
   pub answers : (field : List ℕ) → Bytes field → size (length cells) ≤ length field → AnswersAsScan t cells (part_of (find bytes column kind) bytes) field
 
 -- lent as embedded or as file
@@ -35,7 +34,7 @@ abbrev pub FileIsAnswered : Type 0
 FileIsAnswered =
     (t : ℕ) (cells : List Cell) (column kind bytes : List ℕ) → ColumnFile t cells column kind bytes → (field : List ℕ) → Bytes field
     → size (length cells) ≤ length field → (q : Question) (ls : List (List ℕ)) → WellFormed t q ls
-    → (file_asked bytes column kind t q (joined ls) field ≡ ok (found (scan_answer q ls cells field)))
+    → (file_asked bytes column kind t q (joined ls) field ≡ Ok (found (scan_answer q ls cells field)))
     × (ask_file_buffer bytes column kind t q (joined ls) field ≡ (scan_answer q ls cells field).buffer)
 
 -- ---- 02, Ticket 7: what the graph may claim, from the file to the graph
@@ -52,9 +51,9 @@ pub record DrawnFrom (q : Question) (ls : List (List ℕ)) (cells : List Cell) (
 -- a column's file is asked, and then the rows of g are subtracted with the record of the answer
 pub record FileToGraph (bytes column kind : List ℕ) (t : ℕ) (q : Question) (ls : List (List ℕ)) (cells : List Cell) (field g : List ℕ) : Type 0 where
   pub answer : Answer
-  pub asked : file_asked bytes column kind t q (joined ls) field ≡ ok (found answer)
+  pub asked : file_asked bytes column kind t q (joined ls) field ≡ Ok (found answer)
   pub counts : RecordCounts
-  pub subtracts : record_subtraction answer.said (ask_file_buffer bytes column kind t q (joined ls) field) g ≡ ok counts
+  pub subtracts : record_subtraction answer.said (ask_file_buffer bytes column kind t q (joined ls) field) g ≡ Ok counts
   pub drawn : DrawnFrom q ls cells g counts
   -- the rows that are left: the scan's less those of g, and what lies behind the field as it was
   pub left : subtract_buffer (length cells) (ask_file_buffer bytes column kind t q (joined ls) field) g
@@ -75,5 +74,5 @@ OtherVersionHasNoPart = (bytes column kind : List ℕ) → (be_at 4 bytes 8 ≡ 
 -- unknown versions never yield rows: a file that is answered has version 1, and its body, as Locate hands it back, version 1 or 2
 abbrev pub AnsweredVersions : Type 0
 AnsweredVersions =
-    (bytes column kind : List ℕ) (t : ℕ) (q : Question) (literals field : List ℕ) (a : Answer) → file_asked bytes column kind t q literals field ≡ ok (found a)
+    (bytes column kind : List ℕ) (t : ℕ) (q : Question) (literals field : List ℕ) (a : Answer) → file_asked bytes column kind t q literals field ≡ Ok (found a)
     → (be_at 4 bytes 8 ≡ file_version) × ((v : ℕ) (s : List ℕ) → part_of (find bytes column kind) bytes ≡ v ∷ s → (v ≡ 1) ⊎ (v ≡ 2))

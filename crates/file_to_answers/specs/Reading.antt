@@ -1,8 +1,8 @@
 -- What Locate, and Locate and Ask in turn, answer for any buffers. `bytes` are those of the buffer that is looked at.
-use Rattle.std.specs.Prelude.{ℕ, ◌+◌, ◌≡◌, List, [], ◌∷◌}
+use Rattle.std.specs.Prelude.{ℕ, ◌+◌, ◌≡◌, List, [], ◌∷◌, Result, Err, Ok}
 use Rattle.refusal.specs.declared.Refusal.{Refusal}
 use Rattle.refusal.specs.Meaning.{no_fault}
-use Rattle.refusal.specs.Reading.{Out, refuse, ok, and_then}
+use Rattle.refusal.specs.Reading.{and_then}
 use Rattle.subtract.specs.Meaning.{numbers_of_record, no_record}
 use Rattle.index_file.specs.Reading.{Part, Sought, found, absent, bytes_of, find, found_number, absent_number}
 use Rattle.bitmap_index.specs.declared.Question.{Question}
@@ -23,41 +23,41 @@ abbrev pub bytes_looked_at : List ℕ → List ℕ → List ℕ
 bytes_looked_at embedded file = used embedded embedded file
 
 -- the part of the buffer that is handed back: "With the other answers, ABSENT and a refusal, the part is empty"
-abbrev pub part_of : Out Refusal (Sought Part) → List ℕ → List ℕ
-part_of (refuse r) bytes = []
-part_of (ok absent) bytes = []
-part_of (ok (found p)) bytes = bytes_of p bytes
+abbrev pub part_of : Result (Sought Part) Refusal → List ℕ → List ℕ
+part_of (Err r) bytes = []
+part_of (Ok absent) bytes = []
+part_of (Ok (found p)) bytes = bytes_of p bytes
 
 -- "The body found is handed back as a part of the buffer it lies in .., not a copy": where the part stands in memory, from the buffer's place on. A place is
 -- a pair, of an allocation and an offset in it. With the other answers the part has no bytes, and its place is left open
-abbrev pub HandedBack : Out Refusal (Sought Part) → ℕ × ℕ → ℕ × ℕ → Type 0
-HandedBack (refuse r) buffer place = Unit {0}
-HandedBack (ok absent) buffer place = Unit {0}
-HandedBack (ok (found p)) buffer place = place ≡ (buffer.0, p.start.0 + buffer.1)
+abbrev pub HandedBack : Result (Sought Part) Refusal → ℕ × ℕ → ℕ × ℕ → Type 0
+HandedBack (Err r) buffer place = Unit {0}
+HandedBack (Ok absent) buffer place = Unit {0}
+HandedBack (Ok (found p)) buffer place = place ≡ (buffer.0, p.start.0 + buffer.1)
 
 -- ---- Locate, then Ask on the part that it finds
 
-unfoldable pub ask_part : List ℕ → ℕ → Question → List ℕ → List ℕ → Sought Part → Out Refusal (Sought Answer)
-ask_part bytes t q literals field absent = ok absent
-ask_part bytes t q literals field (found p) = and_then (ask t q literals (bytes_of p bytes) field) (λ a. ok (found a))
+unfoldable pub ask_part : List ℕ → ℕ → Question → List ℕ → List ℕ → Sought Part → Result (Sought Answer) Refusal
+ask_part bytes t q literals field absent = Ok absent
+ask_part bytes t q literals field (found p) = and_then (ask t q literals (bytes_of p bytes) field) (λ a. Ok (found a))
 
-unfoldable pub file_asked : List ℕ → List ℕ → List ℕ → ℕ → Question → List ℕ → List ℕ → Out Refusal (Sought Answer)
+unfoldable pub file_asked : List ℕ → List ℕ → List ℕ → ℕ → Question → List ℕ → List ℕ → Result (Sought Answer) Refusal
 file_asked bytes column kind t q literals field = and_then (find bytes column kind) (ask_part bytes t q literals field)
 
 -- the buffer then: with ABSENT and with a refusal of Locate as it was
-unfoldable pub ask_part_buffer : List ℕ → ℕ → Question → List ℕ → List ℕ → Out Refusal (Sought Part) → List ℕ
-ask_part_buffer bytes t q literals field (refuse r) = field
-ask_part_buffer bytes t q literals field (ok absent) = field
-ask_part_buffer bytes t q literals field (ok (found p)) = ask_buffer t q literals (bytes_of p bytes) field
+unfoldable pub ask_part_buffer : List ℕ → ℕ → Question → List ℕ → List ℕ → Result (Sought Part) Refusal → List ℕ
+ask_part_buffer bytes t q literals field (Err r) = field
+ask_part_buffer bytes t q literals field (Ok absent) = field
+ask_part_buffer bytes t q literals field (Ok (found p)) = ask_buffer t q literals (bytes_of p bytes) field
 
 unfoldable pub ask_file_buffer : List ℕ → List ℕ → List ℕ → ℕ → Question → List ℕ → List ℕ → List ℕ
 ask_file_buffer bytes column kind t q literals field = ask_part_buffer bytes t q literals field (find bytes column kind)
 
 -- the call's answer
-unfoldable pub file_answer_by : Out Refusal (Sought Answer) → FileAnswer
-file_answer_by (refuse r) = FileAnswer.Answered (Answered.Refused r)
-file_answer_by (ok absent) = FileAnswer.Absent
-file_answer_by (ok (found a)) = FileAnswer.Answered (answered_by (ok a))
+unfoldable pub file_answer_by : Result (Sought Answer) Refusal → FileAnswer
+file_answer_by (Err r) = FileAnswer.Answered (Answered.Refused r)
+file_answer_by (Ok absent) = FileAnswer.Absent
+file_answer_by (Ok (found a)) = FileAnswer.Answered (answered_by (Ok a))
 
 -- its number and its record's: Ask's, or ABSENT's and all 0
 unfoldable pub ask_file_out : FileAnswer → ℕ × List ℕ

@@ -1,10 +1,10 @@
 -- 01, "Files written out": the cases marked * stand together in one table, with one statement, `StarredHolds`. The questions are asked in both editions (02,
 -- Ticket 4: "01's NOT EQUAL 7 gives 06 in edition 1, 02 in edition 2"), and answered with the whole record (02, Ticket 7).
-use Rattle.std.specs.Prelude.{ℕ, ◌≤◌, ◌<◌, ◌≡◌, not, List, [], ◌∷◌, ltb, negsuc, length}
+use Rattle.std.specs.Prelude.{ℕ, ◌≤◌, ◌<◌, ◌≡◌, not, List, [], ◌∷◌, ltb, negsuc, length, Err, Ok}
 use Rattle.numbers.specs.Meaning.{All, signed32, four_bytes}
 use Rattle.refusal.specs.Meaning.{limit}
 use Rattle.refusal.specs.declared.Refusal.TheVariants.{Range, Twice}
-use Rattle.refusal.specs.Reading.{refuse, ok, check}
+use Rattle.refusal.specs.Reading.{check}
 use Rattle.row_field.specs.Meaning.{bit, mark}
 use Rattle.subtract.specs.declared.Record.{Record}
 use Rattle.roaring.specs.Layout.{Bitmap}
@@ -71,20 +71,20 @@ abbrev pub Holds : Case → Type 0
 Holds (locates body) =
     ((locate_numbers (find (bytes_looked_at [] file) s bitmap)).0 ≡ 0) × (part_of (find (bytes_looked_at [] file) s bitmap) (bytes_looked_at [] file) ≡ body)
     × ColumnFile 0 cells s bitmap file × (length file ≡ 71)
-Holds (audits body) = (audit 0 body (0xFF ∷ []) ≡ ok 3) × ColumnBody 0 cells body
+Holds (audits body) = (audit 0 body (0xFF ∷ []) ≡ Ok 3) × ColumnBody 0 cells body
 Holds (answers q v field matched answer) =
-    (ask 0 q (v ∷ []) one (0xFF ∷ []) ≡ ok (answer_of field matched))
-    × (ask 0 q (v ∷ []) two (0xFF ∷ []) ≡ ok (answer_of field matched))
-    × (file_asked file s bitmap 0 q (v ∷ []) (0xFF ∷ []) ≡ ok (found (answer_of field matched)))
+    (ask 0 q (v ∷ []) one (0xFF ∷ []) ≡ Ok (answer_of field matched))
+    × (ask 0 q (v ∷ []) two (0xFF ∷ []) ≡ Ok (answer_of field matched))
+    × (file_asked file s bitmap 0 q (v ∷ []) (0xFF ∷ []) ≡ Ok (found (answer_of field matched)))
     × (scan_answer q ((v ∷ []) ∷ []) cells (0xFF ∷ []) ≡ answer_of field matched)
-    × (answered_by (ok (answer_of field matched)) ≡ answer)
-Holds (reads bytes rows) = (read bytes ≡ ok (parsed rows (length bytes) [])) × Bitmap rows bytes
+    × (answered_by (Ok (answer_of field matched)) ≡ answer)
+Holds (reads bytes rows) = (read bytes ≡ Ok (parsed rows (length bytes) [])) × Bitmap rows bytes
 Holds (names offset row) =
     (signed32 offset ≡ negsuc row)
     × ((entry extent n : ℕ) (region field : List ℕ)
-    → entry_placed entry (signed32 offset) extent n region field ≡ check (ltb row n) (Range entry) (check (not (bit field row)) (Twice entry) (ok (mark field row))))
+    → entry_placed entry (signed32 offset) extent n region field ≡ check (ltb row n) (Range entry) (check (not (bit field row)) (Twice entry) (Ok (mark field row))))
     × ((c : Cell) (extent : ℕ) (region : List ℕ) → extent < four_bytes → EntryRows region (row ∷ []) (record { cell = c; offset = offset; extent = extent }))
-Holds (outside offset) = (entry extent n : ℕ) (region field : List ℕ) → n ≤ limit → entry_placed entry (signed32 offset) extent n region field ≡ refuse (Range entry)
+Holds (outside offset) = (entry extent n : ℕ) (region field : List ℕ) → n ≤ limit → entry_placed entry (signed32 offset) extent n region field ≡ Err (Range entry)
 
 abbrev pub table : List Case
 table =

@@ -1,8 +1,7 @@
 // From an index file to an answer: Locate, and Locate and Ask in turn.
 #![tactic(auto)]
 
-ghost use Rattle.std.specs.Prelude.{◌≡◌, ◌+◌, ◌≤◌, length, take, drop};
-ghost use Rattle.refusal.specs.Reading.{ok};
+ghost use Rattle.std.specs.Prelude.{◌≡◌, ◌+◌, ◌≤◌, length, take, drop, Ok};
 ghost use Rattle.index_file.specs.Reading.{found};
 ghost use Rattle.index_file.specs.Promises.{FindPromise};
 ghost use Rattle.file_to_answers.specs.Reading.{used, bytes_looked_at, file_answer_by};
@@ -92,7 +91,7 @@ pub fn ask_file<'a>(
     ensures any_bytes { AskFilePromise (bytes_looked_at embedded.now file.now) column.now kind.now
         t question literals.now field.old field.new result }
     ensures as_the_scan { FileAsScan (bytes_looked_at embedded.now file.now) column.now kind.now
-        t question literals.now field.old (λ a. (result ≡ file_answer_by (ok (found a))) × (field.new ≡ a.buffer)) }
+        t question literals.now field.old (λ a. (result ≡ file_answer_by (Ok (found a))) × (field.new ≡ a.buffer)) }
 {
     let bytes = looked_at(embedded, file);
     let located = index_file::find(bytes, column, kind);

@@ -13,7 +13,8 @@ use Rattle.numbers.proofs.ByteLists.{bytes_drop, bytes_take}
 use Rattle.numbers.proofs.Laws.{on_number}
 use Rattle.numbers.specs.declared.Position.{Position}
 use Rattle.refusal.specs.declared.Refusal.{Refusal}
-use Rattle.refusal.specs.Reading.{Out, refuse, ok, check}
+use Rattle.std.specs.Prelude.{Result, Err, Ok}
+use Rattle.refusal.specs.Reading.{check}
 use Rattle.refusal.proofs.Laws.{not-ok}
 use Rattle.names.specs.Reading.{matches}
 use Rattle.index_file.specs.declared.Place.{Place}
@@ -35,10 +36,10 @@ join n bytes t fields h y x =
 
 -- a reading that is no refusal
 module _ (good : Sought Part) where
-  abbrev Good : Out Refusal (Sought Part) → Type 0
-  Good o = o ≡ ok good
+  abbrev Good : Result (Sought Part) Refusal → Type 0
+  Good o = o ≡ Ok good
 
-  on_check : {X : Type 0} (b : Bool) (r : Refusal) (o : Out Refusal (Sought Part)) → Good (check b r o) → (T b → Good o → X) → X
+  on_check : {X : Type 0} (b : Bool) (r : Refusal) (o : Result (Sought Part) Refusal) → Good (check b r o) → (T b → Good o → X) → X
   unfolding check
   on_check true r o g f = f tt g
   on_check false r o g f = absurd (not-ok g)
@@ -47,13 +48,13 @@ module _ (good : Sought Part) where
       → ((v : ℕ) (t : List ℕ) → v < sign_bit → Bytes t → Good (k v t) → P (be 4 v ++ t)) → P s
   unfolding count
   on_count P s k h g f =
-      on_number big 4 (refuse Refusal.Head) Good P s _ not-ok h g (λ v t hv ht g. on_check _ Refusal.Head _ g (λ b g. f v t (ltb→lt v sign_bit b) ht g))
+      on_number big 4 (Err Refusal.Head) Good P s _ not-ok h g (λ v t hv ht g. on_check _ Refusal.Head _ g (λ b g. f v t (ltb→lt v sign_bit b) ht g))
 
   on_name : (P : List ℕ → Type 0) (s : List ℕ) (k : Rest (List ℕ)) → Bytes s → Good (name s k)
       → ((n t : List ℕ) → length n < 256 ^ 2 → Bytes t → Good (k n t) → P (name_bytes n ++ t)) → P s
   unfolding name
   on_name P s k h g f =
-      on_number big 2 (refuse Refusal.Head) Good P s _ not-ok h g (λ v t hv ht g. on_check _ Refusal.Head _ g (λ b g.
+      on_number big 2 (Err Refusal.Head) Good P s _ not-ok h g (λ v t hv ht g. on_check _ Refusal.Head _ g (λ b g.
       let l : length (take v t) ≡ v = length-take-le v t (leb→le v (length t) b) in
       let e : name_bytes (take v t) ++ drop v t ≡ be 2 v ++ t = ap₂ (λ (j : ℕ) (l : List ℕ). be 2 j ++ l) l (take-append-drop v t) in
       subst P e (f (take v t) (drop v t) (omega arith) (bytes_drop v t ht) g)))
@@ -64,8 +65,8 @@ module _ (good : Sought Part) where
   on_entries P kind zero place s k h g f = f [] s refl tt h g
   on_entries P kind (suc m) place s k h g f =
       on_name P s _ h g (λ n t hn ht g.
-      on_number big 4 (refuse Refusal.Head) Good (λ (l : List ℕ). P (name_bytes n ++ l)) t _ not-ok ht g (λ a t ha ht g.
-      on_number big 4 (refuse Refusal.Head) Good (λ (l : List ℕ). P (name_bytes n ++ (be 4 a ++ l))) t _ not-ok ht g (λ b t hb ht g.
+      on_number big 4 (Err Refusal.Head) Good (λ (l : List ℕ). P (name_bytes n ++ l)) t _ not-ok ht g (λ a t ha ht g.
+      on_number big 4 (Err Refusal.Head) Good (λ (l : List ℕ). P (name_bytes n ++ (be 4 a ++ l))) t _ not-ok ht g (λ b t hb ht g.
       on_entries (λ (l : List ℕ). P (name_bytes n ++ (be 4 a ++ (be 4 b ++ l)))) kind m (place_after_entry (matches kind n) (position a) b place) t k ht g (λ es t c fit ht g.
       let e : ListedIndex = record { name = n; start = a; length = b } in
       subst P (append_assoc (entry_bytes e) (entries_bytes es) t ∙ entry_split e (entries_bytes es ++ t)) (f (e ∷ es) t (ap suc c) ((hn, ha, hb), fit) ht g)))))
@@ -101,9 +102,9 @@ module _ (good : Sought Part) where
   unfolding file
   headed column kind bytes h g =
       on_check _ Refusal.Short _ g (λ _ g.
-      on_number big 8 (refuse Refusal.Short) (Good) (λ (l : List ℕ). l ≡ bytes → Headed bytes) bytes _ not-ok h g (λ m t hm ht g.
+      on_number big 8 (Err Refusal.Short) (Good) (λ (l : List ℕ). l ≡ bytes → Headed bytes) bytes _ not-ok h g (λ m t hm ht g.
       on_check _ Refusal.Magic _ g (λ is-magic g.
-      on_number big 4 (refuse Refusal.Short) (Good) (λ (l : List ℕ). be 8 m ++ l ≡ bytes → Headed bytes) t _ not-ok ht g (λ v t hv ht g.
+      on_number big 4 (Err Refusal.Short) (Good) (λ (l : List ℕ). be 8 m ++ l ≡ bytes → Headed bytes) t _ not-ok ht g (λ v t hv ht g.
       on_check _ Refusal.Version _ g (λ is_one g.
       on_count (λ (l : List ℕ). be 8 m ++ (be 4 v ++ l) ≡ bytes → Headed bytes) t _ ht g (λ n t hn ht g.
       on_check _ Refusal.Head _ g (λ low g. on_check _ Refusal.Head _ g (λ in-file g.
@@ -134,7 +135,7 @@ module _ (good : Sought Part) where
 
 -- ---- found
 
-placed-found : (p : Part) (n total : ℕ) (place : Place) → placed n total place ≡ ok (found p)
+placed-found : (p : Part) (n total : ℕ) (place : Place) → placed n total place ≡ Ok (found p)
     → (place ≡ At p.start p.length) × (p.start.0 < sign_bit) × (p.length < sign_bit) × (n ≤ p.start.0) × (p.start.0 + p.length ≤ total)
 unfolding placed
 placed-found p n total Nowhere g = absurd (let z : ◌≡◌ {A = ℕ} 0 1 = cc in omega arith)
@@ -145,8 +146,8 @@ placed-found p n total (At a b) g =
     let q : record { start = a; length = b } ≡ p = cc in
     rw (← q) (refl, ltb→lt a.0 sign_bit is-start, ltb→lt b sign_bit is-size, leb→le n a.0 low, leb→le (a.0 + b) total end)))))
 
-module _ (bytes column kind : List ℕ) (p : Part) (b : Bytes bytes) (g : find bytes column kind ≡ ok (found p)) where
-  head_of : (h : Headed bytes) × (placed h.head_length (length bytes) (place_of kind column false Nowhere h.columns) ≡ ok (found p))
+module _ (bytes column kind : List ℕ) (p : Part) (b : Bytes bytes) (g : find bytes column kind ≡ Ok (found p)) where
+  head_of : (h : Headed bytes) × (placed h.head_length (length bytes) (place_of kind column false Nowhere h.columns) ≡ Ok (found p))
   head_of = answered (found p) bytes column kind b g
 
   place_of_lem : (place_of kind column false Nowhere head_of.0.columns ≡ At p.start p.length)
@@ -175,7 +176,7 @@ module _ (bytes column kind : List ℕ) (p : Part) (b : Bytes bytes) (g : find b
 
 -- ---- absent
 
-placed-absent : (n total : ℕ) (place : Place) → placed n total place ≡ ok absent → place ≡ Nowhere
+placed-absent : (n total : ℕ) (place : Place) → placed n total place ≡ Ok absent → place ≡ Nowhere
 unfolding placed
 placed-absent n total Nowhere g = refl
 placed-absent n total Repeated g = absurd (not-ok g)
@@ -184,7 +185,7 @@ placed-absent n total (At a b) g =
     test _ Refusal.Head _ g (λ _ g. test _ Refusal.Head _ g (λ _ g. test _ Refusal.Head _ g (λ _ g. test _ Refusal.Head _ g (λ _ g.
     absurd (let z : ◌≡◌ {A = ℕ} 0 1 = cc in omega arith)))))
 
-pub unlisted : (bytes column kind : List ℕ) → Bytes bytes → find bytes column kind ≡ ok absent → (h : Headed bytes) × Unlisted column kind h.columns
+pub unlisted : (bytes column kind : List ℕ) → Bytes bytes → find bytes column kind ≡ Ok absent → (h : Headed bytes) × Unlisted column kind h.columns
 unlisted bytes column kind b g =
     let h = answered absent bytes column kind b g in
     (h.0, absent_back kind column h.0.columns (placed-absent h.0.head_length (length bytes) (place_of kind column false Nowhere h.0.columns) h.1))

@@ -7,7 +7,7 @@ use mathlib.Core.List.{List}
 use native.Mathlib.Omega.{arith}
 use Rattle.refusal.specs.declared.Refusal.{Refusal}
 use Rattle.refusal.specs.declared.Refusal.TheVariants.{Short, Magic, Version, Head, Literal}
-use Rattle.refusal.specs.Reading.{Out, refuse, ok}
+use Rattle.std.specs.Prelude.{Result, Err, Ok}
 use Rattle.refusal.specs.Claims.{Bare, CarriesNothing}
 use Rattle.refusal.proofs.CarriesNothing.{bare}
 use Rattle.refusal.proofs.Only.{Only, check_only, number_only}
@@ -17,21 +17,21 @@ use Rattle.index_file.specs.Reading.{count, name, entries, columns, placed, head
 
 module _ (P : Refusal → Type 0) (short : P Short) (magic : P Magic) (version : P Version) (of-head : P Head) where
   module _ {A : Type 0} where
-    count_only : (s : List ℕ) (k : ℕ → List ℕ → Out Refusal A) → ((v : ℕ) (t : List ℕ) → Only P (k v t)) → Only P (count s k)
+    count_only : (s : List ℕ) (k : ℕ → List ℕ → Result A Refusal) → ((v : ℕ) (t : List ℕ) → Only P (k v t)) → Only P (count s k)
     unfolding count
     count_only s k f = search (check_only P, number_only P, of-head)
 
-    name_only : (s : List ℕ) (k : List ℕ → List ℕ → Out Refusal A) → ((n t : List ℕ) → Only P (k n t)) → Only P (name s k)
+    name_only : (s : List ℕ) (k : List ℕ → List ℕ → Result A Refusal) → ((n t : List ℕ) → Only P (k n t)) → Only P (name s k)
     unfolding name
     name_only s k f = search (check_only P, number_only P, of-head)
 
     module _ (isKind : List ℕ → Bool) where
-      entries_only : (m : ℕ) (p : Place) (s : List ℕ) (k : Place → List ℕ → Out Refusal A) → ((q : Place) (t : List ℕ) → Only P (k q t)) → Only P (entries isKind m p s k)
+      entries_only : (m : ℕ) (p : Place) (s : List ℕ) (k : Place → List ℕ → Result A Refusal) → ((q : Place) (t : List ℕ) → Only P (k q t)) → Only P (entries isKind m p s k)
       unfolding entries
       entries_only zero p s k f = f p s
       entries_only (suc m) p s k f = search (number_only P, name_only, entries_only m, of-head)
 
-      columns_only : (isColumn : List ℕ → Bool) (n : ℕ) (seen : Bool) (p : Place) (s : List ℕ) (k : Place → List ℕ → Out Refusal A)
+      columns_only : (isColumn : List ℕ → Bool) (n : ℕ) (seen : Bool) (p : Place) (s : List ℕ) (k : Place → List ℕ → Result A Refusal)
           → ((q : Place) (t : List ℕ) → Only P (k q t)) → Only P (columns isColumn isKind n seen p s k)
       unfolding columns
       columns_only isColumn zero seen p s k f = f p s
@@ -51,9 +51,9 @@ module _ (P : Refusal → Type 0) (short : P Short) (magic : P Magic) (version :
   unfolding file
   file_only isColumn isKind bytes = search (check_only P, number_only P, count_only, head_only, short, magic, version, of-head) depth 12
 
-only_bare : {A : Type 0} (o : Out Refusal A) → Only Bare o → CarriesNothing o
-only_bare (refuse r) h = h
-only_bare (ok a) h = h
+only_bare : {A : Type 0} (o : Result A Refusal) → Only Bare o → CarriesNothing o
+only_bare (Err r) h = h
+only_bare (Ok a) h = h
 
 file_bare : (isColumn isKind : List ℕ → Bool) (bytes : List ℕ) → CarriesNothing (file isColumn isKind bytes)
 file_bare isColumn isKind bytes = only_bare (file isColumn isKind bytes) (file_only Bare tt tt tt tt isColumn isKind bytes)
@@ -65,7 +65,7 @@ find_bare bytes column kind = search (bare, file_bare) depth 8
 zero_one : ◌≡◌ {A = ℕ} 0 1 → ⊥
 zero_one e = omega arith
 
-pub file-other : (isColumn isKind : List ℕ → Bool) (bytes : List ℕ) → file isColumn isKind bytes ≡ refuse Literal → ⊥
+pub file-other : (isColumn isKind : List ℕ → Bool) (bytes : List ℕ) → file isColumn isKind bytes ≡ Err Literal → ⊥
 file-other isColumn isKind bytes e =
     let IsOther : Refusal → Type 0 = λ r. r ≡ Literal → ⊥ in
     let h = file_only IsOther (λ q. zero_one (cc)) (λ q. zero_one (cc)) (λ q. zero_one (cc)) (λ q. zero_one (cc)) isColumn isKind bytes in

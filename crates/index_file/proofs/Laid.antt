@@ -11,7 +11,8 @@ use Rattle.numbers.specs.Meaning.{be, big, All, sign_bit, position}
 use Rattle.numbers.proofs.Laws.{number_laid}
 use Rattle.refusal.specs.Meaning.{limit}
 use Rattle.refusal.specs.declared.Refusal.{Refusal}
-use Rattle.refusal.specs.Reading.{refuse, ok, check}
+use Rattle.std.specs.Prelude.{Err, Ok}
+use Rattle.refusal.specs.Reading.{check}
 use Rattle.names.specs.Layout.{Askable}
 use Rattle.names.specs.Reading.{matches}
 use Rattle.names.proofs.Theorems.{askable_is_tested, askable-short, named_is_askable}
@@ -29,12 +30,12 @@ pub name_laid : (n t : List ℕ) (k : Rest (List ℕ)) → length n < 256 ^ 2 �
 unfolding name check
 name_laid n t k h =
     let l : length n ≤ length (n ++ t) = simp length-append (omega arith) in
-    number_laid big 2 (refuse Refusal.Head) (length n) (n ++ t) _ h
+    number_laid big 2 (Err Refusal.Head) (length n) (n ++ t) _ h
     ∙ simp (le-leb (length n) (length (n ++ t)) l, take_at n t (length n) refl, drop_at n t (length n) refl)
 
 pub count_laid : (v : ℕ) (t : List ℕ) (k : Rest ℕ) → v < sign_bit → count (be 4 v ++ t) k ≡ k v t
 unfolding count check
-count_laid v t k h = number_laid big 4 (refuse Refusal.Head) v t _ (omega arith) ∙ simp lt-ltb
+count_laid v t k h = number_laid big 4 (Err Refusal.Head) v t _ (omega arith) ∙ simp lt-ltb
 
 -- ---- entries
 
@@ -51,8 +52,8 @@ entries_laid kind (e ∷ es) place t k h =
     let r : List ℕ = entries_bytes es ++ t in
     ap (λ (l : List ℕ). entries (matches kind) (suc (length es)) place l k) (append_assoc (entry_bytes e) (entries_bytes es) t ∙ entry_split e r)
     ∙ name_laid e.name (be 4 e.start ++ (be 4 e.length ++ r)) _ h.0.0
-    ∙ number_laid big 4 (refuse Refusal.Head) e.start (be 4 e.length ++ r) _ h.0.1
-    ∙ number_laid big 4 (refuse Refusal.Head) e.length r _ h.0.2
+    ∙ number_laid big 4 (Err Refusal.Head) e.start (be 4 e.length ++ r) _ h.0.1
+    ∙ number_laid big 4 (Err Refusal.Head) e.length r _ h.0.2
     ∙ entries_laid kind es (place_after_entry (matches kind e.name) (position e.start) e.length place) t k h.1
 
 -- ---- columns
@@ -101,8 +102,8 @@ module _ (column kind : List ℕ) (n : ℕ) (cs : List ListedColumn) (r : List �
       let q : n ≤ length b = omega arith in
       let x : drop front_size (take n b) ≡ fields = ap (drop front_size) (take_at (head_bytes n cs r) rest n (sym whole)) in
       simp (le-leb front_size (length b) p)
-      (number_laid big 8 (refuse Refusal.Short) magic (be 4 file_version ++ (be 4 n ++ (fields ++ rest))) _ (omega arith)
-      ∙ number_laid big 4 (refuse Refusal.Short) file_version (be 4 n ++ (fields ++ rest)) _ (omega arith)
+      (number_laid big 8 (Err Refusal.Short) magic (be 4 file_version ++ (be 4 n ++ (fields ++ rest))) _ (omega arith)
+      ∙ number_laid big 4 (Err Refusal.Short) file_version (be 4 n ++ (fields ++ rest)) _ (omega arith)
       ∙ count_laid n (fields ++ rest) _ small
       ∙ simp (le-leb least_head n f, le-leb n (length b) q, x) (head_laid (length b)))
 
@@ -129,7 +130,7 @@ asked_file bytes column kind a b c =
     (simp ((askable_is_tested column).0 b, (askable_is_tested kind).0 c))
 
 -- a head that does not list what is asked for
-pub unlisted_file : {column kind bytes : List ℕ} (h : Headed bytes) → Unlisted column kind h.columns → file (matches column) (matches kind) bytes ≡ ok absent
+pub unlisted_file : {column kind bytes : List ℕ} (h : Headed bytes) → Unlisted column kind h.columns → file (matches column) (matches kind) bytes ≡ Ok absent
 unfolding placed
 unlisted_file {column} {kind} {bytes} h u = headed_file column kind h ∙ ap (placed h.head_length (length bytes)) (of_unlisted kind column u)
 
@@ -147,7 +148,7 @@ module _ {column kind body bytes : List ℕ} (f : File column kind body bytes) (
   place_is : place_of kind column false Nowhere f.head.columns ≡ At (position f.entry.start) f.entry.length
   place_is = of_once kind column f.column_once ∙ in_once kind f.kind_once
 
-  placed_is : placed f.head.head_length (length bytes) (At (position f.entry.start) f.entry.length) ≡ ok (found (part_of f))
+  placed_is : placed f.head.head_length (length bytes) (At (position f.entry.start) f.entry.length) ≡ Ok (found (part_of f))
   unfolding placed check
   placed_is =
       let s : ℕ = f.entry.start in
@@ -156,7 +157,7 @@ module _ {column kind body bytes : List ℕ} (f : File column kind body bytes) (
       let b : f.head.head_length ≤ s = f.behind in
       simp (lt-ltb s sign_bit f.not_negative.0, lt-ltb n sign_bit f.not_negative.1, le-leb f.head.head_length s b, le-leb (s + n) (length bytes) w)
 
-  pub laid_find : find bytes column kind ≡ ok (found (part_of f))
+  pub laid_find : find bytes column kind ≡ Ok (found (part_of f))
   laid_find =
       let x : Askable column = named_is_askable column f.asked.name f.column_once.holds (omega (arith, column_fits.0)) in
       let y : Askable kind = named_is_askable kind f.entry.name f.kind_once.holds (omega (arith, kind_fits.0)) in

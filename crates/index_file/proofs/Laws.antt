@@ -12,7 +12,8 @@ use Rattle.numbers.specs.Meaning.{be_at, number, big}
 use Rattle.numbers.proofs.Laws.{number_at_lem}
 use Rattle.refusal.specs.Meaning.{limit}
 use Rattle.refusal.specs.declared.Refusal.{Refusal}
-use Rattle.refusal.specs.Reading.{refuse, check}
+use Rattle.std.specs.Prelude.{Err}
+use Rattle.refusal.specs.Reading.{check}
 use Rattle.names.specs.Layout.{name_limit}
 use Rattle.names.specs.Reading.{size_of_asked_name, askable, matches}
 use Rattle.index_file.specs.Layout.{magic, file_version, front_size, least_head}
@@ -22,18 +23,18 @@ use Rattle.index_file.specs.Reading.{count, head, file, within_limits, find}
 -- ---- the fields in front of the columns
 
 module _ (isColumn isKind : List ℕ → Bool) (bytes : List ℕ) where
-  pub file-short : length bytes < front_size → file isColumn isKind bytes ≡ refuse Refusal.Short
+  pub file-short : length bytes < front_size → file isColumn isKind bytes ≡ Err Refusal.Short
   unfolding file check
   file-short h = simp lt-leb
 
   module _ (h : front_size ≤ length bytes) {stored : ℕ} (e : stored ≡ be_at 8 bytes 0) where
-    from-magic : file isColumn isKind bytes ≡ check (eqb stored magic) Refusal.Magic (number big 4 (refuse Refusal.Short) (drop 8 bytes) (λ version s.
+    from-magic : file isColumn isKind bytes ≡ check (eqb stored magic) Refusal.Magic (number big 4 (Err Refusal.Short) (drop 8 bytes) (λ version s.
         check (eqb version file_version) Refusal.Version (count s (λ n s.
         check (leb least_head n) Refusal.Head (check (leb n (length bytes)) Refusal.Head (head isColumn isKind n (length bytes) (drop front_size (take n bytes))))))))
     unfolding file check
-    from-magic = simp le-leb (number_at_lem big 8 (refuse Refusal.Short) bytes 0 _ (omega arith) ∙ simp (← e))
+    from-magic = simp le-leb (number_at_lem big 8 (Err Refusal.Short) bytes 0 _ (omega arith) ∙ simp (← e))
 
-    pub file-magic : (stored ≡ magic → ⊥) → file isColumn isKind bytes ≡ refuse Refusal.Magic
+    pub file-magic : (stored ≡ magic → ⊥) → file isColumn isKind bytes ≡ Err Refusal.Magic
     unfolding check
     file-magic g = from-magic ∙ simp (ne_eqb stored magic g)
 
@@ -41,9 +42,9 @@ module _ (isColumn isKind : List ℕ → Bool) (bytes : List ℕ) where
       from-version : file isColumn isKind bytes ≡ check (eqb version file_version) Refusal.Version (count (drop 12 bytes) (λ n s.
           check (leb least_head n) Refusal.Head (check (leb n (length bytes)) Refusal.Head (head isColumn isKind n (length bytes) (drop front_size (take n bytes))))))
       unfolding check
-      from-version = from-magic ∙ simp (eq-eqb stored magic g) (number_at_lem big 4 (refuse Refusal.Short) bytes 8 _ (omega arith) ∙ simp (← e'))
+      from-version = from-magic ∙ simp (eq-eqb stored magic g) (number_at_lem big 4 (Err Refusal.Short) bytes 8 _ (omega arith) ∙ simp (← e'))
 
-      pub file_version_lem : (version ≡ file_version → ⊥) → file isColumn isKind bytes ≡ refuse Refusal.Version
+      pub file_version_lem : (version ≡ file_version → ⊥) → file isColumn isKind bytes ≡ Err Refusal.Version
       unfolding check
       file_version_lem f = from-version ∙ simp (ne_eqb version file_version f)
 
@@ -53,20 +54,20 @@ module _ (isColumn isKind : List ℕ → Bool) (bytes : List ℕ) where
       from-count f = from-version ∙ simp (eq-eqb version file_version f)
 
 module _ (bytes column kind : List ℕ) where
-  pub find_long : limit < length bytes → find bytes column kind ≡ refuse Refusal.Limit
+  pub find_long : limit < length bytes → find bytes column kind ≡ Err Refusal.Limit
   unfolding find within_limits check
   find_long h = simp lt-leb
 
-  pub find_column : length bytes ≤ limit → limit < length column → find bytes column kind ≡ refuse Refusal.Limit
+  pub find_column : length bytes ≤ limit → limit < length column → find bytes column kind ≡ Err Refusal.Limit
   unfolding find within_limits check
   find_column a h = simp (le-leb, lt-leb)
 
-  pub find_kind : length bytes ≤ limit → length column ≤ limit → limit < length kind → find bytes column kind ≡ refuse Refusal.Limit
+  pub find_kind : length bytes ≤ limit → length column ≤ limit → limit < length kind → find bytes column kind ≡ Err Refusal.Limit
   unfolding find within_limits check
   find_kind a b h = simp (le-leb, lt-leb)
 
   module _ (a : length bytes ≤ limit) (b : length column ≤ limit) (c : length kind ≤ limit) where
-    pub find_unaskable : askable column && askable kind ≡ false → find bytes column kind ≡ refuse Refusal.Literal
+    pub find_unaskable : askable column && askable kind ≡ false → find bytes column kind ≡ Err Refusal.Literal
     unfolding find within_limits check
     find_unaskable e = simp (le-leb, e)
 

@@ -13,7 +13,8 @@ use Rattle.numbers.specs.Meaning.{be_at, number, big, sign_bit, position}
 use Rattle.numbers.proofs.Laws.{number_at_lem, number_short}
 use Rattle.numbers.specs.declared.Position.{Position}
 use Rattle.refusal.specs.declared.Refusal.{Refusal}
-use Rattle.refusal.specs.Reading.{Out, refuse, ok, check, numbers_of}
+use Rattle.std.specs.Prelude.{Result, Err, Ok}
+use Rattle.refusal.specs.Reading.{check, numbers_of}
 use Rattle.index_file.specs.declared.Located.{Located}
 use Rattle.index_file.specs.declared.Place.{Place}
 use Rattle.index_file.specs.declared.Name.{Name}
@@ -26,15 +27,15 @@ use Rattle.index_file.proofs.Laws.{from-count}
 
 -- ---- the answer of a reading
 
-pub refused : {o : Out Refusal (Sought Part)} {r : Refusal} → o ≡ refuse r → Located.Refused r ≡ located_by o
+pub refused : {o : Result (Sought Part) Refusal} {r : Refusal} → o ≡ Err r → Located.Refused r ≡ located_by o
 unfolding located_by
 refused e = rw e
 
-numbered : (o : Out Refusal (Sought Part)) → locate_out (located_by o) ≡ locate_numbers o
+numbered : (o : Result (Sought Part) Refusal) → locate_out (located_by o) ≡ locate_numbers o
 unfolding located_by locate_out numbers_of sought_numbers
-numbered (refuse r) = refl
-numbered (ok absent) = refl
-numbered (ok (found p)) = refl
+numbered (Err r) = refl
+numbered (Ok absent) = refl
+numbered (Ok (found p)) = refl
 
 pub promised : (bytes column kind : List ℕ) {l : Located} → l ≡ located_by (find bytes column kind) → FindPromise bytes column kind l
 promised bytes column kind e = record { answer = e; numbers = ap locate_out e ∙ numbered (find bytes column kind) }
@@ -44,13 +45,13 @@ promised bytes column kind e = record { answer = e; numbers = ap locate_out e �
 module _ (s : List ℕ) (at : Position) where
   pub name-none : length s - at.0 < 2 → NameIsAt Name.Broken at s
   unfolding name
-  name-none h k = number_short big 2 (refuse Refusal.Head) s at.0 _ h
+  name-none h k = number_short big 2 (Err Refusal.Head) s at.0 _ h
 
   module _ (h : at.0 + 2 ≤ length s) {n : ℕ} (e : n ≡ be_at 2 s at.0) where
     unrolled : (k : Rest (List ℕ))
         → name (drop at.0 s) k ≡ check (leb n (length s - (at.0 + 2))) Refusal.Head (k (take n (drop (at.0 + 2) s)) (drop (at.0 + 2 + n) s))
     unfolding name
-    unrolled k = number_at_lem big 2 (refuse Refusal.Head) s at.0 _ h ∙ simp (← e, length-drop, drop-drop)
+    unrolled k = number_at_lem big 2 (Err Refusal.Head) s at.0 _ h ∙ simp (← e, length-drop, drop-drop)
 
     pub name-cut : length s - (at.0 + 2) < n → NameIsAt Name.Broken at s
     unfolding check
@@ -66,16 +67,16 @@ module _ (s : List ℕ) (at : Position) where
 
   pub count_none : length s - at.0 < 4 → CountIsAt Count.Broken at s
   unfolding count
-  count_none h k = number_short big 4 (refuse Refusal.Head) s at.0 _ h
+  count_none h k = number_short big 4 (Err Refusal.Head) s at.0 _ h
 
   module _ (h : at.0 + 4 ≤ length s) {v : ℕ} (e : v ≡ be_at 4 s at.0) where
     pub count_negative : sign_bit ≤ v → CountIsAt Count.Broken at s
     unfolding count check
-    count_negative l k = number_at_lem big 4 (refuse Refusal.Head) s at.0 _ h ∙ simp (← e, le-ltb)
+    count_negative l k = number_at_lem big 4 (Err Refusal.Head) s at.0 _ h ∙ simp (← e, le-ltb)
 
     pub count-whole : v < sign_bit → CountIsAt (Count.Is v) at s
     unfolding count check
-    count-whole l = (h, l, λ k. number_at_lem big 4 (refuse Refusal.Head) s at.0 _ h ∙ simp (← e, lt-ltb))
+    count-whole l = (h, l, λ k. number_at_lem big 4 (Err Refusal.Head) s at.0 _ h ∙ simp (← e, lt-ltb))
 
 -- ---- the entries of a column
 
@@ -89,7 +90,7 @@ entries-first isKind s n at = let e : n - 0 ≡ n = omega arith in record { so =
 -- one entry of m that are left
 entry : (isKind : List ℕ → Bool) (m : ℕ) (place : Place) (s : List ℕ) (k : Rest Place) → 0 < m
     → entries isKind m place s k
-    ≡ name s (λ stored s. number big 4 (refuse Refusal.Head) s (λ start s. number big 4 (refuse Refusal.Head) s (λ size s.
+    ≡ name s (λ stored s. number big 4 (Err Refusal.Head) s (λ start s. number big 4 (Err Refusal.Head) s (λ size s.
     entries isKind (m - 1) (place_after_entry (isKind stored) (position start) size place) s k)))
 unfolding entries
 entry isKind zero place s k h = absurd (omega arith)
@@ -106,15 +107,15 @@ module _ {isKind : List ℕ → Bool} {s : List ℕ} {n : ℕ} {at : Position} {
 
     module _ {f : Name} (g : NameIsAt f p s) {e : Position} (q : f ≡ Name.Ends e) where
       past-name : (k : Rest Place) → entries isKind n Place.Nowhere (drop at.0 s) k
-          ≡ number big 4 (refuse Refusal.Head) (drop e.0 s) (λ start t. number big 4 (refuse Refusal.Head) t (λ size t.
+          ≡ number big 4 (Err Refusal.Head) (drop e.0 s) (λ start t. number big 4 (Err Refusal.Head) t (λ size t.
           entries isKind (n - i - 1) (place_after_entry (isKind (take (e.0 - (p.0 + 2)) (drop (p.0 + 2) s))) (position start) size place) t k))
       past-name k = st.so k ∙ entry isKind (n - i) place (drop p.0 s) k (omega arith) ∙ (rw q at g).2 _
 
       pub entries-short : length s - e.0 < 8 → WalkIsAt Walk.Broken s (entries isKind n Place.Nowhere (drop at.0 s))
       entries-short l k =
           past-name k ∙ elim (dec_le (e.0 + 4) (length s)) [
-            | yes r ↦ number_at_lem big 4 (refuse Refusal.Head) s e.0 _ r ∙ number_short big 4 (refuse Refusal.Head) s (e.0 + 4) _ (omega arith)
-            | no r ↦ number_short big 4 (refuse Refusal.Head) s e.0 _ (omega arith)
+            | yes r ↦ number_at_lem big 4 (Err Refusal.Head) s e.0 _ r ∙ number_short big 4 (Err Refusal.Head) s (e.0 + 4) _ (omega arith)
+            | no r ↦ number_short big 4 (Err Refusal.Head) s e.0 _ (omega arith)
           ]
 
       pub entries_next : e.0 + 8 ≤ length s → {start size : ℕ} → start ≡ be_at 4 s e.0 → size ≡ be_at 4 s (e.0 + 4)
@@ -124,7 +125,7 @@ module _ {isKind : List ℕ → Bool} {s : List ℕ} {n : ℕ} {at : Position} {
           let x : e.0 + 4 + 4 ≡ e.0 + 8 = omega arith in
           let y : n - i - 1 ≡ n - (i + 1) = omega arith in
           record {
-            so = λ k. past-name k ∙ number_at_lem big 4 (refuse Refusal.Head) s e.0 _ (omega arith) ∙ number_at_lem big 4 (refuse Refusal.Head) s (e.0 + 4) _ (omega arith)
+            so = λ k. past-name k ∙ number_at_lem big 4 (Err Refusal.Head) s e.0 _ (omega arith) ∙ number_at_lem big 4 (Err Refusal.Head) s (e.0 + 4) _ (omega arith)
                 ∙ simp (← a, ← b, ← c, ← d, x, y);
           }
 
@@ -186,19 +187,19 @@ module _ {isColumn isKind : List ℕ → Bool} {s : List ℕ} {n : ℕ} {at : Po
 -- ---- the asked place
 
 module _ (size total : ℕ) {place : Place} {start : Position} {length : ℕ} (e : place ≡ Place.At start length) where
-  pub placed_negative : sign_bit ≤ start.0 → placed size total place ≡ refuse Refusal.Head
+  pub placed_negative : sign_bit ≤ start.0 → placed size total place ≡ Err Refusal.Head
   unfolding placed check
   placed_negative a = simp (e, le-ltb)
 
-  pub placed_below : start.0 < sign_bit → start.0 < size → placed size total place ≡ refuse Refusal.Head
+  pub placed_below : start.0 < sign_bit → start.0 < size → placed size total place ≡ Err Refusal.Head
   unfolding placed check
   placed_below a b = simp (e, lt-ltb, lt-leb)
 
-  pub placed-length : start.0 < sign_bit → size ≤ start.0 → sign_bit ≤ length → placed size total place ≡ refuse Refusal.Head
+  pub placed-length : start.0 < sign_bit → size ≤ start.0 → sign_bit ≤ length → placed size total place ≡ Err Refusal.Head
   unfolding placed check
   placed-length a b c = simp (e, lt-ltb, le-leb, le-ltb)
 
-  pub placed_past : start.0 < sign_bit → size ≤ start.0 → length < sign_bit → total < start.0 + length → placed size total place ≡ refuse Refusal.Head
+  pub placed_past : start.0 < sign_bit → size ≤ start.0 → length < sign_bit → total < start.0 + length → placed size total place ≡ Err Refusal.Head
   unfolding placed check
   placed_past a b c d = simp (e, lt-ltb, le-leb, lt-leb)
 
@@ -209,7 +210,7 @@ module _ (size total : ℕ) {place : Place} {start : Position} {length : ℕ} (e
 -- ---- the head
 
 module _ (isColumn isKind : List ℕ → Bool) (s : List ℕ) (total : ℕ) {f : Count} (counted-f : CountIsAt f (position front_size) s) where
-  pub head-count : f ≡ Count.Broken → head isColumn isKind (length s) total (drop front_size s) ≡ refuse Refusal.Head
+  pub head-count : f ≡ Count.Broken → head isColumn isKind (length s) total (drop front_size s) ≡ Err Refusal.Head
   unfolding head
   head-count e = (rw e at counted-f) _
 
@@ -221,7 +222,7 @@ module _ (isColumn isKind : List ℕ → Bool) (s : List ℕ) (total : ℕ) {f :
     after_number = (rw e at counted-f).2 _
 
     pub head-columns : {w : Walk} → WalkIsAt w s (columns isColumn isKind n false Place.Nowhere (drop (front_size + 4) s)) → w ≡ Walk.Broken
-        → head isColumn isKind (length s) total (drop front_size s) ≡ refuse Refusal.Head
+        → head isColumn isKind (length s) total (drop front_size s) ≡ Err Refusal.Head
     head-columns h q = after_number ∙ (rw q at h) _
 
     module _ {w : Walk} {next : Position} {place : Place} (q : w ≡ Walk.Past next place) (h : WalkIsAt w s (columns isColumn isKind n false Place.Nowhere (drop (front_size + 4) s))) where
@@ -229,7 +230,7 @@ module _ (isColumn isKind : List ℕ → Bool) (s : List ℕ) (total : ℕ) {f :
           ≡ count (drop next.0 s) (λ redundant t. check (eqb redundant (length t)) Refusal.Head (placed (length s) total place))
       after_columns = after_number ∙ (rw q at h).1 _
 
-      pub head_redundant : {g : Count} → CountIsAt g next s → g ≡ Count.Broken → head isColumn isKind (length s) total (drop front_size s) ≡ refuse Refusal.Head
+      pub head_redundant : {g : Count} → CountIsAt g next s → g ≡ Count.Broken → head isColumn isKind (length s) total (drop front_size s) ≡ Err Refusal.Head
       head_redundant c r = after_columns ∙ (rw r at c) _
 
       module _ {g : Count} {redundant : ℕ} (r : g ≡ Count.Is redundant) (c : CountIsAt g next s) where
@@ -237,7 +238,7 @@ module _ (isColumn isKind : List ℕ → Bool) (s : List ℕ) (total : ℕ) {f :
             ≡ check (eqb redundant (length s - (next.0 + 4))) Refusal.Head (placed (length s) total place)
         after_redundant = after_columns ∙ (rw r at c).2 _ ∙ simp length-drop
 
-        pub head_end : (redundant ≡ length s - (next.0 + 4) → ⊥) → head isColumn isKind (length s) total (drop front_size s) ≡ refuse Refusal.Head
+        pub head_end : (redundant ≡ length s - (next.0 + 4) → ⊥) → head isColumn isKind (length s) total (drop front_size s) ≡ Err Refusal.Head
         unfolding check
         head_end x = after_redundant ∙ simp (ne_eqb redundant (length s - (next.0 + 4)) x)
 
@@ -249,7 +250,7 @@ module _ (isColumn isKind : List ℕ → Bool) (s : List ℕ) (total : ℕ) {f :
 
 module _ (isColumn isKind : List ℕ → Bool) (bytes : List ℕ) (long : front_size ≤ length bytes) {stored version : ℕ} (e : stored ≡ be_at 8 bytes 0) (g : stored ≡ magic)
     (e' : version ≡ be_at 4 bytes 8) (g' : version ≡ file_version) {f : Count} (counted-f : CountIsAt f (position 12) bytes) where
-  pub file-count : f ≡ Count.Broken → file isColumn isKind bytes ≡ refuse Refusal.Head
+  pub file-count : f ≡ Count.Broken → file isColumn isKind bytes ≡ Err Refusal.Head
   file-count q = from-count isColumn isKind bytes long e g e' g' ∙ (rw q at counted-f) _
 
   module _ {n : ℕ} (q : f ≡ Count.Is n) where
@@ -257,11 +258,11 @@ module _ (isColumn isKind : List ℕ → Bool) (bytes : List ℕ) (long : front_
         ≡ check (leb least_head n) Refusal.Head (check (leb n (length bytes)) Refusal.Head (head isColumn isKind n (length bytes) (drop front_size (take n bytes))))
     after_length = from-count isColumn isKind bytes long e g e' g' ∙ (rw q at counted-f).2 _
 
-    pub file-low : n < least_head → file isColumn isKind bytes ≡ refuse Refusal.Head
+    pub file-low : n < least_head → file isColumn isKind bytes ≡ Err Refusal.Head
     unfolding check
     file-low h = after_length ∙ simp lt-leb
 
-    pub file-past : least_head ≤ n → length bytes < n → file isColumn isKind bytes ≡ refuse Refusal.Head
+    pub file-past : least_head ≤ n → length bytes < n → file isColumn isKind bytes ≡ Err Refusal.Head
     unfolding check
     file-past h l = after_length ∙ simp (le-leb, lt-leb)
 

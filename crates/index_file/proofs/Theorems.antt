@@ -11,7 +11,8 @@ use Rattle.numbers.specs.Meaning.{be_at, Bytes, same}
 use Rattle.numbers.proofs.Booleans.{and_both}
 use Rattle.refusal.specs.Meaning.{number_of, limit}
 use Rattle.refusal.specs.declared.Refusal.{Refusal}
-use Rattle.refusal.specs.Reading.{refuse, ok, check, numbers_of}
+use Rattle.std.specs.Prelude.{Err, Ok}
+use Rattle.refusal.specs.Reading.{check, numbers_of}
 use Rattle.refusal.proofs.Laws.{ok_same}
 use Rattle.names.specs.Layout.{Askable}
 use Rattle.names.specs.Reading.{askable, matches}
@@ -30,7 +31,7 @@ laid_out_is_found column kind body bytes f small = (part_of f, laid_find f small
 pub found_is_laid_out : FoundIsLaidOut
 found_is_laid_out bytes column kind p b g = accepted bytes column kind p b g
 
-pub found_within : (bytes column kind : List ℕ) (p : Part) → Bytes bytes → find bytes column kind ≡ ok (found p) → p.start.0 + p.length ≤ length bytes
+pub found_within : (bytes column kind : List ℕ) (p : Part) → Bytes bytes → find bytes column kind ≡ Ok (found p) → p.start.0 + p.length ≤ length bytes
 found_within bytes column kind p b g = within bytes column kind p b g
 
 pub one-body : OneBody
@@ -64,15 +65,15 @@ refusal_numbers Refusal.NoBin = (omega arith, omega arith)
 
 pub number_of-found : NumberOfFound
 unfolding numbers_of sought_numbers
-number_of-found (refuse r) e = absurd (omega (arith, (refusal_numbers r).0))
-number_of-found (ok absent) e = absurd (omega arith)
-number_of-found (ok (found p)) e = (p, refl)
+number_of-found (Err r) e = absurd (omega (arith, (refusal_numbers r).0))
+number_of-found (Ok absent) e = absurd (omega arith)
+number_of-found (Ok (found p)) e = (p, refl)
 
 pub number_of-absent : NumberOfAbsent
 unfolding numbers_of sought_numbers
-number_of-absent (refuse r) e = absurd (omega (arith, (refusal_numbers r).1))
-number_of-absent (ok absent) e = refl
-number_of-absent (ok (found p)) e = absurd (omega arith)
+number_of-absent (Err r) e = absurd (omega (arith, (refusal_numbers r).1))
+number_of-absent (Ok absent) e = refl
+number_of-absent (Ok (found p)) e = absurd (omega arith)
 
 -- ---- versions
 
@@ -90,7 +91,7 @@ other_version_is_refused bytes column kind other a b c h m =
 
 -- of a file that is looked at at all
 other-version-looked_at : (bytes column kind : List ℕ) → (be_at 4 bytes 8 ≡ file_version → ⊥) → length bytes ≤ limit → Askable column → Askable kind
-    → (find bytes column kind ≡ refuse Refusal.Short) ⊎ ((find bytes column kind ≡ refuse Refusal.Magic) ⊎ (find bytes column kind ≡ refuse Refusal.Version))
+    → (find bytes column kind ≡ Err Refusal.Short) ⊎ ((find bytes column kind ≡ Err Refusal.Magic) ⊎ (find bytes column kind ≡ Err Refusal.Version))
 other-version-looked_at bytes column kind other a b c =
     let e = asked_file bytes column kind a b c in
     elim (dec_le front_size (length bytes)) [

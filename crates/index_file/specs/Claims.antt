@@ -1,9 +1,8 @@
 -- What the layout and the reading of an index file have to do with each other.
-use Rattle.std.specs.Prelude.{ℕ, ◌≤◌, ◌≡◌, List, ◌⊎◌, length}
+use Rattle.std.specs.Prelude.{ℕ, ◌≤◌, ◌≡◌, List, ◌⊎◌, length, Result, Err, Ok}
 use Rattle.numbers.specs.Meaning.{be_at, Bytes, same}
 use Rattle.refusal.specs.Meaning.{limit}
 use Rattle.refusal.specs.declared.Refusal.{Refusal}
-use Rattle.refusal.specs.Reading.{Out, refuse, ok}
 use Rattle.refusal.specs.Claims.{CarriesNothing}
 use Rattle.names.specs.Layout.{name_limit, Askable, Plain}
 use Rattle.names.specs.Reading.{matches}
@@ -14,12 +13,12 @@ use Rattle.index_file.specs.Reading.{Sought, found, absent, Part, bytes_of, with
 abbrev pub LaidOutIsFound : Type 0
 LaidOutIsFound =
     (column kind body bytes : List ℕ) → File column kind body bytes → length bytes ≤ limit
-    → (p : Part) × (find bytes column kind ≡ ok (found p)) × (bytes_of p bytes ≡ body)
+    → (p : Part) × (find bytes column kind ≡ Ok (found p)) × (bytes_of p bytes ≡ body)
 
 -- found, so laid out
 abbrev pub FoundIsLaidOut : Type 0
 FoundIsLaidOut =
-    (bytes column kind : List ℕ) (p : Part) → Bytes bytes → find bytes column kind ≡ ok (found p) → File column kind (bytes_of p bytes) bytes
+    (bytes column kind : List ℕ) (p : Part) → Bytes bytes → find bytes column kind ≡ Ok (found p) → File column kind (bytes_of p bytes) bytes
 
 -- there is at most one body
 abbrev pub OneBody : Type 0
@@ -30,28 +29,28 @@ OneBody =
 abbrev pub UnlistedIsAbsent : Type 0
 UnlistedIsAbsent =
     (bytes column kind : List ℕ) (h : Headed bytes) → Unlisted column kind h.columns → length bytes ≤ limit → Askable column → Askable kind
-    → find bytes column kind ≡ ok absent
+    → find bytes column kind ≡ Ok absent
 
 -- ABSENT, so not listed: it is said only of a head that keeps the rules, and that lists the asked column not at all, or once and in it not the asked kind
 abbrev pub AbsentIsUnlisted : Type 0
 AbsentIsUnlisted =
-    (bytes column kind : List ℕ) → Bytes bytes → find bytes column kind ≡ ok absent → (h : Headed bytes) × Unlisted column kind h.columns
+    (bytes column kind : List ℕ) → Bytes bytes → find bytes column kind ≡ Ok absent → (h : Headed bytes) × Unlisted column kind h.columns
 
 -- 02, Ticket 5: within the limits LITERAL is said exactly if one of the names may not be asked for, whatever the file; if both may, what the file says
 abbrev pub UnaskableIsLiteral : Type 0
 UnaskableIsLiteral =
     (bytes column kind : List ℕ) → length bytes ≤ limit → length column ≤ limit → length kind ≤ limit → (Askable column × Askable kind → ⊥)
-    → find bytes column kind ≡ refuse Refusal.Literal
+    → find bytes column kind ≡ Err Refusal.Literal
 
 abbrev pub LiteralIsUnaskable : Type 0
-LiteralIsUnaskable = (bytes column kind : List ℕ) → find bytes column kind ≡ refuse Refusal.Literal → Askable column × Askable kind → ⊥
+LiteralIsUnaskable = (bytes column kind : List ℕ) → find bytes column kind ≡ Err Refusal.Literal → Askable column × Askable kind → ⊥
 
 abbrev pub AskableIsLookedUp : Type 0
 AskableIsLookedUp =
     (bytes column kind : List ℕ) → length bytes ≤ limit → Askable column → Askable kind → find bytes column kind ≡ file (matches column) (matches kind) bytes
 
 -- what Locate answered before that request: "Names are compared byte for byte with the caller's UTF-8", and none is refused
-abbrev pub find_by_bytes : List ℕ → List ℕ → List ℕ → Out Refusal (Sought Part)
+abbrev pub find_by_bytes : List ℕ → List ℕ → List ℕ → Result (Sought Part) Refusal
 find_by_bytes bytes column kind = within_limits bytes column kind (file (same column) (same kind) bytes)
 
 -- for names without zero and within FFFF, of at most 65,535 bytes, the answer is that, on every file
@@ -62,23 +61,23 @@ PlainAsBefore =
 
 -- the number of an answer tells its case
 abbrev pub NumberOfFound : Type 0
-NumberOfFound = (o : Out Refusal (Sought Part)) → (locate_numbers o).0 ≡ found_number → (p : Part) × (o ≡ ok (found p))
+NumberOfFound = (o : Result (Sought Part) Refusal) → (locate_numbers o).0 ≡ found_number → (p : Part) × (o ≡ Ok (found p))
 
 abbrev pub NumberOfAbsent : Type 0
-NumberOfAbsent = (o : Out Refusal (Sought Part)) → (locate_numbers o).0 ≡ absent_number → o ≡ ok absent
+NumberOfAbsent = (o : Result (Sought Part) Refusal) → (locate_numbers o).0 ≡ absent_number → o ≡ Ok absent
 
 -- a version other than 1 is refused as that, where no refusal that comes first is due
 abbrev pub OtherVersionIsRefused : Type 0
 OtherVersionIsRefused =
     (bytes column kind : List ℕ) → (be_at 4 bytes 8 ≡ file_version → ⊥) → length bytes ≤ limit → Askable column → Askable kind
-    → front_size ≤ length bytes → be_at 8 bytes 0 ≡ magic → find bytes column kind ≡ refuse Refusal.Version
+    → front_size ≤ length bytes → be_at 8 bytes 0 ≡ magic → find bytes column kind ≡ Err Refusal.Version
 
 -- and it is refused always, as that or by one of the four that come first
 abbrev pub OtherVersionIsNotFound : Type 0
 OtherVersionIsNotFound =
     (bytes column kind : List ℕ) → (be_at 4 bytes 8 ≡ file_version → ⊥)
-    → (find bytes column kind ≡ refuse Refusal.Limit) ⊎ ((find bytes column kind ≡ refuse Refusal.Literal) ⊎ ((find bytes column kind ≡ refuse Refusal.Short)
-    ⊎ ((find bytes column kind ≡ refuse Refusal.Magic) ⊎ (find bytes column kind ≡ refuse Refusal.Version))))
+    → (find bytes column kind ≡ Err Refusal.Limit) ⊎ ((find bytes column kind ≡ Err Refusal.Literal) ⊎ ((find bytes column kind ≡ Err Refusal.Short)
+    ⊎ ((find bytes column kind ≡ Err Refusal.Magic) ⊎ (find bytes column kind ≡ Err Refusal.Version))))
 
 -- 02, Ticket 2: a refusal of Locate carries nothing.
 abbrev pub FindCarriesNothing : Type 0

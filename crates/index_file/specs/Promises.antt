@@ -1,9 +1,8 @@
 -- What the answers of the code's steps, which go by positions, say in the reading's terms; and what `find` promises.
-use Rattle.std.specs.Prelude.{ℕ, ◌+◌, ◌-◌, ◌<◌, ◌≤◌, ◌≡◌, List, length, take, drop}
+use Rattle.std.specs.Prelude.{ℕ, ◌+◌, ◌-◌, ◌<◌, ◌≤◌, ◌≡◌, List, length, take, drop, Result, Err}
 use Rattle.numbers.specs.Meaning.{sign_bit}
 use Rattle.numbers.specs.declared.Position.{Position}
 use Rattle.refusal.specs.declared.Refusal.{Refusal}
-use Rattle.refusal.specs.Reading.{Out, refuse}
 use Rattle.names.specs.Layout.{name_limit}
 use Rattle.names.specs.Reading.{size_of_asked_name}
 use Rattle.index_file.specs.declared.Located.{Located}
@@ -16,24 +15,24 @@ use Rattle.index_file.specs.Reading.{name, count, Sought, Part, find, located_by
 
 -- what follows of something that was read, and of what is left
 abbrev pub Rest : Type 0 → Type 0
-Rest A = A → List ℕ → Out Refusal (Sought Part)
+Rest A = A → List ℕ → Result (Sought Part) Refusal
 
 -- the name at `at` of s
 abbrev pub NameIsAt : Name → Position → List ℕ → Type 0
-NameIsAt Name.Broken at s = (k : Rest (List ℕ)) → name (drop at.0 s) k ≡ refuse Refusal.Head
+NameIsAt Name.Broken at s = (k : Rest (List ℕ)) → name (drop at.0 s) k ≡ Err Refusal.Head
 NameIsAt (Name.Ends e) at s =
     (at.0 + 2 ≤ e.0) × (e.0 ≤ length s)
     × ((k : Rest (List ℕ)) → name (drop at.0 s) k ≡ k (take (e.0 - (at.0 + 2)) (drop (at.0 + 2) s)) (drop e.0 s))
 
 -- the number at `at` of s
 abbrev pub CountIsAt : Count → Position → List ℕ → Type 0
-CountIsAt Count.Broken at s = (k : Rest ℕ) → count (drop at.0 s) k ≡ refuse Refusal.Head
+CountIsAt Count.Broken at s = (k : Rest ℕ) → count (drop at.0 s) k ≡ Err Refusal.Head
 CountIsAt (Count.Is v) at s =
     (at.0 + 4 ≤ length s) × (v < sign_bit) × ((k : Rest ℕ) → count (drop at.0 s) k ≡ k v (drop (at.0 + 4) s))
 
 -- the walk over s that `reading` says
-abbrev pub WalkIsAt : Walk → List ℕ → (Rest Place → Out Refusal (Sought Part)) → Type 0
-WalkIsAt Walk.Broken s reading = (k : Rest Place) → reading k ≡ refuse Refusal.Head
+abbrev pub WalkIsAt : Walk → List ℕ → (Rest Place → Result (Sought Part) Refusal) → Type 0
+WalkIsAt Walk.Broken s reading = (k : Rest Place) → reading k ≡ Err Refusal.Head
 WalkIsAt (Walk.Past next place) s reading = (next.0 ≤ length s) × ((k : Rest Place) → reading k ≡ k place (drop next.0 s))
 
 -- an asked name has so many bytes in modified form, and may be asked for

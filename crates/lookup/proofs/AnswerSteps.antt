@@ -9,7 +9,8 @@ use lib.ListN.{length, drop}
 use mir.Syntax.{w32}
 use mir.Val.{to_z}
 use Rattle.refusal.specs.declared.Refusal.{Refusal}
-use Rattle.refusal.specs.Reading.{Out, refuse, ok, and_then}
+use Rattle.std.specs.Prelude.{Result, Err, Ok}
+use Rattle.refusal.specs.Reading.{and_then}
 use Rattle.refusal.proofs.Laws.{ok_same}
 use Rattle.row_field.specs.Meaning.{size, count, cleared}
 use Rattle.row_field.proofs.Counts.{none_counted, length-zeroed, bit-zeroed}
@@ -68,8 +69,8 @@ module _ (s : List ℕ) (h : Summary) (g : Found) (f : List ℕ) where
 -- ---- both
 
 -- an accepted reading, in the code's terms
-answers_so : (o : Out Refusal Looked) (n nulls matched compared : ℕ) (placed marked otherwise : List ℕ) (x : LookedUp)
-    → o ≡ ok (record {
+answers_so : (o : Result Looked Refusal) (n nulls matched compared : ℕ) (placed marked otherwise : List ℕ) (x : LookedUp)
+    → o ≡ Ok (record {
       answer = record { buffer = marked; said = record { rows = n; nulls = count placed n; deleted = 0; matched = count marked n } };
       compared = compared;
     }) → nulls ≡ count placed n → matched ≡ count marked n → x ≡ answered_with n nulls matched compared → Answers o otherwise marked x
@@ -84,7 +85,7 @@ module _ (s : List ℕ) (p : Place) (before : List ℕ) {zero : List ℕ} (z : z
   module _ (v : List ℕ) (f : Sought) (w : PlaceIs v s p f) where
     looked : looked_in f (cleared f.rows before) ≡ and_then (place_in first_number s p.summary (nulls_of p.summary) zero) (λ placed.
         and_then (place_in p.found.compared s p.summary (hit_of v p.found) zero) (λ marked.
-        ok (record {
+        Ok (record {
           answer = record { buffer = marked; said = record { rows = n; nulls = count placed n; deleted = 0; matched = count marked n } };
           compared = p.compared;
         })))
@@ -98,7 +99,7 @@ module _ (s : List ℕ) (p : Place) (before : List ℕ) {zero : List ℕ} (z : z
     pub null-stops : {why : Refusal} → r ≡ Placing.Refused why → {x : LookedUp} → x ≡ refused_by why → AnswersIn s p before after x
     unfolding answer_of compared_of looked_buffer answered_by and_then
     null-stops {why} e q v f w =
-        let o : place_in first_number s p.summary (nulls_of p.summary) zero ≡ refuse why = rw e at c.outcome in
+        let o : place_in first_number s p.summary (nulls_of p.summary) zero ≡ Err why = rw e at c.outcome in
         record {
           answer = rw (q, looked v f w, o);
           compared = rw (q, looked v f w, o);
@@ -112,7 +113,7 @@ module _ (s : List ℕ) (p : Place) (before : List ℕ) {zero : List ℕ} (z : z
       pub found-stops : {why : Refusal} → r' ≡ Placing.Refused why → {x : LookedUp} → x ≡ refused_by why → {end : List ℕ} → end ≡ cleared n last → AnswersIn s p before end x
       unfolding answer_of compared_of looked_buffer answered_by and_then
       found-stops {why} g q b v f w =
-          let o : place_in p.found.compared s p.summary (hit_of v p.found) zero ≡ refuse why =
+          let o : place_in p.found.compared s p.summary (hit_of v p.found) zero ≡ Err why =
           rw (← c.kept) (rw g at (d v)).outcome in
           let i = nulls_are.1 in
           let y : cleared n after ≡ zero = rw (c.kept, z) (zeroed-again (size n) before) in
@@ -126,14 +127,14 @@ module _ (s : List ℕ) (p : Place) (before : List ℕ) {zero : List ℕ} (z : z
       pub found_nothing : size n ≤ length before → p.found.hit ≡ false → {j : ℕ} → r' ≡ Placed j → count last n ≡ 0
       unfolding place_entries
       found_nothing room h g =
-          let o : ok after ≡ ok last = (rw (h, g) at (d [])).outcome.0 in
+          let o : Ok after ≡ Ok last = (rw (h, g) at (d [])).outcome.0 in
           let y = cleared-clear n before z room in
           rw (← ok_same after last o, c.kept) (none-set n zero y.0 y.1)
 
       pub found-answers : {j : ℕ} → r' ≡ Placed j → {m : ℕ} → m ≡ count last n → {x : LookedUp} → x ≡ answered_with n k m p.compared → AnswersIn s p before last x
       unfolding and_then
       found-answers {j} g {m} b {x} q v f w =
-          let o : place_in p.found.compared s p.summary (hit_of v p.found) zero ≡ ok last =
+          let o : place_in p.found.compared s p.summary (hit_of v p.found) zero ≡ Ok last =
           rw (← c.kept) (rw g at (d v)).outcome.0 in
           let i = nulls_are.1 in
           answers_so (looked_in f (cleared f.rows before)) n k m p.compared nulls_are.0 last (cleared f.rows before) x (looked v f w ∙ rw (i, o)) nulls_are.2 b q

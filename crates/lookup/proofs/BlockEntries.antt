@@ -11,7 +11,7 @@ use Rattle.numbers.proofs.Laws.{number_at-lt, number_at_back}
 use Rattle.numbers.proofs.SameBytes.{same→eq, same-sym}
 use Rattle.refusal.specs.declared.Refusal.{Refusal}
 use Rattle.refusal.specs.declared.Refusal.TheVariants.{Short, Dict}
-use Rattle.refusal.specs.Reading.{Out, ok}
+use Rattle.std.specs.Prelude.{Result, Ok}
 use Rattle.refusal.proofs.Laws.{ok_same, check-ok, then_ok}
 use Rattle.stored_value.specs.Meaning.{value, same_cell}
 use Rattle.stored_value.specs.Reading.{value_size, value_of}
@@ -22,8 +22,8 @@ use Rattle.lookup.specs.Claims.{BlockSearched}
 
 -- ---- what was read, taken apart
 
-pub value-ok : {A : Type 0} (short broken : Refusal) (t : ℕ) (s : List ℕ) (k : List ℕ → List ℕ → Out Refusal A) (a : A) → value_of short broken t s k ≡ ok a
-    → (n : ℕ) × (value_size short broken t s ≡ ok n) × (k (take n s) (drop n s) ≡ ok a)
+pub value-ok : {A : Type 0} (short broken : Refusal) (t : ℕ) (s : List ℕ) (k : List ℕ → List ℕ → Result A Refusal) (a : A) → value_of short broken t s k ≡ Ok a
+    → (n : ℕ) × (value_size short broken t s ≡ Ok n) × (k (take n s) (drop n s) ≡ Ok a)
 unfolding value_of
 value-ok short broken t s k a e = then_ok (value_size short broken t s) _ a e
 
@@ -123,7 +123,7 @@ module _ (literal : List ℕ) (n compared : ℕ) (s : List ℕ) (b : Searched) w
           within = omega (arith, w.within);
         }
 
-entries-searched : (t : ℕ) (literal : List ℕ) (n left compared : ℕ) (s : List ℕ) (b : Searched) → searched_in t literal n left compared s ≡ ok b
+entries-searched : (t : ℕ) (literal : List ℕ) (n left compared : ℕ) (s : List ℕ) (b : Searched) → searched_in t literal n left compared s ≡ Ok b
     → EntriesSearched literal n left compared s b
 unfolding searched_in
 entries-searched t literal n zero compared s b e = none_left literal n compared s b (ok_same _ b e)
@@ -134,19 +134,19 @@ entries-searched t literal n (suc left) compared s b e =
     go k l m (same (take k s) literal) refl third (λ r. entries-searched t literal n left (compared + 1) r b)
   where
     go : (k : ℕ) → 4 ≤ length (drop k s) → 4 ≤ length (drop 4 (drop k s)) → (x : Bool) → same (take k s) literal ≡ x
-        → cond x (ok (record {
+        → cond x (Ok (record {
           entries = n;
           hit = record { cell = value (take k s); offset = be_at 4 (drop k s) 0; extent = be_at 4 (drop 4 (drop k s)) 0 } ∷ [];
           compared = compared + 1;
-        })) (searched_in t literal n left (compared + 1) (drop 4 (drop 4 (drop k s)))) ≡ ok b
-        → ((r : List ℕ) → searched_in t literal n left (compared + 1) r ≡ ok b → EntriesSearched literal n left (compared + 1) r b)
+        })) (searched_in t literal n left (compared + 1) (drop 4 (drop 4 (drop k s)))) ≡ Ok b
+        → ((r : List ℕ) → searched_in t literal n left (compared + 1) r ≡ Ok b → EntriesSearched literal n left (compared + 1) r b)
         → EntriesSearched literal n (suc left) compared s b
     go k l m true q e more = found literal n compared s b left _ _ _ _ (λ c. entry_stands k s c l m) q (ok_same _ b e)
     go k l m false q e more = passed literal n compared s b left _ _ _ _ (λ c. entry_stands k s c l m) q (more _ e)
 
 -- ---- a block
 
-module _ (t : ℕ) (literal s : List ℕ) (b : Searched) (e : searched t literal s ≡ ok b) where
+module _ (t : ℕ) (literal s : List ℕ) (b : Searched) (e : searched t literal s ≡ Ok b) where
   -- what is known of it for any bytes; its entry number stands in front
   pub block-from : (4 ≤ length s) × EntriesSearched literal (be_at 4 s 0) (be_at 4 s 0) 0 (drop 4 s) b
   unfolding searched

@@ -13,7 +13,8 @@ use Rattle.numbers.proofs.Booleans.{or_neither}
 use Rattle.numbers.proofs.Laws.{number_laid}
 use Rattle.numbers.proofs.SameBytes.{same-sym}
 use Rattle.refusal.specs.declared.Refusal.TheVariants.{Short}
-use Rattle.refusal.specs.Reading.{refuse, ok, check}
+use Rattle.std.specs.Prelude.{Err, Ok}
+use Rattle.refusal.specs.Reading.{check}
 use Rattle.stored_value.specs.Meaning.{Cell, null, value, same_cell, less}
 use Rattle.stored_value.proofs.Laws.{same_cell→eq, listed_alone}
 use Rattle.dictionary.specs.Layout.{Entry, Valued, Patterns, value_bytes, some_has, first, Past, Rises, NoneEmpty, entries2, block, blocks}
@@ -35,7 +36,7 @@ equals edition ls es = chosen_of (question edition equal) ls es
 abbrev pub ChoosesLiteral : ℕ → List ℕ → List (List ℕ) → Type 0
 ChoosesLiteral edition literal ls = (c : Cell) → chosen (question edition equal) ls c ≡ same_cell (value literal) c
 
-pub chooses_literal : (t edition : ℕ) (literal body : List ℕ) (ls : List (List ℕ)) → well_formed t (question edition equal) literal body ≡ ok ls
+pub chooses_literal : (t edition : ℕ) (literal body : List ℕ) (ls : List (List ℕ)) → well_formed t (question edition equal) literal body ≡ Ok ls
     → ChoosesLiteral edition literal ls
 unfolding chosen same_cell takes
 chooses_literal t edition literal body ls e null = refl
@@ -100,20 +101,20 @@ module _ (t edition : ℕ) (literal : List ℕ) (ls : List (List ℕ)) (chooses 
   -- one entry: it is the literal's, or those behind it decide
   searched-one : (n : ℕ) (e : Entry) (es : List Entry) (compared : ℕ) (s : List ℕ) → Valued t e.cell → Patterns (e ∷ es)
       → searched_in t literal n (length (e ∷ es)) compared (entries2 (e ∷ es) ++ s)
-      ≡ cond (same_cell (value literal) e.cell) (ok (record { entries = n; hit = e ∷ []; compared = compared + 1 }))
+      ≡ cond (same_cell (value literal) e.cell) (Ok (record { entries = n; hit = e ∷ []; compared = compared + 1 }))
       (searched_in t literal n (length es) (compared + 1) (entries2 es ++ s))
   unfolding searched_in
   searched-one n e es compared s v p =
       let c : Cell = e.cell in
       rw (append_assoc (value_bytes c) (be 4 e.offset ++ (be 4 e.extent ++ entries2 es)) s)
       (value_of_laid t c (be 4 e.offset ++ (be 4 e.extent ++ (entries2 es ++ s))) _ v
-      ∙ number_laid big 4 (refuse Short) e.offset (be 4 e.extent ++ (entries2 es ++ s)) _ p.0
-      ∙ number_laid big 4 (refuse Short) e.extent (entries2 es ++ s) _ p.1
+      ∙ number_laid big 4 (Err Short) e.offset (be 4 e.extent ++ (entries2 es ++ s)) _ p.0
+      ∙ number_laid big 4 (Err Short) e.extent (entries2 es ++ s) _ p.1
       ∙ rw (same-value t literal c v, cell_back t c v))
 
   abbrev Finds : ℕ → List Entry → ℕ → List ℕ → Type 0
   Finds n es compared s =
-      (k : ℕ) × (searched_in t literal n (length es) compared s ≡ ok (record { entries = n; hit = equals edition ls es; compared = k }))
+      (k : ℕ) × (searched_in t literal n (length es) compared s ≡ Ok (record { entries = n; hit = equals edition ls es; compared = k }))
 
   searched_in_lem : (before : Cell) (n : ℕ) (es : List Entry) (compared : ℕ) (s : List ℕ) → Rises t before es → Patterns es → Finds n es compared (entries2 es ++ s)
   unfolding searched_in chosen_of
@@ -129,20 +130,20 @@ module _ (t edition : ℕ) (literal : List ℕ) (ls : List (List ℕ)) (chooses 
       go false f (k, i) = (k, searched-one n e es compared s r.0 p ∙ rw (chooses e.cell, f) i)
 
   searched_laid : (before : Cell) (es : List Entry) (s : List ℕ) → 1 ≤ length es → length es < sign_bit → Rises t before es → Patterns es
-      → (b : Searched) × (searched t literal (block es ++ s) ≡ ok b) × (b.hit ≡ equals edition ls es)
+      → (b : Searched) × (searched t literal (block es ++ s) ≡ Ok b) × (b.hit ≡ equals edition ls es)
   unfolding searched check
   searched_laid before es s h l r p =
       let n : ℕ = length es in
       let (k, i) = searched_in_lem before n es 0 s r p in (
         record { entries = n; hit = equals edition ls es; compared = k },
-        number_laid big 4 (refuse Short) n (entries2 es ++ s) _ (omega arith) ∙ rw (le-leb 1 n h, lt-ltb n sign_bit l) i,
+        number_laid big 4 (Err Short) n (entries2 es ++ s) _ (omega arith) ∙ rw (le-leb 1 n h, lt-ltb n sign_bit l) i,
         refl,
       )
 
   -- ---- the block that halving comes to
 
   abbrev FoundIn : List (List Entry) → ℕ → List ℕ → Type 0
-  FoundIn bs at base = (b : Searched) × (searched t literal (drop at base) ≡ ok b) × (b.hit ≡ equals edition ls (joined bs))
+  FoundIn bs at base = (b : Searched) × (searched t literal (drop at base) ≡ Ok b) × (b.hit ≡ equals edition ls (joined bs))
 
   -- before its first value no value is the literal
   before_block : (before : Cell) (es b fs : List Entry) → 1 ≤ length b → Rises t before (es ++ (b ++ fs)) → less t literal (value_bytes (first b)) ≡ false
@@ -181,7 +182,7 @@ module _ (t edition : ℕ) (literal : List ℕ) (ls : List (List ℕ)) (chooses 
   -- so it has the literal's entry, if there is one
   pub block_laid : (bs : List (List Entry)) (region : List ℕ) (h : Halved) → HalvedAt t literal bs h → NoneEmpty bs → Rises t null (joined bs) → Patterns (joined bs)
       → length (joined bs) < sign_bit
-      → (b : Searched) × (cond (eqb h.below 0) (ok no_block) (searched t literal (drop h.at (blocks bs ++ region))) ≡ ok b)
+      → (b : Searched) × (cond (eqb h.below 0) (Ok no_block) (searched t literal (drop h.at (blocks bs ++ region))) ≡ Ok b)
       × (b.hit ≡ equals edition ls (joined bs))
   block_laid bs region h (before_all z a) n r p l = (no_block, rw (eq-eqb h.below 0 z), sym (above-none null bs n r a))
   block_laid bs region h (in_block xs b ys e f a z o) n r p l =

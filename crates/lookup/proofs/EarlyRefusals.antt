@@ -6,7 +6,8 @@ use lib.Dec.{leb}
 use lib.ListN.{length}
 use Rattle.numbers.specs.Meaning.{Order, number}
 use Rattle.refusal.specs.declared.Refusal.{Refusal}
-use Rattle.refusal.specs.Reading.{Out, refuse, ok, check, and_then}
+use Rattle.std.specs.Prelude.{Result, Err, Ok}
+use Rattle.refusal.specs.Reading.{check, and_then}
 use Rattle.stored_value.specs.Reading.{value_size, value_of, literals}
 use Rattle.dictionary.specs.Layout.{Entry}
 use Rattle.dictionary.specs.Reading.{count_at_most, null_of}
@@ -17,27 +18,27 @@ use Rattle.lookup.specs.Reading.{entry_read, entry_for, behind_directory, halvin
 use Rattle.lookup.specs.Claims.{UpToRoom, limit, literal, short, version, dict, room}
 
 -- if it is a refusal, it is one of these
-abbrev pub Early : {A : Type 0} → Out Refusal A → Type 0
-Early (refuse r) = UpToRoom r
-Early (ok a) = Unit {0}
+abbrev pub Early : {A : Type 0} → Result A Refusal → Type 0
+Early (Err r) = UpToRoom r
+Early (Ok a) = Unit {0}
 
 module _ {A : Type 0} where
-  cond_early : (b : Bool) (x y : Out Refusal A) → Early x → Early y → Early (cond b x y)
+  cond_early : (b : Bool) (x y : Result A Refusal) → Early x → Early y → Early (cond b x y)
   cond_early true x y f g = f
   cond_early false x y f g = g
 
-  check_early : (b : Bool) (r : Refusal) (x : Out Refusal A) → UpToRoom r → Early x → Early (check b r x)
+  check_early : (b : Bool) (r : Refusal) (x : Result A Refusal) → UpToRoom r → Early x → Early (check b r x)
   unfolding check
   check_early true r x f g = g
   check_early false r x f g = f
 
-  then_early : {B : Type 0} (x : Out Refusal B) (k : B → Out Refusal A) → Early x → ((b : B) → Early (k b)) → Early (and_then x k)
+  then_early : {B : Type 0} (x : Result B Refusal) (k : B → Result A Refusal) → Early x → ((b : B) → Early (k b)) → Early (and_then x k)
   unfolding and_then
-  then_early (refuse r) k f g = f
-  then_early (ok b) k f g = g b
+  then_early (Err r) k f g = f
+  then_early (Ok b) k f g = g b
 
-  number_early : (o : Order) (w : ℕ) (r : Refusal) (s : List ℕ) (k : ℕ → List ℕ → Out Refusal A) → UpToRoom r → ((v : ℕ) (t : List ℕ) → Early (k v t))
-      → Early (number o w (refuse r) s k)
+  number_early : (o : Order) (w : ℕ) (r : Refusal) (s : List ℕ) (k : ℕ → List ℕ → Result A Refusal) → UpToRoom r → ((v : ℕ) (t : List ℕ) → Early (k v t))
+      → Early (number o w (Err r) s k)
   unfolding number
   number_early o w r s k f g = cond_early (leb w (length s)) _ _ (g _ _) f
 
@@ -51,7 +52,7 @@ module _ (r q : Refusal) (f : UpToRoom r) (g : UpToRoom q) (t : ℕ) (s : List �
   unfolding value_size
   size_early = search early depth 7
 
-  value_early : {A : Type 0} (k : List ℕ → List ℕ → Out Refusal A) → ((v s : List ℕ) → Early (k v s)) → Early (value_of r q t s k)
+  value_early : {A : Type 0} (k : List ℕ → List ℕ → Result A Refusal) → ((v s : List ℕ) → Early (k v s)) → Early (value_of r q t s k)
   unfolding value_of
   value_early k h = search (early, size_early)
 
@@ -67,11 +68,11 @@ well_formed_early t q l body = search (early, literals_early) depth 7
 -- ---- the fields in front
 
 module _ {A : Type 0} where
-  count_early : (most : ℕ) (s : List ℕ) (k : ℕ → List ℕ → Out Refusal A) → ((n : ℕ) (t : List ℕ) → Early (k n t)) → Early (count_at_most most s k)
+  count_early : (most : ℕ) (s : List ℕ) (k : ℕ → List ℕ → Result A Refusal) → ((n : ℕ) (t : List ℕ) → Early (k n t)) → Early (count_at_most most s k)
   unfolding count_at_most
   count_early most s k f = search early
 
-  null_early : (version2 has : Bool) (s : List ℕ) (k : List Entry → List ℕ → Out Refusal A) → ((es : List Entry) (t : List ℕ) → Early (k es t))
+  null_early : (version2 has : Bool) (s : List ℕ) (k : List Entry → List ℕ → Result A Refusal) → ((es : List Entry) (t : List ℕ) → Early (k es t))
       → Early (null_of version2 has s k)
   unfolding null_of
   null_early version2 false s k f = f [] s

@@ -11,7 +11,8 @@ use borrow.Author.Tests.{eq-eqb, ne_eqb}
 use lib.ListN.{length, length-append}
 use Rattle.numbers.specs.Meaning.{joined}
 use Rattle.refusal.specs.declared.Refusal.{Refusal}
-use Rattle.refusal.specs.Reading.{Out, refuse, ok, and_then}
+use Rattle.std.specs.Prelude.{Result, Err, Ok}
+use Rattle.refusal.specs.Reading.{and_then}
 use Rattle.refusal.proofs.Laws.{not-ok, ok_same, then_ok}
 use Rattle.row_field.specs.Meaning.{size, bit, mark, mark_all, count, cleared, Below}
 use Rattle.row_field.proofs.Laws.{tick, length-mark, bit-mark-same, bit-mark-other}
@@ -94,10 +95,10 @@ module _ (n : ℕ) (region field : List ℕ) where
   is_sound : (rows : List (List ℕ)) (es : List Entry) → placed.Sound n region clear rows es → Sound n region rows es
   is_sound rows es s = record { placed = s.placed; below = s.below }
 
-  went_through : (next : ℕ) (es : List Entry) (o : Out Refusal (List ℕ)) (g : List ℕ) → Steps next n region clear es o → o ≡ ok g
+  went_through : (next : ℕ) (es : List Entry) (o : Result (List ℕ) Refusal) (g : List ℕ) → Steps next n region clear es o → o ≡ Ok g
       → (rows : List (List ℕ)) × placed.Sound n region clear rows es × (g ≡ mark_all clear (joined rows))
-  went_through next es (refuse x) g (stopped w) e = absurd (not-ok e)
-  went_through next es (ok h) g (through rows s) e = (rows, s, sym (ok_same _ g e))
+  went_through next es (Err x) g (stopped w) e = absurd (not-ok e)
+  went_through next es (Ok h) g (through rows s) e = (rows, s, sym (ok_same _ g e))
 
 -- ---- what was found
 
@@ -130,7 +131,7 @@ module _ (literal field : List ℕ) (f : Sought) (p : Placeable literal f) (room
       let c : e.cell ≡ value literal = (rw (is ∙ one) at p.hit_is).0 in
       of_entry e nulls s (is ∙ one) (rw c at fault)
 
-  pub refused_after : (r : Refusal) → looked_in f zeros ≡ refuse r → AfterRoom f r
+  pub refused_after : (r : Refusal) → looked_in f zeros ≡ Err r → AfterRoom f r
   unfolding looked_in and_then
   refused_after r q = first (place_entries first_number n f.region f.nulls zeros) (steps first_number f.nulls p.null_patterns) q
     where
@@ -141,20 +142,20 @@ module _ (literal field : List ℕ) (f : Sought) (p : Placeable literal f) (room
             compared = f.directory.compared + f.block.compared;
           }
 
-      second : (withNulls : List ℕ) (rows : List (List ℕ)) → placed.Sound n f.region zeros rows f.nulls → (o : Out Refusal (List ℕ))
-          → Steps f.block.compared n f.region zeros f.block.hit o → and_then o (λ marked. ok (done withNulls marked)) ≡ refuse r → AfterRoom f r
-      second withNulls rows s (refuse x) (stopped w) q =
+      second : (withNulls : List ℕ) (rows : List (List ℕ)) → placed.Sound n f.region zeros rows f.nulls → (o : Result (List ℕ) Refusal)
+          → Steps f.block.compared n f.region zeros f.block.hit o → and_then o (λ marked. Ok (done withNulls marked)) ≡ Err r → AfterRoom f r
+      second withNulls rows s (Err x) (stopped w) q =
           let is : x ≡ r = cc in
           subst (AfterRoom f) is (of_entry_is f.block.hit x rows refl (is_sound n f.region field rows f.nulls s) w)
-      second withNulls rows s (ok g) w q = absurd (not-ok (sym q))
+      second withNulls rows s (Ok g) w q = absurd (not-ok (sym q))
 
-      first : (o : Out Refusal (List ℕ)) → Steps first_number n f.region zeros f.nulls o
-          → and_then o (λ withNulls. and_then (place_entries f.block.compared n f.region f.block.hit zeros) (λ marked. ok (done withNulls marked))) ≡ refuse r
+      first : (o : Result (List ℕ) Refusal) → Steps first_number n f.region zeros f.nulls o
+          → and_then o (λ withNulls. and_then (place_entries f.block.compared n f.region f.block.hit zeros) (λ marked. Ok (done withNulls marked))) ≡ Err r
           → AfterRoom f r
-      first (refuse x) (stopped w) q =
+      first (Err x) (stopped w) q =
           let is : x ≡ r = cc in
           subst (AfterRoom f) is (of_null_is f.nulls x refl p.null_only w)
-      first (ok g) (through rows s) q =
+      first (Ok g) (through rows s) q =
           second g rows s (place_entries f.block.compared n f.region f.block.hit zeros) (steps f.block.compared f.block.hit p.patterns) q
 
   -- ---- both were placed
@@ -167,7 +168,7 @@ module _ (literal field : List ℕ) (f : Sought) (p : Placeable literal f) (room
       let k = room-clear in
       bit-mark_all zeros rs r (omega arith) ∙ rw (bit-zeroed (size n) field r h) (member-past r n rs l b)
 
-  pub accepted_after : (a : Looked) → looked_in f zeros ≡ ok a → AcceptedIs f field a
+  pub accepted_after : (a : Looked) → looked_in f zeros ≡ Ok a → AcceptedIs f field a
   unfolding looked_in
   accepted_after a q =
       let (withNulls, first, more) = then_ok (place_entries first_number n f.region f.nulls zeros) _ a q in

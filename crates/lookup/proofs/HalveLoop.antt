@@ -8,7 +8,8 @@ use lib.ListN.{take, drop, get_or}
 use borrow.Author.Tests.{ne_eqb}
 use Rattle.numbers.specs.Meaning.{four_bytes, position}
 use Rattle.refusal.specs.declared.Refusal.{Refusal}
-use Rattle.refusal.specs.Reading.{refuse, ok, and_then}
+use Rattle.std.specs.Prelude.{Err, Ok}
+use Rattle.refusal.specs.Reading.{and_then}
 use Rattle.stored_value.specs.Meaning.{less}
 use Rattle.lookup.specs.declared.Listing.{Listing}
 use Rattle.lookup.specs.declared.Halving.{Halving}
@@ -29,7 +30,7 @@ halves_first t literal table s blocks =
 
 -- nothing is left in doubt, however many steps are
 none_left : (t : ℕ) (literal table s : List ℕ) (steps low at compared : ℕ)
-    → halving t literal table s steps low 0 at compared ≡ ok (record { below = low; at = at; compared = compared })
+    → halving t literal table s steps low 0 at compared ≡ Ok (record { below = low; at = at; compared = compared })
 unfolding halving
 none_left t literal table s zero low at compared = refl
 none_left t literal table s (suc steps) low at compared = refl
@@ -54,7 +55,7 @@ module _ {t : ℕ} {literal table s : List ℕ} {blocks low many at compared : �
       pub halves_refused : {r : Refusal} → x ≡ Listing.Refused r → HalvedIs t literal table s blocks (Halving.Refused r)
       unfolding and_then
       halves_refused {r} e =
-          let i : entry_read t (drop (get_or table (low + many / 2) 0) s) ≡ refuse r = rw e at w in
+          let i : entry_read t (drop (get_or table (low + many / 2) 0) s) ≡ Err r = rw e at w in
           turn ∙ rw i
 
       module _ {e offset : ℕ} (g : x ≡ Listing.Is (position e) offset) where

@@ -9,7 +9,8 @@ use lib.ListN.{length, take, drop, get_or, length-append, length-drop}
 use lib.Seq.{split_at, length-take-le}
 use borrow.Author.Tests.{eq-eqb, ne_eqb}
 use Rattle.refusal.specs.declared.Refusal.{Refusal}
-use Rattle.refusal.specs.Reading.{Out, ok, and_then}
+use Rattle.std.specs.Prelude.{Result, Ok}
+use Rattle.refusal.specs.Reading.{and_then}
 use Rattle.stored_value.specs.Meaning.{less}
 use Rattle.dictionary.specs.Layout.{Entry, value_bytes, first, blocks}
 use Rattle.lookup.specs.Reading.{EntryRead, entry_for, Halved, halving}
@@ -35,13 +36,13 @@ pub data HalvedAt (t : ℕ) (literal : List ℕ) (bs : List (List Entry)) (h : H
 module _ (t : ℕ) (literal table body : List ℕ) where
   -- with none in doubt it ends
   halving_done : (steps low many at compared : ℕ) → many ≡ 0
-      → halving t literal table body steps low many at compared ≡ ok (record { below = low; at = at; compared = compared })
+      → halving t literal table body steps low many at compared ≡ Ok (record { below = low; at = at; compared = compared })
   unfolding halving
   halving_done zero low many at compared e = refl
   halving_done (suc steps) low many at compared e = rw (eq-eqb many 0 e)
 
   -- else the one in the middle decides
-  halving-next : (steps low many at compared : ℕ) (d : EntryRead) → (many ≡ 0 → ⊥) → entry_for t table body (low + many / 2) ≡ ok d
+  halving-next : (steps low many at compared : ℕ) (d : EntryRead) → (many ≡ 0 → ⊥) → entry_for t table body (low + many / 2) ≡ Ok d
       → halving t literal table body (suc steps) low many at compared
       ≡ cond (less t literal d.first) (halving t literal table body steps low (many / 2) at (compared + 1))
       (halving t literal table body steps (low + many / 2 + 1) (many - many / 2 - 1) d.at (compared + 1))
@@ -49,10 +50,10 @@ module _ (t : ℕ) (literal table body : List ℕ) where
   halving-next steps low many at compared d n e = rw (ne_eqb many 0 n, e)
 
   module _ (bs : List (List Entry)) (tail : List ℕ) (leads : LeadsTo t table body bs tail) where
-    abbrev ComesTo : Out Refusal Halved → Type 0
-    ComesTo x = (h : Halved) × (x ≡ ok h) × HalvedAt t literal bs h
+    abbrev ComesTo : Result Halved Refusal → Type 0
+    ComesTo x = (h : Halved) × (x ≡ Ok h) × HalvedAt t literal bs h
 
-    comes_as : (x y : Out Refusal Halved) → x ≡ y → ComesTo y → ComesTo x
+    comes_as : (x y : Result Halved Refusal) → x ≡ y → ComesTo y → ComesTo x
     comes_as x y e (h, is, at) = (h, e ∙ is, at)
 
     abbrev Comes : ℕ → ℕ → ℕ → ℕ → ℕ → Type 0
@@ -118,8 +119,8 @@ module _ (t : ℕ) (literal table body : List ℕ) where
         long : length xs ≡ low + k
         long = omega (arith, length-append lows front, front_long)
 
-        is : entry_for t table body (low + k) ≡ ok (listed_of xs b (rest ++ highs) tail)
-        is = subst (λ (i : ℕ). entry_for t table body i ≡ ok (listed_of xs b (rest ++ highs) tail)) long (leads xs b (rest ++ highs) whole)
+        is : entry_for t table body (low + k) ≡ Ok (listed_of xs b (rest ++ highs) tail)
+        is = subst (λ (i : ℕ). entry_for t table body i ≡ Ok (listed_of xs b (rest ++ highs) tail)) long (leads xs b (rest ++ highs) whole)
 
         next : halving t literal table body (suc steps) low many at compared
             ≡ cond (less t literal (value_bytes (first b))) (halving t literal table body steps low k at (compared + 1))
@@ -144,5 +145,5 @@ module _ (t : ℕ) (literal table body : List ℕ) where
         by (no n) again = comes_next steps low many at compared lows mids highs e l m s n u a again
 
     -- from the first on
-    pub halving_laid : (h : Halved) × (halving t literal table body (length bs) 0 (length bs) 0 0 ≡ ok h) × HalvedAt t literal bs h
+    pub halving_laid : (h : Halved) × (halving t literal table body (length bs) 0 (length bs) 0 0 ≡ Ok h) × HalvedAt t literal bs h
     halving_laid = comes (length bs) 0 (length bs) 0 0 [] bs [] (sym (append-nil bs)) refl refl (omega arith) (none refl) tt

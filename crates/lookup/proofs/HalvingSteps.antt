@@ -10,7 +10,8 @@ use native.Mathlib.Omega.{arith}
 use borrow.Author.Tests.{eqb-true, eqb-false}
 use lib.Dec.{eqb}
 use Rattle.refusal.specs.declared.Refusal.{Refusal}
-use Rattle.refusal.specs.Reading.{Out, ok, and_then}
+use Rattle.std.specs.Prelude.{Result, Ok}
+use Rattle.refusal.specs.Reading.{and_then}
 use Rattle.refusal.proofs.Laws.{ok_same, then_ok}
 use Rattle.stored_value.specs.Meaning.{less}
 use Rattle.lookup.specs.Reading.{EntryRead, entry_for, Halved, halving}
@@ -24,13 +25,13 @@ half_left (suc j) many some l =
     (j, omega arith, omega arith, omega arith)
 
 module _ (t : ℕ) (literal table body : List ℕ) where
-  no_more : (k low at compared : ℕ) (h : Halved) → ◌≡◌ {A = Out Refusal Halved} (ok (record { below = low; at = at; compared = compared })) (ok h)
+  no_more : (k low at compared : ℕ) (h : Halved) → ◌≡◌ {A = Result Halved Refusal} (Ok (record { below = low; at = at; compared = compared })) (Ok h)
       → h.compared ≤ compared + k
   no_more k low at compared h e =
       let i : compared ≡ h.compared = ap (λ (x : Halved). x.compared) (ok_same _ h e) in
       omega arith
 
-  pub halving_few : (k steps low many at compared : ℕ) (h : Halved) → many < 2 ^ k → halving t literal table body steps low many at compared ≡ ok h
+  pub halving_few : (k steps low many at compared : ℕ) (h : Halved) → many < 2 ^ k → halving t literal table body steps low many at compared ≡ Ok h
       → h.compared ≤ compared + k
   unfolding halving
   halving_few k zero low many at compared h l e = no_more k low at compared h e
@@ -39,19 +40,19 @@ module _ (t : ℕ) (literal table body : List ℕ) where
     where
       More : ℕ → Type 0
       More j =
-          (low many at : ℕ) → many < 2 ^ j → halving t literal table body steps low many at (compared + 1) ≡ ok h → h.compared ≤ compared + 1 + j
+          (low many at : ℕ) → many < 2 ^ j → halving t literal table body steps low many at (compared + 1) ≡ Ok h → h.compared ≤ compared + 1 + j
 
       either : (j : ℕ) → More j → many / 2 < 2 ^ j → many - many / 2 - 1 < 2 ^ j → (d : EntryRead) (b : Bool)
           → cond b (halving t literal table body steps low (many / 2) at (compared + 1))
-          (halving t literal table body steps (low + many / 2 + 1) (many - many / 2 - 1) d.at (compared + 1)) ≡ ok h → h.compared ≤ compared + 1 + j
+          (halving t literal table body steps (low + many / 2 + 1) (many - many / 2 - 1) d.at (compared + 1)) ≡ Ok h → h.compared ≤ compared + 1 + j
       either j more l r d true e = more low (many / 2) at l e
       either j more l r d false e = more (low + many / 2 + 1) (many - many / 2 - 1) d.at r e
 
       go : (b : Bool) → eqb many 0 ≡ b
-          → cond b (ok (record { below = low; at = at; compared = compared })) (and_then (entry_for t table body (low + many / 2)) (λ d.
+          → cond b (Ok (record { below = low; at = at; compared = compared })) (and_then (entry_for t table body (low + many / 2)) (λ d.
           cond (less t literal d.first)
           (halving t literal table body steps low (many / 2) at (compared + 1))
-          (halving t literal table body steps (low + many / 2 + 1) (many - many / 2 - 1) d.at (compared + 1)))) ≡ ok h
+          (halving t literal table body steps (low + many / 2 + 1) (many - many / 2 - 1) d.at (compared + 1)))) ≡ Ok h
           → ((j : ℕ) → More j) → h.compared ≤ compared + k
       go true none e more = no_more k low at compared h e
       go false some e more =
@@ -77,13 +78,13 @@ none_stays zero many z l = refl
 none_stays (suc j) many z l = absurd (let g = rw pow-suc at l in omega (arith, some_power j))
 
 module _ (t : ℕ) (literal table body : List ℕ) where
-  as_counted : (k low at compared : ℕ) (h : Halved) → k ≡ 0 → ◌≡◌ {A = Out Refusal Halved} (ok (record { below = low; at = at; compared = compared })) (ok h)
+  as_counted : (k low at compared : ℕ) (h : Halved) → k ≡ 0 → ◌≡◌ {A = Result Halved Refusal} (Ok (record { below = low; at = at; compared = compared })) (Ok h)
       → compared + k ≤ h.compared
   as_counted k low at compared h z e =
       let i : compared ≡ h.compared = ap (λ (x : Halved). x.compared) (ok_same _ h e) in
       omega arith
 
-  pub halving-many : (k steps low many at compared : ℕ) (h : Halved) → 2 ^ k ≤ many + 1 → many ≤ steps → halving t literal table body steps low many at compared ≡ ok h
+  pub halving-many : (k steps low many at compared : ℕ) (h : Halved) → 2 ^ k ≤ many + 1 → many ≤ steps → halving t literal table body steps low many at compared ≡ Ok h
       → compared + k ≤ h.compared
   unfolding halving
   halving-many k zero low many at compared h l fits e = as_counted k low at compared h (none_stays k many (omega arith) l) e
@@ -92,20 +93,20 @@ module _ (t : ℕ) (literal table body : List ℕ) where
     where
       More : ℕ → Type 0
       More j =
-          (low many at : ℕ) → 2 ^ j ≤ many + 1 → many ≤ steps → halving t literal table body steps low many at (compared + 1) ≡ ok h
+          (low many at : ℕ) → 2 ^ j ≤ many + 1 → many ≤ steps → halving t literal table body steps low many at (compared + 1) ≡ Ok h
           → compared + 1 + j ≤ h.compared
 
       either : (j : ℕ) → More j → (many ≡ 0 → ⊥) → 2 ^ j ≤ many / 2 + 1 → 2 ^ j ≤ many - many / 2 - 1 + 1 → (d : EntryRead) (b : Bool)
           → cond b (halving t literal table body steps low (many / 2) at (compared + 1))
-          (halving t literal table body steps (low + many / 2 + 1) (many - many / 2 - 1) d.at (compared + 1)) ≡ ok h → compared + 1 + j ≤ h.compared
+          (halving t literal table body steps (low + many / 2 + 1) (many - many / 2 - 1) d.at (compared + 1)) ≡ Ok h → compared + 1 + j ≤ h.compared
       either j more some l r d true e = more low (many / 2) at l (omega (arith, some, fits)) e
       either j more some l r d false e = more (low + many / 2 + 1) (many - many / 2 - 1) d.at r (omega (arith, some, fits)) e
 
       go : (b : Bool) → eqb many 0 ≡ b
-          → cond b (ok (record { below = low; at = at; compared = compared })) (and_then (entry_for t table body (low + many / 2)) (λ d.
+          → cond b (Ok (record { below = low; at = at; compared = compared })) (and_then (entry_for t table body (low + many / 2)) (λ d.
           cond (less t literal d.first)
           (halving t literal table body steps low (many / 2) at (compared + 1))
-          (halving t literal table body steps (low + many / 2 + 1) (many - many / 2 - 1) d.at (compared + 1)))) ≡ ok h
+          (halving t literal table body steps (low + many / 2 + 1) (many - many / 2 - 1) d.at (compared + 1)))) ≡ Ok h
           → ((j : ℕ) → More j) → compared + k ≤ h.compared
       go true none e more = as_counted k low at compared h (none_stays k many (eqb-true many 0 none) l) e
       go false some e more =

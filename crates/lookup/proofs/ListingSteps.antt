@@ -9,7 +9,8 @@ use borrow.Author.Tests.{eq-eqb, ne_eqb, le-leb, lt-leb}
 use Rattle.numbers.specs.Meaning.{be_at, four_bytes, position}
 use Rattle.refusal.specs.declared.Refusal.{Refusal}
 use Rattle.refusal.specs.declared.Refusal.TheVariants.{Short, Dict}
-use Rattle.refusal.specs.Reading.{Out, refuse, ok, check, and_then}
+use Rattle.std.specs.Prelude.{Result, Err, Ok}
+use Rattle.refusal.specs.Reading.{check, and_then}
 use Rattle.stored_value.specs.Reading.{value_size, value_of}
 use Rattle.dictionary.specs.Promises.{EndsAt}
 use Rattle.dictionary.proofs.Steps.{word_at, word_short, drop_past}
@@ -22,8 +23,8 @@ use Rattle.lookup.specs.Reading.{EntryRead, entry_read, entry_for, behind_direct
 use Rattle.lookup.specs.Promises.{ListedAt, EndIs, AfterBase, based, BaseIs}
 
 -- a value at a position, and what follows it
-module _ {A : Type 0} (t : ℕ) (s : List ℕ) (p : ℕ) (k : List ℕ → List ℕ → Out Refusal A) where
-  pub value_refused : {r : Refusal} → value_size Short Dict t (drop p s) ≡ refuse r → value_of Short Dict t (drop p s) k ≡ refuse r
+module _ {A : Type 0} (t : ℕ) (s : List ℕ) (p : ℕ) (k : List ℕ → List ℕ → Result A Refusal) where
+  pub value_refused : {r : Refusal} → value_size Short Dict t (drop p s) ≡ Err r → value_of Short Dict t (drop p s) k ≡ Err r
   unfolding value_of and_then
   value_refused e = rw e
 
@@ -38,7 +39,7 @@ module _ {A : Type 0} (t : ℕ) (s : List ℕ) (p : ℕ) (k : List ℕ → List 
 -- ---- an entry of the directory
 
 module _ (t : ℕ) (s : List ℕ) (p : ℕ) where
-  pub listing_refused : {r : Refusal} → value_size Short Dict t (drop p s) ≡ refuse r → ListedAt t s p (Listing.Refused r)
+  pub listing_refused : {r : Refusal} → value_size Short Dict t (drop p s) ≡ Err r → ListedAt t s p (Listing.Refused r)
   unfolding entry_read
   listing_refused e = value_refused t s p _ e
 
@@ -59,7 +60,7 @@ module _ (t : ℕ) (table s : List ℕ) (f : Fields) where
   end_none z l = (rw (eq-eqb f.blocks 0 z), l)
 
   module _ (n : f.blocks ≡ 0 → ⊥) where
-    last : behind_directory t table s (front_found s f) ≡ and_then (entry_read t (drop (get_or table (f.blocks - 1) 0) s)) (λ (d : EntryRead). ok d.behind)
+    last : behind_directory t table s (front_found s f) ≡ and_then (entry_read t (drop (get_or table (f.blocks - 1) 0) s)) (λ (d : EntryRead). Ok d.behind)
     unfolding behind_directory entry_for
     last = rw (ne_eqb f.blocks 0 n)
 
@@ -67,7 +68,7 @@ module _ (t : ℕ) (table s : List ℕ) (f : Fields) where
       pub end_refused : {r : Refusal} → x ≡ Listing.Refused r → EndIs t table s f (End.Refused r)
       unfolding and_then
       end_refused {r} e =
-          let i : entry_read t (drop (get_or table (f.blocks - 1) 0) s) ≡ refuse r = rw e at w in
+          let i : entry_read t (drop (get_or table (f.blocks - 1) 0) s) ≡ Err r = rw e at w in
           last ∙ rw i
 
       pub end_at : {p offset : ℕ} → x ≡ Listing.Is (position p) offset → EndIs t table s f (End.At (position (p + 4)))
@@ -82,7 +83,7 @@ module _ (t : ℕ) (table s : List ℕ) (f : Fields) {x : End} (w : EndIs t tabl
   pub base_refused : {r : Refusal} → x ≡ End.Refused r → BaseIs t table s f (Base.Refused r)
   unfolding and_then
   base_refused {r} e k =
-      let i : behind_directory t table s (front_found s f) ≡ refuse r = rw e at w in
+      let i : behind_directory t table s (front_found s f) ≡ Err r = rw e at w in
       rw i
 
   module _ {p : ℕ} (e : x ≡ End.At (position p)) where

@@ -10,7 +10,8 @@ use Rattle.numbers.specs.Meaning.{joined, sign_bit, Bytes}
 use Rattle.refusal.specs.Meaning.{limit}
 use Rattle.refusal.specs.declared.Refusal.{Refusal}
 use Rattle.refusal.specs.declared.Refusal.TheVariants.{Room}
-use Rattle.refusal.specs.Reading.{Out, refuse, ok, check, and_then}
+use Rattle.std.specs.Prelude.{Result, Err, Ok}
+use Rattle.refusal.specs.Reading.{check, and_then}
 use Rattle.row_field.specs.Meaning.{size, cleared}
 use Rattle.stored_value.specs.Meaning.{Cell}
 use Rattle.dictionary.specs.Layout.{Entry, Patterns, body2}
@@ -41,19 +42,19 @@ AnsweredAlike t edition literal table body lent =
 
 module _ (t edition : ℕ) (literal table body lent : List ℕ) where
   -- a question that isn't well formed is refused by both
-  not-well_formed : (r : Refusal) → well_formed t (question edition equal) literal body ≡ refuse r → AnsweredAlike t edition literal table body lent
+  not-well_formed : (r : Refusal) → well_formed t (question edition equal) literal body ≡ Err r → AnsweredAlike t edition literal table body lent
   unfolding lookable looked_up look_up_buffer refused_buffer looked_buffer answer_of ask ask_buffer answer_buffer zeroed_from and_then
   not-well_formed r e = (rw e, rw e)
 
   -- a well-formed one, of what both find: too short a field is ROOM
-  short_of_room : (ls : List (List ℕ)) (f : Sought) → well_formed t (question edition equal) literal body ≡ ok ls → sought t literal table body ≡ ok f
-      → length lent < size f.rows → prepared t body lent ≡ refuse Room → AnsweredAlike t edition literal table body lent
+  short_of_room : (ls : List (List ℕ)) (f : Sought) → well_formed t (question edition equal) literal body ≡ Ok ls → sought t literal table body ≡ Ok f
+      → length lent < size f.rows → prepared t body lent ≡ Err Room → AnsweredAlike t edition literal table body lent
   unfolding lookable looked_up look_up_buffer refused_buffer looked_buffer answer_of ask ask_buffer answer_buffer zeroed_from and_then check
   short_of_room ls f e s h p = (rw (e, s, lt-leb (size f.rows) (length lent) h, p), rw (e, s, lt-leb (size f.rows) (length lent) h, p))
 
   -- else both answer
-  both_answer : (ls : List (List ℕ)) (f : Sought) (a : Looked) → well_formed t (question edition equal) literal body ≡ ok ls → sought t literal table body ≡ ok f
-      → size f.rows ≤ length lent → looked_in f (cleared f.rows lent) ≡ ok a → ask t (question edition equal) literal body lent ≡ ok a.answer
+  both_answer : (ls : List (List ℕ)) (f : Sought) (a : Looked) → well_formed t (question edition equal) literal body ≡ Ok ls → sought t literal table body ≡ Ok f
+      → size f.rows ≤ length lent → looked_in f (cleared f.rows lent) ≡ Ok a → ask t (question edition equal) literal body lent ≡ Ok a.answer
       → AnsweredAlike t edition literal table body lent
   unfolding lookable looked_up look_up_buffer looked_buffer answer_of ask_buffer answer_buffer and_then check
   both_answer ls f a e s h l k = (rw (e, s, le-leb (size f.rows) (length lent) h, l, k), rw (e, s, le-leb (size f.rows) (length lent) h, l, k))
@@ -74,7 +75,7 @@ module _ (t : ℕ) (cells : List Cell) (nulls : List Entry) (bs : List (List Ent
   patterns_laid = all_patterns region cells (nulls ++ joined bs) region_short laid.entries.rows
 
   -- what Ask reads, and what it accepts
-  dictionary_laid : dictionary t body ≡ ok read
+  dictionary_laid : dictionary t body ≡ Ok read
   dictionary_laid =
       two_laid t (length cells) nulls bs region laid.column.0 laid.entries.null_only laid.none_empty laid.rises patterns_laid laid.few_rows
       laid.few_values laid.few_blocks laid.short
@@ -88,22 +89,22 @@ module _ (t : ℕ) (cells : List Cell) (nulls : List Entry) (bs : List (List Ent
     abbrev words : List ℕ
     words = entry_starts (length cells) nulls bs ++ more
 
-    prepared-short : length lent < size (length cells) → prepared t body lent ≡ refuse Room
+    prepared-short : length lent < size (length cells) → prepared t body lent ≡ Err Room
     unfolding prepared room_for check and_then
     prepared-short h = rw (le-leb (length body) limit laid.short, dictionary_laid, lt-leb (size (length cells)) (length lent) h)
 
-    prepared_laid : size (length cells) ≤ length lent → prepared t body lent ≡ ok read
+    prepared_laid : size (length cells) ≤ length lent → prepared t body lent ≡ Ok read
     unfolding prepared room_for check and_then
     prepared_laid h = rw (le-leb (length body) limit laid.short, dictionary_laid, le-leb (size (length cells)) (length lent) h)
 
-    asked_laid : (ls : List (List ℕ)) → well_formed t (question edition equal) literal body ≡ ok ls → size (length cells) ≤ length lent
-        → ask t (question edition equal) literal body lent ≡ ok (answered (question edition equal) ls read (cleared (length cells) lent))
+    asked_laid : (ls : List (List ℕ)) → well_formed t (question edition equal) literal body ≡ Ok ls → size (length cells) ≤ length lent
+        → ask t (question edition equal) literal body lent ≡ Ok (answered (question edition equal) ls read (cleared (length cells) lent))
     unfolding ask audited_answer and_then
     asked_laid ls e h = rw (e, prepared_laid h, column_audited cells (nulls ++ joined bs) region lent has_column b h)
 
     -- of what the lookup found
-    found-answered : (ls : List (List ℕ)) (h : Halved) (found : Searched) → well_formed t (question edition equal) literal body ≡ ok ls
-        → sought t literal words body ≡ ok (found_inside (length cells) nulls region h found) → found.hit ≡ equals edition ls (joined bs)
+    found-answered : (ls : List (List ℕ)) (h : Halved) (found : Searched) → well_formed t (question edition equal) literal body ≡ Ok ls
+        → sought t literal words body ≡ Ok (found_inside (length cells) nulls region h found) → found.hit ≡ equals edition ls (joined bs)
         → AnsweredAlike t edition literal words body lent
     found-answered ls h found e seeks hit = go (dec_lt (length lent) (size (length cells)))
       where
@@ -114,8 +115,8 @@ module _ (t : ℕ) (cells : List Cell) (nulls : List Entry) (bs : List (List Ent
             both_answer t edition literal words body lent ls (found_inside (length cells) nulls region h found) _ e seeks room
             (looked_laid t edition ls cells nulls bs region lent laid.entries laid.rises region_short b room h found hit) (asked_laid ls e room)
 
-    module _ (is : front body ≡ ok (front_laid (length cells) nulls bs region)) where
-      well_formed_lem : (ls : List (List ℕ)) → well_formed t (question edition equal) literal body ≡ ok ls → AnsweredAlike t edition literal words body lent
+    module _ (is : front body ≡ Ok (front_laid (length cells) nulls bs region)) where
+      well_formed_lem : (ls : List (List ℕ)) → well_formed t (question edition equal) literal body ≡ Ok ls → AnsweredAlike t edition literal words body lent
       well_formed_lem ls e =
           let few : length (joined bs) < sign_bit = omega (arith, laid.few_values) in
           let (h, found, seeks, hit) = sought_laid t edition (length cells) literal ls (chooses_literal t edition literal body ls e) nulls bs region more is
@@ -125,15 +126,15 @@ module _ (t : ℕ) (cells : List Cell) (nulls : List Entry) (bs : List (List Ent
       laid_answered : AnsweredAlike t edition literal words body lent
       laid_answered = go (well_formed t (question edition equal) literal body) refl
         where
-          go : (o : Out Refusal (List (List ℕ))) → well_formed t (question edition equal) literal body ≡ o → AnsweredAlike t edition literal words body lent
-          go (refuse r) e = not-well_formed t edition literal words body lent r e
-          go (ok ls) e = well_formed_lem ls e
+          go : (o : Result (List (List ℕ)) Refusal) → well_formed t (question edition equal) literal body ≡ o → AnsweredAlike t edition literal words body lent
+          go (Err r) e = not-well_formed t edition literal words body lent r e
+          go (Ok ls) e = well_formed_lem ls e
 
 -- as the scan says
 pub laid_looked_up : (t : ℕ) (cells : List Cell) (nulls : List Entry) (bs : List (List Entry)) (region : List ℕ) → InBlocks t cells nulls bs region
     → (edition : ℕ) (ls : List (List ℕ)) → WellFormed t (question edition equal) ls → (behind field : List ℕ) → Bytes field → size (length cells) ≤ length field
     → answer_of (looked_up t edition (joined ls) (entry_starts (length cells) nulls bs ++ behind) (body2 (length cells) nulls bs region) field)
-    ≡ ok (scan_answer (question edition equal) ls cells field)
+    ≡ Ok (scan_answer (question edition equal) ls cells field)
 laid_looked_up t cells nulls bs region laid edition ls w behind field b room =
     let is = front_of t cells nulls bs region laid in
     let s : List ℕ = body2 (length cells) nulls bs region in

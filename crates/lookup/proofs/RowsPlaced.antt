@@ -6,7 +6,8 @@ use mathlib.Core.List.{List, [], ◌∷◌, ◌++◌, append-nil}
 use lib.ListN.{length}
 use Rattle.numbers.specs.Meaning.{joined, Bytes}
 use Rattle.refusal.specs.Meaning.{limit}
-use Rattle.refusal.specs.Reading.{ok, and_then}
+use Rattle.std.specs.Prelude.{Ok}
+use Rattle.refusal.specs.Reading.{and_then}
 use Rattle.row_field.specs.Meaning.{size, cleared}
 use Rattle.stored_value.specs.Meaning.{Cell, null, value}
 use Rattle.dictionary.specs.Layout.{Entry, Valued, NullOnly, Rises}
@@ -66,15 +67,15 @@ module _ (t edition : ℕ) (ls : List (List ℕ)) (cells : List Cell) (nulls : L
     (k : ColumnEntries cells region nulls (joined bs)) (r : Rises t null (joined bs)) (short : length region ≤ limit)
     (b : Bytes lent) (room : size (length cells) ≤ length lent) where
   placed_marked : (next : ℕ) (es : List Entry) → ExactRows region cells es → Once es
-      → place_entries next (length cells) region es (cleared (length cells) lent) ≡ ok (mark_entries region es (cleared (length cells) lent))
+      → place_entries next (length cells) region es (cleared (length cells) lent) ≡ Ok (mark_entries region es (cleared (length cells) lent))
   placed_marked next es a o =
       let zero : List ℕ = cleared (length cells) lent in
       let free : Free (length cells) zero = cleared_free (length cells) lent b room in
-      placed-all region cells zero short free next es a o ∙ ap ok (sym (marked_all region cells zero short free.bytes es a))
+      placed-all region cells zero short free next es a o ∙ ap Ok (sym (marked_all region cells zero short free.bytes es a))
 
   pub looked_laid : (h : Halved) (found : Searched) → found.hit ≡ chosen_of (question edition equal) ls (joined bs)
       → looked_in (found_inside (length cells) nulls region h found) (cleared (length cells) lent)
-      ≡ ok (record {
+      ≡ Ok (record {
         answer = answered (question edition equal) ls (column_dictionary cells (nulls ++ joined bs) region) (cleared (length cells) lent);
         compared = h.compared + found.compared;
       })

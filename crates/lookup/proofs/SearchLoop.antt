@@ -16,7 +16,8 @@ use Rattle.numbers.specs.Meaning.{big, number, be_at, same, sign_bit}
 use Rattle.numbers.proofs.SameBytes.{same→eq, same-other}
 use Rattle.refusal.specs.declared.Refusal.{Refusal}
 use Rattle.refusal.specs.declared.Refusal.TheVariants.{Short, Dict}
-use Rattle.refusal.specs.Reading.{refuse, ok, check}
+use Rattle.std.specs.Prelude.{Err, Ok}
+use Rattle.refusal.specs.Reading.{check}
 use Rattle.stored_value.specs.Meaning.{value}
 use Rattle.stored_value.specs.Reading.{value_size}
 use Rattle.dictionary.specs.Promises.{EndsAt, OffsetAt}
@@ -45,7 +46,7 @@ module _ {t : ℕ} {literal : List ℕ} {n : ℕ} {s : List ℕ} {at i p : ℕ} 
     left : n - i ≡ suc (n - (i + 1))
     left = omega arith
 
-    pub searching_refused : {r : Refusal} → value_size Short Dict t (drop p s) ≡ refuse r → SearchedFrom t literal n s at (Search.Refused r)
+    pub searching_refused : {r : Refusal} → value_size Short Dict t (drop p s) ≡ Err r → SearchedFrom t literal n s at (Search.Refused r)
     unfolding searched_in
     searching_refused e = rw left at st.whole ∙ value_refused t s p _ e
 
@@ -53,9 +54,9 @@ module _ {t : ℕ} {literal : List ℕ} {n : ℕ} {s : List ℕ} {at i p : ℕ} 
       abbrev v : List ℕ
       v = take (e - p) (drop p s)
 
-      passed : searched_in t literal n n 0 (drop at s) ≡ number big 4 (refuse Short) (drop e s) (λ offset s. number big 4 (refuse Short) s (λ extent s.
+      passed : searched_in t literal n n 0 (drop at s) ≡ number big 4 (Err Short) (drop e s) (λ offset s. number big 4 (Err Short) s (λ extent s.
           cond (same v literal)
-          (ok (record { entries = n; hit = record { cell = value v; offset = offset; extent = extent } ∷ []; compared = i + 1 }))
+          (Ok (record { entries = n; hit = record { cell = value v; offset = offset; extent = extent } ∷ []; compared = i + 1 }))
           (searched_in t literal n (n - (i + 1)) (i + 1) s)))
       unfolding searched_in
       passed = rw left at st.whole ∙ value_passed t s p _ e w
@@ -63,16 +64,16 @@ module _ {t : ℕ} {literal : List ℕ} {n : ℕ} {s : List ℕ} {at i p : ℕ} 
       pub searching_short : length s - e < 8 → SearchedFrom t literal n s at (Search.Refused Short)
       searching_short l = passed ∙ go (dec_lt (length s - e) 4)
         where
-          go : Dec (length s - e < 4) → number big 4 (refuse Short) (drop e s) (λ offset s. number big 4 (refuse Short) s (λ extent s.
+          go : Dec (length s - e < 4) → number big 4 (Err Short) (drop e s) (λ offset s. number big 4 (Err Short) s (λ extent s.
               cond (same v literal)
-              (ok (record { entries = n; hit = record { cell = value v; offset = offset; extent = extent } ∷ []; compared = i + 1 }))
-              (searched_in t literal n (n - (i + 1)) (i + 1) s))) ≡ refuse Short
+              (Ok (record { entries = n; hit = record { cell = value v; offset = offset; extent = extent } ∷ []; compared = i + 1 }))
+              (searched_in t literal n (n - (i + 1)) (i + 1) s))) ≡ Err Short
           go (yes c) = word_short 4 s e _ c
           go (no c) = word_at 4 s e _ (omega (arith, w.2)) ∙ word_short 4 s (e + 4) _ (omega arith)
 
       module _ (l : e + 8 ≤ length s) where
         read : searched_in t literal n n 0 (drop at s) ≡ cond (same v literal)
-            (ok (record { entries = n; hit = record { cell = value v; offset = be_at 4 s e; extent = be_at 4 s (e + 4) } ∷ []; compared = i + 1 }))
+            (Ok (record { entries = n; hit = record { cell = value v; offset = be_at 4 s e; extent = be_at 4 s (e + 4) } ∷ []; compared = i + 1 }))
             (searched_in t literal n (n - (i + 1)) (i + 1) (drop (e + 8) s))
         read =
             let z : e + 4 + 4 ≡ e + 8 = omega arith in

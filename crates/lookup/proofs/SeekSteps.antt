@@ -14,7 +14,8 @@ use mir.Facts.{of_z-to_z}
 use Rattle.numbers.specs.Meaning.{position}
 use Rattle.refusal.specs.declared.Refusal.{Refusal}
 use Rattle.refusal.specs.declared.Refusal.TheVariants.{Room}
-use Rattle.refusal.specs.Reading.{Out, refuse, ok, check, and_then}
+use Rattle.std.specs.Prelude.{Result, Err, Ok}
+use Rattle.refusal.specs.Reading.{check, and_then}
 use Rattle.row_field.specs.Meaning.{size}
 use Rattle.dictionary.specs.declared.Cursor.{Cursor}
 use Rattle.dictionary.specs.Promises.{pattern}
@@ -40,7 +41,7 @@ use Rattle.lookup.specs.Reading.{halving, searched, no_block, sought, lookable, 
 use Rattle.lookup.specs.Promises.{LookUpPromise, BaseIs, HalvedIs, searched_of, BlockAt, SoughtIs, refused_by, AnswersIn}
 
 -- what follows something that was read
-then_is : {A B : Type 0} (o : Out Refusal A) (a : A) (k : A → Out Refusal B) → o ≡ ok a → and_then o k ≡ k a
+then_is : {A B : Type 0} (o : Result A Refusal) (a : A) (k : A → Result B Refusal) → o ≡ Ok a → and_then o k ≡ k a
 unfolding and_then
 then_is o a k e = rw e
 
@@ -49,10 +50,10 @@ then_is o a k e = rw e
 module _ (t : ℕ) (literal table s : List ℕ) {x : FrontRead} (w : FrontIs s x) where
   pub seek_front : {r : Refusal} → x ≡ FrontRead.Refused r → SoughtIs t literal table s (Seeking.Refused r)
   unfolding sought and_then
-  seek_front {r} e = let i : front s ≡ refuse r = rw e at w in rw i
+  seek_front {r} e = let i : front s ≡ Err r = rw e at w in rw i
 
   module _ {g : Fields} (e : x ≡ Read g) where
-    is_front : front s ≡ ok (front_found s g)
+    is_front : front s ≡ Ok (front_found s g)
     is_front = (rw e at w).0
 
     pub seek_fits : FieldsFit s g
@@ -77,8 +78,8 @@ module _ (t : ℕ) (literal table s : List ℕ) {x : FrontRead} (w : FrontIs s x
         seek_within = omega (arith, is_base.1, is_base.2)
 
         based : sought t literal table s ≡ and_then (halving t literal table s g.blocks 0 g.blocks 0 0) (λ h.
-            and_then (cond (eqb h.below 0) (ok no_block) (searched t literal (drop h.at (drop base s)))) (λ b.
-            ok (record { rows = g.rows; nulls = (front_found s g).nulls; region = drop region s; directory = h; block = b })))
+            and_then (cond (eqb h.below 0) (Ok no_block) (searched t literal (drop h.at (drop base s)))) (λ b.
+            Ok (record { rows = g.rows; nulls = (front_found s g).nulls; region = drop region s; directory = h; block = b })))
         unfolding sought and_then check
         based =
             let z : base + (region - base) ≡ region = omega (arith, is_base.1) in
@@ -95,8 +96,8 @@ module _ (t : ℕ) (literal table s : List ℕ) {x : FrontRead} (w : FrontIs s x
           is_halved : HalvedIs t literal table s g.blocks (Halving.Done below offset compared)
           is_halved = rw k at u
 
-          halved : sought t literal table s ≡ and_then (cond (eqb below 0) (ok no_block) (searched t literal (drop offset (drop base s)))) (λ b.
-              ok (record {
+          halved : sought t literal table s ≡ and_then (cond (eqb below 0) (Ok no_block) (searched t literal (drop offset (drop base s)))) (λ b.
+              Ok (record {
                 rows = g.rows;
                 nulls = (front_found s g).nulls;
                 region = drop region s;
@@ -158,7 +159,7 @@ module _ (t edition : ℕ) (literal table s f : List ℕ) where
       }
 
   -- refused before a byte is written
-  early : {why : Refusal} → lookable t edition literal table s f ≡ refuse why → {r : LookedUp} → r ≡ refused_by why → LookUpPromise t edition literal table s f f r
+  early : {why : Refusal} → lookable t edition literal table s f ≡ Err why → {r : LookedUp} → r ≡ refused_by why → LookUpPromise t edition literal table s f f r
   unfolding looked_up look_up_buffer looked_buffer refused_buffer answer_of compared_of answered_by and_then
   early e q = look_says (rw (q, e)) (rw (q, e)) (rw e)
 
@@ -166,7 +167,7 @@ module _ (t edition : ℕ) (literal table s f : List ℕ) where
     pub look_question : {why : Refusal} → o ≡ Outcome.Refused why → {r : LookedUp} → r ≡ refused_by why → LookUpPromise t edition literal table s f f r
     unfolding lookable and_then
     look_question {why} e q =
-        let i : well_formed t (question edition equal) literal s ≡ refuse why = rw e at w in
+        let i : well_formed t (question edition equal) literal s ≡ Err why = rw e at w in
         early (rw i) q
 
     pub look_asked : o ≡ Done → Asked t (question edition equal) literal s
@@ -176,7 +177,7 @@ module _ (t edition : ℕ) (literal table s f : List ℕ) where
       pub look_sought : {why : Refusal} → y ≡ Seeking.Refused why → {r : LookedUp} → r ≡ refused_by why → LookUpPromise t edition literal table s f f r
       unfolding lookable and_then
       look_sought {why} j q =
-          let i : sought t literal table s ≡ refuse why = rw j at v in
+          let i : sought t literal table s ≡ Err why = rw j at v in
           early (rw ((look_asked e).1, i)) q
 
       module _ {p : Place} (j : y ≡ Seeking.Done p) where
@@ -186,20 +187,20 @@ module _ (t edition : ℕ) (literal table s f : List ℕ) where
         pub look_inside : p.summary.region.0 ≤ length s
         look_inside = found.2.inside
 
-        tested : (has : Bool) → has ≡ leb (size p.summary.rows) (length f) → lookable t edition literal table s f ≡ check has Room (ok found.0)
+        tested : (has : Bool) → has ≡ leb (size p.summary.rows) (length f) → lookable t edition literal table s f ≡ check has Room (Ok found.0)
         unfolding lookable and_then
         tested has enough =
-            let i : lookable t edition literal table s f ≡ check (leb (size found.0.rows) (length f)) Room (ok found.0) = rw ((look_asked e).1, found.1) in
-            i ∙ ap (λ (n : ℕ). check (leb (size n) (length f)) Room (ok found.0)) found.2.rows ∙ ap (λ (b : Bool). check b Room (ok found.0)) (sym enough)
+            let i : lookable t edition literal table s f ≡ check (leb (size found.0.rows) (length f)) Room (Ok found.0) = rw ((look_asked e).1, found.1) in
+            i ∙ ap (λ (n : ℕ). check (leb (size n) (length f)) Room (Ok found.0)) found.2.rows ∙ ap (λ (b : Bool). check b Room (Ok found.0)) (sym enough)
 
         module _ {has : Bool} (enough : has ≡ leb (size p.summary.rows) (length f)) where
           pub look_room : has ≡ false → {r : LookedUp} → r ≡ refused_by Room → LookUpPromise t edition literal table s f f r
           unfolding check
-          look_room h q = early (tested has enough ∙ ap (λ (b : Bool). check b Room (ok found.0)) h) q
+          look_room h q = early (tested has enough ∙ ap (λ (b : Bool). check b Room (Ok found.0)) h) q
 
           pub look_answers : has ≡ true → {after : List ℕ} {r : LookedUp} → AnswersIn s p f after r → LookUpPromise t edition literal table s f after r
           unfolding looked_up look_up_buffer refused_buffer check and_then
           look_answers h a =
-              let i : lookable t edition literal table s f ≡ ok found.0 = tested has enough ∙ ap (λ (b : Bool). check b Room (ok found.0)) h in
+              let i : lookable t edition literal table s f ≡ Ok found.0 = tested has enough ∙ ap (λ (b : Bool). check b Room (Ok found.0)) h in
               let c = a literal found.0 found.2 in
               look_says (rw i c.answer) (rw i c.compared) (rw i c.buffer)

@@ -10,7 +10,8 @@ use Rattle.numbers.specs.Meaning.{big, joined, sign_bit}
 use Rattle.numbers.proofs.Laws.{number_laid}
 use Rattle.refusal.specs.Meaning.{limit}
 use Rattle.refusal.specs.declared.Refusal.TheVariants.{Short}
-use Rattle.refusal.specs.Reading.{refuse, ok, check, and_then}
+use Rattle.std.specs.Prelude.{Err, Ok}
+use Rattle.refusal.specs.Reading.{check, and_then}
 use Rattle.stored_value.specs.Meaning.{null}
 use Rattle.dictionary.specs.Layout.{Entry, Patterns, Rises, NoneEmpty, blocks, body2}
 use Rattle.opening.specs.Layout.{before_directory, entry_starts}
@@ -24,7 +25,7 @@ use Rattle.lookup.proofs.BlockLaid.{equals, ChoosesLiteral, block_laid}
 
 -- behind the last entry that the table leads to the directory ends
 behind_laid : (t n : ℕ) (table body : List ℕ) (nulls : List Entry) (bs : List (List Entry)) (region : List ℕ) → LeadsTo t table body bs (tailOf bs region)
-    → behind_directory t table body (front_laid n nulls bs region) ≡ ok (tailOf bs region)
+    → behind_directory t table body (front_laid n nulls bs region) ≡ Ok (tailOf bs region)
 unfolding behind_directory and_then
 behind_laid t n table body nulls [] region leads = refl
 behind_laid t n table body nulls (b ∷ bs) region leads =
@@ -38,9 +39,9 @@ found_inside n nulls region h b = record { rows = n; nulls = nulls; region = reg
 
 module _ (t edition n : ℕ) (literal : List ℕ) (ls : List (List ℕ)) (chooses : ChoosesLiteral edition literal ls)
     (nulls : List Entry) (bs : List (List Entry)) (region more : List ℕ) where
-  pub sought_laid : front (body2 n nulls bs region) ≡ ok (front_laid n nulls bs region) → NoneEmpty bs → Rises t null (joined bs) → Patterns (joined bs)
+  pub sought_laid : front (body2 n nulls bs region) ≡ Ok (front_laid n nulls bs region) → NoneEmpty bs → Rises t null (joined bs) → Patterns (joined bs)
       → length (joined bs) < sign_bit → length (body2 n nulls bs region) ≤ limit
-      → (h : Halved) × (b : Searched) × (sought t literal (entry_starts n nulls bs ++ more) (body2 n nulls bs region) ≡ ok (found_inside n nulls region h b))
+      → (h : Halved) × (b : Searched) × (sought t literal (entry_starts n nulls bs ++ more) (body2 n nulls bs region) ≡ Ok (found_inside n nulls region h b))
       × (b.hit ≡ equals edition ls (joined bs))
   unfolding sought check and_then
   sought_laid is ne r p few short =
@@ -56,7 +57,7 @@ module _ (t edition n : ℕ) (literal : List ℕ) (ls : List (List ℕ)) (choose
         h,
         b,
         rw (is, le-leb (length bs) (length words) room, behind_laid t n words body nulls bs region leads)
-            (number_laid big 4 (refuse Short) (length (blocks bs)) base _ (omega arith)
+            (number_laid big 4 (Err Short) (length (blocks bs)) base _ (omega arith)
             ∙ rw (le-leb (length (blocks bs)) (length base) inside, halved, searched, drop_at (blocks bs) region (length (blocks bs)) refl)),
         hit,
       )

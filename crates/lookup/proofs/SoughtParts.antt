@@ -15,7 +15,8 @@ use Rattle.numbers.proofs.Laws.{number_at-lt}
 use Rattle.refusal.specs.Meaning.{limit}
 use Rattle.refusal.specs.declared.Refusal.{Refusal}
 use Rattle.refusal.specs.declared.Refusal.TheVariants.{Short, Dict}
-use Rattle.refusal.specs.Reading.{Out, ok, and_then}
+use Rattle.std.specs.Prelude.{Result, Ok}
+use Rattle.refusal.specs.Reading.{and_then}
 use Rattle.refusal.proofs.Laws.{ok_same, check-ok, then_ok}
 use Rattle.row_field.specs.Meaning.{size}
 use Rattle.stored_value.specs.Meaning.{null, value}
@@ -32,16 +33,16 @@ use Rattle.lookup.proofs.BlockEntries.{value-ok, block-from}
 
 pub record SoughtParts (t : ℕ) (literal table body : List ℕ) (f : Sought) : Type 0 where
   pub fields : Front
-  pub is_front : front body ≡ ok fields
+  pub is_front : front body ≡ Ok fields
   pub rows : f.rows ≡ fields.rows
   pub nulls : f.nulls ≡ fields.nulls
   pub behind : List ℕ
-  pub is_behind : behind_directory t table body fields ≡ ok behind
+  pub is_behind : behind_directory t table body fields ≡ Ok behind
   pub region : f.region ≡ drop (be_at 4 behind 0) (drop 4 behind)
-  pub halved : halving t literal table body fields.blocks 0 fields.blocks 0 0 ≡ ok f.directory
-  pub block : cond (eqb f.directory.below 0) (ok no_block) (searched t literal (drop f.directory.at (drop 4 behind))) ≡ ok f.block
+  pub halved : halving t literal table body fields.blocks 0 fields.blocks 0 0 ≡ Ok f.directory
+  pub block : cond (eqb f.directory.below 0) (Ok no_block) (searched t literal (drop f.directory.at (drop 4 behind))) ≡ Ok f.block
 
-pub sought_parts : (t : ℕ) (literal table body : List ℕ) (f : Sought) → sought t literal table body ≡ ok f → SoughtParts t literal table body f
+pub sought_parts : (t : ℕ) (literal table body : List ℕ) (f : Sought) → sought t literal table body ≡ Ok f → SoughtParts t literal table body f
 unfolding sought
 sought_parts t literal table body f e =
     let (fields, first, more) = then_ok (front body) _ f e in
@@ -50,7 +51,7 @@ sought_parts t literal table body f e =
     let (some, behindOffset) = number_ok 4 Short s _ f behindTable in
     let (within, both) = check-ok _ _ _ f behindOffset in
     let (h, third, last) = then_ok (halving t literal table body fields.blocks 0 fields.blocks 0 0) _ f both in
-    let (b, fourth, end) = then_ok (cond (eqb h.below 0) (ok no_block) (searched t literal (drop h.at (drop 4 s)))) _ f last in
+    let (b, fourth, end) = then_ok (cond (eqb h.below 0) (Ok no_block) (searched t literal (drop h.at (drop 4 s)))) _ f last in
     let g : Sought = record { rows = fields.rows; nulls = fields.nulls; region = drop (be_at 4 s 0) (drop 4 s); directory = h; block = b } in
     subst (SoughtParts t literal table body) {x = g} (ok_same g f end) (record {
       fields = fields;
@@ -65,8 +66,8 @@ sought_parts t literal table body f e =
     })
 
 -- the stages before the field's ROOM, and that
-pub lookable_parts : (t edition : ℕ) (literal table body field : List ℕ) (f : Sought) → lookable t edition literal table body field ≡ ok f
-    → (length body ≤ limit) × (sought t literal table body ≡ ok f) × (size f.rows ≤ length field)
+pub lookable_parts : (t edition : ℕ) (literal table body field : List ℕ) (f : Sought) → lookable t edition literal table body field ≡ Ok f
+    → (length body ≤ limit) × (sought t literal table body ≡ Ok f) × (size f.rows ≤ length field)
 unfolding lookable well_formed
 lookable_parts t edition literal table body field f e =
     let (ls, first, more) = then_ok (well_formed t (question edition equal) literal body) _ f e in
@@ -75,7 +76,7 @@ lookable_parts t edition literal table body field f e =
     let i : g ≡ f = ok_same g f same in
     let (short, others) = check-ok _ _ _ ls first in (
       leb-true (length body) limit (and_both (leb (length body) limit) _ short).0,
-      second ∙ ap ok i,
+      second ∙ ap Ok i,
       rw (← i) (leb-true (size g.rows) (length field) room),
     )
 
@@ -88,7 +89,7 @@ pub record Kept (s : List ℕ) : Type 0 where
 kept_drop : (k : ℕ) {s : List ℕ} → Kept s → Kept (drop k s)
 kept_drop k {s} h = record { bytes = bytes_drop k s h.bytes; short = rw length-drop (omega (arith, h.short)) }
 
-count-ok : {A : Type 0} (most : ℕ) (s : List ℕ) (k : ℕ → List ℕ → Out Refusal A) (a : A) → count_at_most most s k ≡ ok a → k (be_at 4 s 0) (drop 4 s) ≡ ok a
+count-ok : {A : Type 0} (most : ℕ) (s : List ℕ) (k : ℕ → List ℕ → Result A Refusal) (a : A) → count_at_most most s k ≡ Ok a → k (be_at 4 s 0) (drop 4 s) ≡ Ok a
 unfolding count_at_most
 count-ok most s k a e =
     let (l, rest) = number_ok 4 Short s _ a e in
@@ -101,8 +102,8 @@ record NullKept (nulls : List Entry) (behind : List ℕ) : Type 0 where
   patterns : Patterns nulls
   kept : Kept behind
 
-null_ok : {A : Type 0} (has : Bool) (s : List ℕ) (k : List Entry → List ℕ → Out Refusal A) (a : A) → Kept s → null_of true has s k ≡ ok a
-    → (nulls : List Entry) × (r : List ℕ) × NullKept nulls r × (k nulls r ≡ ok a)
+null_ok : {A : Type 0} (has : Bool) (s : List ℕ) (k : List Entry → List ℕ → Result A Refusal) (a : A) → Kept s → null_of true has s k ≡ Ok a
+    → (nulls : List Entry) × (r : List ℕ) × NullKept nulls r × (k nulls r ≡ Ok a)
 unfolding null_of
 null_ok false s k a h e = ([], s, record { only = tt; patterns = tt; kept = h }, e)
 null_ok true s k a h e =
@@ -121,7 +122,7 @@ record FrontKept (f : Front) : Type 0 where
   patterns : Patterns f.nulls
   kept : Kept f.directory
 
-front_behind_kept : (rows n : ℕ) (has : Bool) (s : List ℕ) (f : Front) → Kept s → rest_of_front rows n has s ≡ ok f → FrontKept f
+front_behind_kept : (rows n : ℕ) (has : Bool) (s : List ℕ) (f : Front) → Kept s → rest_of_front rows n has s ≡ Ok f → FrontKept f
 unfolding rest_of_front
 front_behind_kept rows n has s f h e =
     let (nulls, r, is, more) = null_ok has s _ f h e in
@@ -129,7 +130,7 @@ front_behind_kept rows n has s f h e =
     subst FrontKept (ok_same (record { rows = rows; values = n; nulls = nulls; blocks = be_at 4 r 0; directory = drop 4 r }) f last)
     (record { only = is.only; patterns = is.patterns; kept = kept_drop 4 is.kept })
 
-front_kept : (body : List ℕ) (f : Front) → Kept body → front body ≡ ok f → FrontKept f
+front_kept : (body : List ℕ) (f : Front) → Kept body → front body ≡ Ok f → FrontKept f
 unfolding front
 front_kept body f h e =
     let (l, behindVersion) = number_ok 1 Short body _ f e in
@@ -140,18 +141,18 @@ front_kept body f h e =
     let (flag, more) = check-ok _ _ _ f behindFlag in
     front_behind_kept _ _ _ _ f (kept_drop 1 (kept_drop 4 (kept_drop 4 (kept_drop 1 h)))) more
 
-listed_kept : (t : ℕ) (s : List ℕ) (d : EntryRead) → Kept s → entry_read t s ≡ ok d → Kept d.behind
+listed_kept : (t : ℕ) (s : List ℕ) (d : EntryRead) → Kept s → entry_read t s ≡ Ok d → Kept d.behind
 unfolding entry_read
 listed_kept t s d h e =
     let (k, is, more) = value-ok Short Dict t s _ d e in
     let (l, last) = number_ok 4 Short (drop k s) _ d more in
     subst (λ (x : EntryRead). Kept x.behind) (ok_same _ d last) (kept_drop 4 (kept_drop k h))
 
-behind_kept : (t : ℕ) (table body : List ℕ) (f : Front) (s : List ℕ) → Kept body → Kept f.directory → behind_directory t table body f ≡ ok s → Kept s
+behind_kept : (t : ℕ) (table body : List ℕ) (f : Front) (s : List ℕ) → Kept body → Kept f.directory → behind_directory t table body f ≡ Ok s → Kept s
 unfolding behind_directory entry_for
 behind_kept t table body f s h k e = go (eqb f.blocks 0) e
   where
-    go : (b : Bool) → cond b (ok f.directory) (and_then (entry_for t table body (f.blocks - 1)) (λ d. ok d.behind)) ≡ ok s → Kept s
+    go : (b : Bool) → cond b (Ok f.directory) (and_then (entry_for t table body (f.blocks - 1)) (λ d. Ok d.behind)) ≡ Ok s → Kept s
     go true e = subst Kept (ok_same _ s e) k
     go false e =
         let (d, is, same) = then_ok (entry_for t table body (f.blocks - 1)) _ s e in
@@ -172,13 +173,13 @@ pub record Placeable (literal : List ℕ) (f : Sought) : Type 0 where
 abbrev OneHit : List ℕ → Searched → Type 0
 OneHit literal b = All (λ (e : Entry). e.cell ≡ value literal) b.hit × (length b.hit ≤ 1) × Patterns b.hit
 
-one_hit : (t : ℕ) (literal s : List ℕ) (x : Bool) (b : Searched) → Bytes s → cond x (ok no_block) (searched t literal s) ≡ ok b → OneHit literal b
+one_hit : (t : ℕ) (literal s : List ℕ) (x : Bool) (b : Searched) → Bytes s → cond x (Ok no_block) (searched t literal s) ≡ Ok b → OneHit literal b
 one_hit t literal s true b c e = subst (OneHit literal) (ok_same no_block b e) (tt, omega arith, tt)
 one_hit t literal s false b c e =
     let (l, w) = block-from t literal s b e in
     (w.hit_is, w.one, w.patterns (bytes_drop 4 s c))
 
-pub sought_placeable : (t : ℕ) (literal table body : List ℕ) (f : Sought) → Kept body → sought t literal table body ≡ ok f → Placeable literal f
+pub sought_placeable : (t : ℕ) (literal table body : List ℕ) (f : Sought) → Kept body → sought t literal table body ≡ Ok f → Placeable literal f
 sought_placeable t literal table body f h e =
     let p = sought_parts t literal table body f e in
     let r = front_kept body p.fields h p.is_front in

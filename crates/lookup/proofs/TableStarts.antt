@@ -8,7 +8,7 @@ use Rattle.numbers.specs.Meaning.{be, big, joined}
 use Rattle.numbers.proofs.Laws.{number_laid}
 use Rattle.refusal.specs.Meaning.{limit}
 use Rattle.refusal.specs.declared.Refusal.TheVariants.{Short}
-use Rattle.refusal.specs.Reading.{refuse, ok}
+use Rattle.std.specs.Prelude.{Err, Ok}
 use Rattle.stored_value.specs.Meaning.{null}
 use Rattle.dictionary.specs.Layout.{Entry, Valued, value_bytes, first, Rises, NoneEmpty, block, blocks, directory, null2, body2}
 use Rattle.dictionary.proofs.LaidOut.{last_of, value_of_laid}
@@ -23,17 +23,17 @@ listed_of xs b ys tail =
     record { first = value_bytes (first b); at = length (blocks xs); behind = directory (length (blocks xs) + length (block b)) ys ++ tail }
 
 listed_laid : (t : ℕ) (xs : List (List Entry)) (b : List Entry) (ys : List (List Entry)) (tail : List ℕ) → Valued t (first b) → length (blocks xs) ≤ limit
-    → entry_read t (value_bytes (first b) ++ (be 4 (length (blocks xs)) ++ (directory (length (blocks xs) + length (block b)) ys ++ tail))) ≡ ok (listed_of xs b ys tail)
+    → entry_read t (value_bytes (first b) ++ (be 4 (length (blocks xs)) ++ (directory (length (blocks xs) + length (block b)) ys ++ tail))) ≡ Ok (listed_of xs b ys tail)
 unfolding entry_read
 listed_laid t xs b ys tail v l =
     let at : ℕ = length (blocks xs) in
     let rest : List ℕ = directory (at + length (block b)) ys ++ tail in
-    value_of_laid t (first b) (be 4 at ++ rest) _ v ∙ number_laid big 4 (refuse Short) at rest _ (omega arith)
+    value_of_laid t (first b) (be 4 at ++ rest) _ v ∙ number_laid big 4 (Err Short) at rest _ (omega arith)
 
 -- a table leads to the entries of these blocks
 abbrev pub LeadsTo : ℕ → List ℕ → List ℕ → List (List Entry) → List ℕ → Type 0
 LeadsTo t table body bs tail =
-    (xs : List (List Entry)) (b : List Entry) (ys : List (List Entry)) → bs ≡ xs ++ (b ∷ ys) → entry_for t table body (length xs) ≡ ok (listed_of xs b ys tail)
+    (xs : List (List Entry)) (b : List Entry) (ys : List (List Entry)) → bs ≡ xs ++ (b ∷ ys) → entry_for t table body (length xs) ≡ Ok (listed_of xs b ys tail)
 
 module _ (t n : ℕ) (nulls : List Entry) (bs : List (List Entry)) (region more : List ℕ) where
   -- blocks are no longer than the body

@@ -7,7 +7,8 @@ use native.Mathlib.Omega.{arith}
 use lib.Dec.{eqb}
 use lib.ListN.{drop}
 use Rattle.refusal.specs.declared.Refusal.{Refusal}
-use Rattle.refusal.specs.Reading.{Out, refuse, ok, and_then}
+use Rattle.std.specs.Prelude.{Result, Err, Ok}
+use Rattle.refusal.specs.Reading.{and_then}
 use Rattle.refusal.proofs.Laws.{ok_same, then_ok}
 use Rattle.row_field.specs.Meaning.{cleared}
 use Rattle.lookup.specs.Reading.{Halved, halving, Searched, searched, no_block, Sought, Looked, looked_in, lookable, looked_up, refused_buffer, looked_buffer, look_up_buffer}
@@ -33,12 +34,12 @@ laid_out_is_looked_up t cells nulls bs region laid edition ls w behind field b r
 -- ---- values compared
 
 -- an accepted lookup: what was sought, and what came of it
-accepted_parts : (t edition : ℕ) (literal table body field : List ℕ) (a : Looked) → looked_up t edition literal table body field ≡ ok a
-    → (f : Sought) × (lookable t edition literal table body field ≡ ok f) × (looked_in f (cleared f.rows field) ≡ ok a)
+accepted_parts : (t edition : ℕ) (literal table body field : List ℕ) (a : Looked) → looked_up t edition literal table body field ≡ Ok a
+    → (f : Sought) × (lookable t edition literal table body field ≡ Ok f) × (looked_in f (cleared f.rows field) ≡ Ok a)
 unfolding looked_up
 accepted_parts t edition literal table body field a e = then_ok (lookable t edition literal table body field) _ a e
 
-looked_compared : (f : Sought) (clear : List ℕ) (a : Looked) → looked_in f clear ≡ ok a → a.compared ≡ f.directory.compared + f.block.compared
+looked_compared : (f : Sought) (clear : List ℕ) (a : Looked) → looked_in f clear ≡ Ok a → a.compared ≡ f.directory.compared + f.block.compared
 unfolding looked_in
 looked_compared f clear a e =
     let (withNulls, first, more) = then_ok _ _ a e in
@@ -46,7 +47,7 @@ looked_compared f clear a e =
     sym (ap (λ (x : Looked). x.compared) (ok_same _ a last))
 
 -- in a block no more than its entries
-few_in_block : (t : ℕ) (literal s : List ℕ) (x : Bool) (b : Searched) → cond x (ok no_block) (searched t literal s) ≡ ok b → b.compared ≤ b.entries
+few_in_block : (t : ℕ) (literal s : List ℕ) (x : Bool) (b : Searched) → cond x (Ok no_block) (searched t literal s) ≡ Ok b → b.compared ≤ b.entries
 few_in_block t literal s true b e = subst (λ (y : Searched). y.compared ≤ y.entries) (ok_same no_block b e) (omega arith)
 few_in_block t literal s false b e =
     let (l, w) = block-from t literal s b e in
@@ -54,11 +55,11 @@ few_in_block t literal s false b e =
 
 -- without blocks none
 none-without : (t : ℕ) (literal table body s : List ℕ) (blocks : ℕ) (h : Halved) (b : Searched) → blocks ≡ 0
-    → halving t literal table body blocks 0 blocks 0 0 ≡ ok h → cond (eqb h.below 0) (ok no_block) (searched t literal s) ≡ ok b → h.compared + b.compared ≡ 0
+    → halving t literal table body blocks 0 blocks 0 0 ≡ Ok h → cond (eqb h.below 0) (Ok no_block) (searched t literal s) ≡ Ok b → h.compared + b.compared ≡ 0
 unfolding halving
 none-without t literal table body s blocks h b none e q =
     let i : record { below = 0; at = 0; compared = 0 } ≡ h = ok_same _ h (rw none at e) in
-    let j : no_block ≡ b = ok_same no_block b (subst (λ (x : Halved). cond (eqb x.below 0) (ok no_block) (searched t literal s) ≡ ok b) (sym i) q) in
+    let j : no_block ≡ b = ok_same no_block b (subst (λ (x : Halved). cond (eqb x.below 0) (Ok no_block) (searched t literal s) ≡ Ok b) (sym i) q) in
     omega (arith, ap (λ (x : Halved). x.compared) i, ap (λ (x : Searched). x.compared) j)
 
 pub few_are_compared : FewAreCompared
@@ -100,13 +101,13 @@ searched_stands t literal s b c e = block-searched t literal s b e c
 
 module _ (t edition : ℕ) (literal table body field : List ℕ) where
   -- up to ROOM the field stays
-  refused_early : (r : Refusal) → lookable t edition literal table body field ≡ refuse r
-      → (looked_up t edition literal table body field ≡ refuse r) × (look_up_buffer t edition literal table body field ≡ field)
+  refused_early : (r : Refusal) → lookable t edition literal table body field ≡ Err r
+      → (looked_up t edition literal table body field ≡ Err r) × (look_up_buffer t edition literal table body field ≡ field)
   unfolding looked_up look_up_buffer looked_buffer refused_buffer and_then
   refused_early r e = (rw e, rw e)
 
   -- and is then zero
-  refused_zero : (f : Sought) (r : Refusal) → lookable t edition literal table body field ≡ ok f → looked_up t edition literal table body field ≡ refuse r
+  refused_zero : (f : Sought) (r : Refusal) → lookable t edition literal table body field ≡ Ok f → looked_up t edition literal table body field ≡ Err r
       → look_up_buffer t edition literal table body field ≡ cleared f.rows field
   unfolding look_up_buffer looked_buffer refused_buffer
   refused_zero f r e q = rw (q, e)
@@ -119,12 +120,12 @@ pub refused_only_so : RefusedOnlySo
 unfolding looked_up and_then
 refused_only_so t edition literal table body field r c e = go (lookable t edition literal table body field) refl
   where
-    go : (x : Out Refusal Sought) → lookable t edition literal table body field ≡ x → RefusedIs t edition literal table body field r
-    go (refuse q) i =
+    go : (x : Result Sought Refusal) → lookable t edition literal table body field ≡ x → RefusedIs t edition literal table body field r
+    go (Err q) i =
         let is : q ≡ r = cc (refused_early t edition literal table body field q i).0 in
         let early : UpToRoom q = rw i at (lookable_early t edition literal table body field) in
         up_to-room (subst UpToRoom is early) (refused_early t edition literal table body field q i).1
-    go (ok f) i =
+    go (Ok f) i =
         let (short, found, room) = lookable_parts t edition literal table body field f i in
         let p = sought_placeable t literal table body f (record { bytes = c; short = short }) found in
         after_room f i (refused_after literal field f p room r (rw i at e)) (refused_zero t edition literal table body field f r i e)

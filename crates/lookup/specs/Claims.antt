@@ -1,9 +1,8 @@
 -- What is claimed of a lookup, over its definition in Reading; proofs/Theorems proves it. `Bytes` is asked of buffers: a buffer's numbers are bytes.
-use Rattle.std.specs.Prelude.{ℕ, ◌+◌, ◌*◌, ◌^◌, ◌≤◌, ◌<◌, ◌≡◌, false, List, [], ◌∷◌, ◌++◌, pos, length, drop}
+use Rattle.std.specs.Prelude.{ℕ, ◌+◌, ◌*◌, ◌^◌, ◌≤◌, ◌<◌, ◌≡◌, false, List, [], ◌∷◌, ◌++◌, pos, length, drop, Err, Ok}
 use Rattle.numbers.specs.Meaning.{All, Bytes, be, joined, signed32}
 use Rattle.refusal.specs.declared.Refusal.{Refusal}
 use Rattle.refusal.specs.declared.Refusal.TheVariants.{Short, Version, Dict, Bitmap, Range, Room, Literal, Limit}
-use Rattle.refusal.specs.Reading.{refuse, ok}
 use Rattle.row_field.specs.Meaning.{size, bit, mark_all, count, cleared, Below}
 use Rattle.roaring.specs.declared.Extent.{Extent}
 use Rattle.roaring.specs.Faults.{Broken}
@@ -24,7 +23,7 @@ use Rattle.lookup.specs.Reading.{Searched, searched, Sought, sought, Looked, loo
 
 abbrev pub OpenedIsAnswered : Type 0
 OpenedIsAnswered =
-    (t : ℕ) (body field table : List ℕ) (a : Table) → Bytes body → opened t body field table ≡ ok a → (edition : ℕ) (literal lent : List ℕ) → Bytes lent
+    (t : ℕ) (body field table : List ℕ) (a : Table) → Bytes body → opened t body field table ≡ Ok a → (edition : ℕ) (literal lent : List ℕ) → Bytes lent
     → (answer_of (looked_up t edition literal (open_table t body field table) body lent) ≡ ask t (question edition equal) literal body lent)
     × (look_up_buffer t edition literal (open_table t body field table) body lent ≡ ask_buffer t (question edition equal) literal body lent)
 
@@ -34,7 +33,7 @@ LaidOutIsLookedUp =
     (t : ℕ) (cells : List Cell) (nulls : List Entry) (bs : List (List Entry)) (region : List ℕ) → InBlocks t cells nulls bs region
     → (edition : ℕ) (ls : List (List ℕ)) → WellFormed t (question edition equal) ls → (behind field : List ℕ) → Bytes field → size (length cells) ≤ length field
     → answer_of (looked_up t edition (joined ls) (entry_starts (length cells) nulls bs ++ behind) (body2 (length cells) nulls bs region) field)
-    ≡ ok (scan_answer (question edition equal) ls cells field)
+    ≡ Ok (scan_answer (question edition equal) ls cells field)
 
 -- ---- "It reports values compared, equal to the steps of that definition: with B blocks at most floor(log2 B) + 1 in the directory (none if B is 0) and at most
 -- the block's entries after", for any bytes. And no step goes uncounted: of 2 ^ k - 1 blocks at least k are compared
@@ -52,8 +51,8 @@ pub record FewCompared (b : ℕ) (f : Sought) (compared : ℕ) : Type 0 where
 
 abbrev pub FewAreCompared : Type 0
 FewAreCompared =
-    (t edition : ℕ) (literal table body field : List ℕ) (a : Looked) → looked_up t edition literal table body field ≡ ok a
-    → (fields : Front) × (front body ≡ ok fields) × ((f : Sought) × (sought t literal table body ≡ ok f) × FewCompared fields.blocks f a.compared)
+    (t edition : ℕ) (literal table body field : List ℕ) (a : Looked) → looked_up t edition literal table body field ≡ Ok a
+    → (fields : Front) × (front body ≡ Ok fields) × ((f : Sought) × (sought t literal table body ≡ Ok f) × FewCompared fields.blocks f a.compared)
 
 -- there is such a k for each b but 0
 abbrev pub HasFloorLog2 : Type 0
@@ -74,14 +73,14 @@ pub record BlockSearched (literal s : List ℕ) (b : Searched) : Type 0 where
   pub within : b.compared ≤ b.entries
 
 abbrev pub SearchedStands : Type 0
-SearchedStands = (t : ℕ) (literal s : List ℕ) (b : Searched) → Bytes s → searched t literal s ≡ ok b → BlockSearched literal s b
+SearchedStands = (t : ℕ) (literal s : List ℕ) (b : Searched) → Bytes s → searched t literal s ≡ Ok b → BlockSearched literal s b
 
 -- ---- the question: "The edition is tested with type and question .. Ticket 6's lookup included". What Ask's EQUAL refuses of it a lookup refuses, of any body and table
 
 abbrev pub QuestionIsTested : Type 0
 QuestionIsTested =
-    (t edition : ℕ) (literal table body field : List ℕ) (r : Refusal) → well_formed t (question edition equal) literal body ≡ refuse r
-    → (looked_up t edition literal table body field ≡ refuse r) × (look_up_buffer t edition literal table body field ≡ field)
+    (t edition : ℕ) (literal table body field : List ℕ) (r : Refusal) → well_formed t (question edition equal) literal body ≡ Err r
+    → (looked_up t edition literal table body field ≡ Err r) × (look_up_buffer t edition literal table body field ≡ field)
 
 -- ---- "Otherwise its answer is a definition's own, refused only with LIMIT, LITERAL, SHORT, VERSION, DICT, ROOM, BITMAP or RANGE, the field untouched up to ROOM
 -- and zeroed after it; BITMAP and RANGE then count the entry within its block". ROOM is here that of the field: of a table it comes before directory and block
@@ -115,12 +114,12 @@ pub data AfterRoom (f : Sought) (r : Refusal) : Type 0 where
 -- what a refusal is, with the field then
 pub data RefusedIs (t edition : ℕ) (literal table body field : List ℕ) (r : Refusal) : Type 0 where
   up_to-room : UpToRoom r → look_up_buffer t edition literal table body field ≡ field → RefusedIs t edition literal table body field r
-  after_room : (f : Sought) → lookable t edition literal table body field ≡ ok f → AfterRoom f r
+  after_room : (f : Sought) → lookable t edition literal table body field ≡ Ok f → AfterRoom f r
       → look_up_buffer t edition literal table body field ≡ cleared f.rows field → RefusedIs t edition literal table body field r
 
 abbrev pub RefusedOnlySo : Type 0
 RefusedOnlySo =
-    (t edition : ℕ) (literal table body field : List ℕ) (r : Refusal) → Bytes body → looked_up t edition literal table body field ≡ refuse r
+    (t edition : ℕ) (literal table body field : List ℕ) (r : Refusal) → Bytes body → looked_up t edition literal table body field ≡ Err r
     → RefusedIs t edition literal table body field r
 
 -- ---- an accepted answer, for any bytes: null rows are the rows of null's entry, and the field has exactly the rows of the entry that was found; and it keeps 01's
@@ -141,11 +140,11 @@ pub record AcceptedIs (f : Sought) (before : List ℕ) (a : Looked) : Type 0 whe
 
 abbrev pub AcceptedOnlySo : Type 0
 AcceptedOnlySo =
-    (t edition : ℕ) (literal table body field : List ℕ) (a : Looked) → Bytes body → looked_up t edition literal table body field ≡ ok a
-    → (f : Sought) × (sought t literal table body ≡ ok f) × AcceptedIs f field a × (look_up_buffer t edition literal table body field ≡ a.answer.buffer)
+    (t edition : ℕ) (literal table body field : List ℕ) (a : Looked) → Bytes body → looked_up t edition literal table body field ≡ Ok a
+    → (f : Sought) × (sought t literal table body ≡ Ok f) × AcceptedIs f field a × (look_up_buffer t edition literal table body field ≡ a.answer.buffer)
 
 -- the row count and null's entry are those that the body states in front
 abbrev pub SoughtStates : Type 0
 SoughtStates =
-    (t : ℕ) (literal table body : List ℕ) (f : Sought) → sought t literal table body ≡ ok f
-    → (fields : Front) × (front body ≡ ok fields) × (f.rows ≡ fields.rows) × (f.nulls ≡ fields.nulls)
+    (t : ℕ) (literal table body : List ℕ) (f : Sought) → sought t literal table body ≡ Ok f
+    → (fields : Front) × (front body ≡ Ok fields) × (f.rows ≡ fields.rows) × (f.nulls ≡ fields.nulls)

@@ -1,9 +1,9 @@
 -- What contracts say, in the reading's terms: of a lookup, then of the functions that it is made of.
-use Rattle.std.specs.Prelude.{ℕ, ◌+◌, ◌-◌, ◌≤◌, ◌<◌, ◌≡◌, cond, List, [], ◌∷◌, eqb, leb, length, take, drop}
+use Rattle.std.specs.Prelude.{ℕ, ◌+◌, ◌-◌, ◌≤◌, ◌<◌, ◌≡◌, cond, List, [], ◌∷◌, eqb, leb, length, take, drop, Result, Err, Ok}
 use Rattle.numbers.specs.Meaning.{big, number, sign_bit, four_bytes}
 use Rattle.refusal.specs.declared.Refusal.{Refusal}
 use Rattle.refusal.specs.declared.Refusal.TheVariants.{Short, Dict}
-use Rattle.refusal.specs.Reading.{Out, refuse, ok, check, and_then, numbers_of, fault_in}
+use Rattle.refusal.specs.Reading.{check, and_then, numbers_of, fault_in}
 use Rattle.row_field.specs.Meaning.{count, cleared}
 use Rattle.subtract.specs.Meaning.{no_record, keeps}
 use Rattle.stored_value.specs.Meaning.{value}
@@ -43,33 +43,33 @@ pub record LookUpPromise (t edition : ℕ) (literal table body before after : Li
 
 -- the entry of the directory at a position, whose value ends at `end`
 abbrev pub ListedAt : ℕ → List ℕ → ℕ → Listing → Type 0
-ListedAt t s at (Listing.Refused r) = entry_read t (drop at s) ≡ refuse r
+ListedAt t s at (Listing.Refused r) = entry_read t (drop at s) ≡ Err r
 ListedAt t s at (Listing.Is end offset) =
-    (entry_read t (drop at s) ≡ ok (record { first = take (end.0 - at) (drop at s); at = offset; behind = drop (end.0 + 4) s }))
+    (entry_read t (drop at s) ≡ Ok (record { first = take (end.0 - at) (drop at s); at = offset; behind = drop (end.0 + 4) s }))
     × (at < end.0) × (end.0 + 4 ≤ length s) × (offset < four_bytes)
 
 -- where the directory ends
 abbrev pub EndIs : ℕ → List ℕ → List ℕ → Fields → End → Type 0
-EndIs t table s f (End.Refused r) = behind_directory t table s (front_found s f) ≡ refuse r
-EndIs t table s f (End.At p) = (behind_directory t table s (front_found s f) ≡ ok (drop p.0 s)) × (p.0 ≤ length s)
+EndIs t table s f (End.Refused r) = behind_directory t table s (front_found s f) ≡ Err r
+EndIs t table s f (End.At p) = (behind_directory t table s (front_found s f) ≡ Ok (drop p.0 s)) × (p.0 ≤ length s)
 
 -- the body offset and what stands behind it, whatever is read with them
 abbrev pub AfterBase : Type 0
-AfterBase = ℕ → List ℕ → Out Refusal Sought
+AfterBase = ℕ → List ℕ → Result Sought Refusal
 
-abbrev pub based : List ℕ → AfterBase → Out Refusal Sought
-based s k = number big 4 (refuse Short) s (λ offset base. check (leb offset (length base)) Dict (k offset base))
+abbrev pub based : List ℕ → AfterBase → Result Sought Refusal
+based s k = number big 4 (Err Short) s (λ offset base. check (leb offset (length base)) Dict (k offset base))
 
 abbrev pub BaseIs : ℕ → List ℕ → List ℕ → Fields → Base → Type 0
-BaseIs t table s f (Base.Refused r) = (k : AfterBase) → and_then (behind_directory t table s (front_found s f)) (λ rest. based rest k) ≡ refuse r
+BaseIs t table s f (Base.Refused r) = (k : AfterBase) → and_then (behind_directory t table s (front_found s f)) (λ rest. based rest k) ≡ Err r
 BaseIs t table s f (Base.At base region) =
     ((k : AfterBase) → and_then (behind_directory t table s (front_found s f)) (λ rest. based rest k) ≡ k (region.0 - base.0) (drop base.0 s))
     × (base.0 ≤ region.0) × (region.0 ≤ length s)
 
 abbrev pub HalvedIs : ℕ → List ℕ → List ℕ → List ℕ → ℕ → Halving → Type 0
-HalvedIs t literal table s blocks (Halving.Refused r) = halving t literal table s blocks 0 blocks 0 0 ≡ refuse r
+HalvedIs t literal table s blocks (Halving.Refused r) = halving t literal table s blocks 0 blocks 0 0 ≡ Err r
 HalvedIs t literal table s blocks (Halving.Done below offset compared) =
-    (halving t literal table s blocks 0 blocks 0 0 ≡ ok (record { below = below; at = offset; compared = compared })) × (compared ≤ blocks) × (offset < four_bytes)
+    (halving t literal table s blocks 0 blocks 0 0 ≡ Ok (record { below = below; at = offset; compared = compared })) × (compared ≤ blocks) × (offset < four_bytes)
 
 -- ---- one block
 
@@ -82,19 +82,19 @@ abbrev pub searched_of : ℕ → List ℕ → Found → Searched
 searched_of n v f = record { entries = n; hit = hit_of v f; compared = f.compared }
 
 abbrev pub SearchedFrom : ℕ → List ℕ → ℕ → List ℕ → ℕ → Search → Type 0
-SearchedFrom t literal n s at (Search.Refused r) = searched_in t literal n n 0 (drop at s) ≡ refuse r
-SearchedFrom t literal n s at (Search.Done f) = (searched_in t literal n n 0 (drop at s) ≡ ok (searched_of n literal f)) × (f.compared ≤ n)
+SearchedFrom t literal n s at (Search.Refused r) = searched_in t literal n n 0 (drop at s) ≡ Err r
+SearchedFrom t literal n s at (Search.Done f) = (searched_in t literal n n 0 (drop at s) ≡ Ok (searched_of n literal f)) × (f.compared ≤ n)
 
 -- the same of a reading of a block, which says its number of entries
-abbrev pub FoundIn : Out Refusal Searched → List ℕ → Search → Type 0
-FoundIn o literal (Search.Refused r) = o ≡ refuse r
-FoundIn o literal (Search.Done f) = (n : ℕ) × (o ≡ ok (searched_of n literal f)) × (f.compared < sign_bit)
+abbrev pub FoundIn : Result Searched Refusal → List ℕ → Search → Type 0
+FoundIn o literal (Search.Refused r) = o ≡ Err r
+FoundIn o literal (Search.Done f) = (n : ℕ) × (o ≡ Ok (searched_of n literal f)) × (f.compared < sign_bit)
 
 abbrev pub SearchedAt : ℕ → List ℕ → List ℕ → ℕ → Search → Type 0
 SearchedAt t literal s at r = FoundIn (searched t literal (drop at s)) literal r
 
 abbrev pub BlockAt : ℕ → List ℕ → List ℕ → ℕ → ℕ → ℕ → Search → Type 0
-BlockAt t literal s base below offset r = FoundIn (cond (eqb below 0) (ok no_block) (searched t literal (drop offset (drop base s)))) literal r
+BlockAt t literal s base below offset r = FoundIn (cond (eqb below 0) (Ok no_block) (searched t literal (drop offset (drop base s)))) literal r
 
 -- ---- what comes before the field's ROOM
 
@@ -109,15 +109,15 @@ pub record PlaceIs (literal s : List ℕ) (p : Place) (f : Sought) : Type 0 wher
   pub inside : p.summary.region.0 ≤ length s
 
 abbrev pub SoughtIs : ℕ → List ℕ → List ℕ → List ℕ → Seeking → Type 0
-SoughtIs t literal table s (Seeking.Refused r) = sought t literal table s ≡ refuse r
-SoughtIs t literal table s (Seeking.Done p) = (f : Sought) × (sought t literal table s ≡ ok f) × PlaceIs literal s p f
+SoughtIs t literal table s (Seeking.Refused r) = sought t literal table s ≡ Err r
+SoughtIs t literal table s (Seeking.Done p) = (f : Sought) × (sought t literal table s ≡ Ok f) × PlaceIs literal s p f
 
 -- ---- the answer
 
 -- null's rows are counted as they stand once placed; the field is left as it was
-abbrev pub NullCount : ℕ → Out Refusal (List ℕ) → Placing → Type 0
-NullCount n o (Placing.Refused r) = o ≡ refuse r
-NullCount n o (Placed k) = (placed : List ℕ) × (o ≡ ok placed) × (k ≡ count placed n)
+abbrev pub NullCount : ℕ → Result (List ℕ) Refusal → Placing → Type 0
+NullCount n o (Placing.Refused r) = o ≡ Err r
+NullCount n o (Placed k) = (placed : List ℕ) × (o ≡ Ok placed) × (k ≡ count placed n)
 
 pub record CountsNull (s : List ℕ) (h : Summary) (before after : List ℕ) (r : Placing) : Type 0 where
   pub outcome : NullCount h.rows (place_in first_number s h (nulls_of h) before) r
@@ -139,7 +139,7 @@ answered_with rows nulls matched compared =
     }
 
 -- what a reading says in the code's terms: the answer, values compared, and the buffer, `otherwise` where it is a refusal
-pub record Answers (o : Out Refusal Looked) (otherwise after : List ℕ) (r : LookedUp) : Type 0 where
+pub record Answers (o : Result Looked Refusal) (otherwise after : List ℕ) (r : LookedUp) : Type 0 where
   pub answer : r.answer ≡ answered_by (answer_of o)
   pub compared : r.compared ≡ compared_of o
   pub buffer : after ≡ looked_buffer o otherwise

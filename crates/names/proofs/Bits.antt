@@ -8,7 +8,8 @@ use native.Mathlib.Omega.{arith}
 use lib.Dec.{leb, ltb}
 use borrow.Author.Tests.{lt-ltb, le-ltb, le-leb, ltb-true, leb-true}
 use Rattle.numbers.proofs.Booleans.{and_both}
-use Rattle.refusal.specs.Reading.{ok, check}
+use Rattle.std.specs.Prelude.{Ok}
+use Rattle.refusal.specs.Reading.{check}
 use Rattle.refusal.proofs.Laws.{not-ok, check-ok}
 use Rattle.names.specs.Layout.{first_high, past_surrogates, past_last, Scalar}
 use Rattle.names.specs.Reading.{Spelled, continued, is_scalar}
@@ -19,7 +20,7 @@ pub record Read {A : Type 0} (form : ℕ → List ℕ) (Of : ℕ → Type 0) (s 
   pub rest : List ℕ
   pub of : Of point
   pub parts : s ≡ form point ++ rest
-  pub so : k point rest ≡ ok good
+  pub so : k point rest ≡ Ok good
 
 pub clash : true ≡ false → ⊥
 clash e = let z : ◌≡◌ {A = ℕ} 0 1 = cc in omega arith
@@ -53,9 +54,9 @@ pub record Byte {A : Type 0} (n v : ℕ) (s : List ℕ) (k : ℕ → List ℕ �
   pub low : 128 ≤ byte
   pub high : byte < 192
   pub parts : s ≡ byte ∷ rest
-  pub so : continued n (v * 64 + (byte - 128)) rest k ≡ ok good
+  pub so : continued n (v * 64 + (byte - 128)) rest k ≡ Ok good
 
-pub byte_back : {A : Type 0} (n v : ℕ) (s : List ℕ) (k : ℕ → List ℕ → Spelled A) (good : A) → continued (suc n) v s k ≡ ok good → Byte n v s k good
+pub byte_back : {A : Type 0} (n v : ℕ) (s : List ℕ) (k : ℕ → List ℕ → Spelled A) (good : A) → continued (suc n) v s k ≡ Ok good → Byte n v s k good
 unfolding continued
 byte_back n v [] k good e = absurd (not-ok e)
 byte_back n v (b ∷ s) k good e =

@@ -11,7 +11,8 @@ use lib.ListN.{length}
 use borrow.Author.Tests.{lt-ltb, le-ltb, le-leb, lt-leb, eq-eqb, ne_eqb, ltb-true, leb-true, not-true}
 use Rattle.numbers.specs.Meaning.{All}
 use Rattle.numbers.proofs.Booleans.{and_both}
-use Rattle.refusal.specs.Reading.{ok, check}
+use Rattle.std.specs.Prelude.{Ok}
+use Rattle.refusal.specs.Reading.{check}
 use Rattle.refusal.proofs.Laws.{not-ok, check-ok}
 use Rattle.names.specs.Layout.{first_high, first_low, past_surrogates, past_plane, past_last, past_one_byte, past_two_bytes, Scalar, in_two_bytes, in_three_bytes, standard_of, high_of, low_of, modified_of}
 use Rattle.names.specs.Reading.{Spelled, continued, modified_unit, is_high, is_low, modified_point}
@@ -81,12 +82,12 @@ module _ {A : Type 0} (k : ℕ → List ℕ → Spelled A) (good : A) where
   UnitRead s = Read unit_form (λ u. u < past_plane) s k good
 
   module _ (a : ℕ) (s : List ℕ) where
-    one_back : 1 ≤ a → a < 128 → k a s ≡ ok good → UnitRead (a ∷ s)
+    one_back : 1 ≤ a → a < 128 → k a s ≡ Ok good → UnitRead (a ∷ s)
     one_back l h e =
         let f : unit_form a ≡ a ∷ [] = other_form a l ∙ one_form a h in
         record { point = a; rest = s; of = omega arith; parts = ap (λ (l : List ℕ). l ++ s) (sym f); so = e }
 
-    two_back : 192 ≤ a → a < 224 → continued 1 (a - 192) s (λ u s. check (eqb u 0 || leb past_one_byte u) tt (k u s)) ≡ ok good → UnitRead (a ∷ s)
+    two_back : 192 ≤ a → a < 224 → continued 1 (a - 192) s (λ u s. check (eqb u 0 || leb past_one_byte u) tt (k u s)) ≡ Ok good → UnitRead (a ∷ s)
     unfolding continued
     two_back l h e =
         let b = byte_back 0 (a - 192) s _ good e in
@@ -110,7 +111,7 @@ module _ {A : Type 0} (k : ℕ → List ℕ → Spelled A) (good : A) where
               | no n ↦ let g : past_one_byte ≤ u = leb-true past_one_byte u (rw (ne_eqb u 0 n) at t) in other_form u (omega arith) ∙ two_form u g h
             ]
 
-    three_back : 224 ≤ a → a < 240 → continued 2 (a - 224) s (λ u s. check (leb past_two_bytes u) tt (k u s)) ≡ ok good → UnitRead (a ∷ s)
+    three_back : 224 ≤ a → a < 240 → continued 2 (a - 224) s (λ u s. check (leb past_two_bytes u) tt (k u s)) ≡ Ok good → UnitRead (a ∷ s)
     unfolding continued
     three_back l h e =
         let b = byte_back 1 (a - 224) s _ good e in
@@ -132,7 +133,7 @@ module _ {A : Type 0} (k : ℕ → List ℕ → Spelled A) (good : A) where
         }
 
     lead_back : check (leb 192 a) tt (cond (ltb a 224) (continued 1 (a - 192) s (λ u s. check (eqb u 0 || leb past_one_byte u) tt (k u s)))
-        (check (ltb a 240) tt (continued 2 (a - 224) s (λ u s. check (leb past_two_bytes u) tt (k u s))))) ≡ ok good → UnitRead (a ∷ s)
+        (check (ltb a 240) tt (continued 2 (a - 224) s (λ u s. check (leb past_two_bytes u) tt (k u s))))) ≡ Ok good → UnitRead (a ∷ s)
     lead_back e =
         let x = check-ok (leb 192 a) tt _ good e in
         let l : 192 ≤ a = leb-true 192 a x.0 in
@@ -144,7 +145,7 @@ module _ {A : Type 0} (k : ℕ → List ℕ → Spelled A) (good : A) where
               three_back m (ltb-true a 240 y.0) y.1
         ]
 
-  unit_back : (s : List ℕ) → modified_unit s k ≡ ok good → UnitRead s
+  unit_back : (s : List ℕ) → modified_unit s k ≡ Ok good → UnitRead s
   unfolding modified_unit
   unit_back [] e = absurd (not-ok e)
   unit_back (a ∷ s) e =
@@ -265,7 +266,7 @@ module _ {A : Type 0} (k : ℕ → List ℕ → Spelled A) (good : A) where
   abbrev Joined : ℕ → ℕ → ℕ
   Joined u w = past_plane + (u - first_high) * 1024 + (w - first_low)
 
-  second_back : (u : ℕ) (s : List ℕ) → is_high u ≡ true → modified_unit s (λ w s. check (is_low w) tt (k (Joined u w) s)) ≡ ok good
+  second_back : (u : ℕ) (s : List ℕ) → is_high u ≡ true → modified_unit s (λ w s. check (is_low w) tt (k (Joined u w) s)) ≡ Ok good
       → Read modified_of Scalar (unit_form u ++ s) k good
   second_back u s high e =
       let r = unit_back _ good s e in
@@ -288,14 +289,14 @@ module _ {A : Type 0} (k : ℕ → List ℕ → Spelled A) (good : A) where
       }
 
   units_back : (u : ℕ) (s : List ℕ) → u < past_plane → (b : Bool) → is_high u ≡ b
-      → cond b (modified_unit s (λ w s. check (is_low w) tt (k (Joined u w) s))) (check (not (is_low u)) tt (k u s)) ≡ ok good
+      → cond b (modified_unit s (λ w s. check (is_low w) tt (k (Joined u w) s))) (check (not (is_low u)) tt (k u s)) ≡ Ok good
       → Read modified_of Scalar (unit_form u ++ s) k good
   units_back u s h true q e = second_back u s q e
   units_back u s h false q e =
       let x = check-ok (not (is_low u)) tt (k u s) good e in
       record { point = u; rest = s; of = neither u h q (not-true (is_low u) x.0); parts = ap (λ (l : List ℕ). l ++ s) (sym (one_unit u h)); so = x.1 }
 
-  pub modified_back : (s : List ℕ) → modified_point s k ≡ ok good → Read modified_of Scalar s k good
+  pub modified_back : (s : List ℕ) → modified_point s k ≡ Ok good → Read modified_of Scalar s k good
   unfolding modified_point
   modified_back s e =
       let r = unit_back _ good s e in

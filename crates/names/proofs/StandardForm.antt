@@ -11,7 +11,8 @@ use lib.ListN.{length}
 use borrow.Author.Tests.{lt-ltb, le-ltb, le-leb, leb-true}
 use Rattle.numbers.specs.Meaning.{All}
 use Rattle.numbers.proofs.Booleans.{and_both}
-use Rattle.refusal.specs.Reading.{ok, check}
+use Rattle.std.specs.Prelude.{Ok}
+use Rattle.refusal.specs.Reading.{check}
 use Rattle.refusal.proofs.Laws.{not-ok, check-ok}
 use Rattle.names.specs.Layout.{past_one_byte, past_two_bytes, past_plane, past_last, Scalar, in_two_bytes, in_three_bytes, in_four_bytes, standard_of}
 use Rattle.names.specs.Reading.{Spelled, continued, is_scalar, longer, standard_point}
@@ -130,17 +131,17 @@ module _ {A : Type 0} (c : ℕ) (t : List ℕ) (k : ℕ → List ℕ → Spelled
 -- ---- read, so laid out
 
 module _ {A : Type 0} (k : ℕ → List ℕ → Spelled A) (good : A) where
-  range_back : (least c : ℕ) (s : List ℕ) → check (leb least c && is_scalar c) tt (k c s) ≡ ok good → (least ≤ c) × Scalar c × (k c s ≡ ok good)
+  range_back : (least c : ℕ) (s : List ℕ) → check (leb least c && is_scalar c) tt (k c s) ≡ Ok good → (least ≤ c) × Scalar c × (k c s ≡ Ok good)
   range_back least c s e =
       let x = check-ok (leb least c && is_scalar c) tt (k c s) good e in
       let y = and_both (leb least c) (is_scalar c) x.0 in
       (leb-true least c y.0, tested_scalar c y.1, x.1)
 
   module _ (a : ℕ) (s : List ℕ) where
-    one_back : a < 128 → k a s ≡ ok good → Read standard_of Scalar (a ∷ s) k good
+    one_back : a < 128 → k a s ≡ Ok good → Read standard_of Scalar (a ∷ s) k good
     one_back h e = record { point = a; rest = s; of = inl (omega arith); parts = ap (λ (l : List ℕ). l ++ s) (sym (one_form a h)); so = e }
 
-    two_back : 192 ≤ a → a < 224 → longer 1 past_one_byte (a - 192) s k ≡ ok good → Read standard_of Scalar (a ∷ s) k good
+    two_back : 192 ≤ a → a < 224 → longer 1 past_one_byte (a - 192) s k ≡ Ok good → Read standard_of Scalar (a ∷ s) k good
     unfolding longer continued
     two_back l h e =
         let b = byte_back 0 (a - 192) s _ good e in
@@ -151,7 +152,7 @@ module _ {A : Type 0} (k : ℕ → List ℕ → Spelled A) (good : A) where
         let f : standard_of c ≡ a ∷ b.byte ∷ [] = two_form c r.0 (omega (arith, b.low, b.high)) ∙ rw (p, q) in
         record { point = c; rest = b.rest; of = r.1; parts = ap (λ (l : List ℕ). a ∷ l) b.parts ∙ ap (λ (l : List ℕ). l ++ b.rest) (sym f); so = r.2 }
 
-    three_back : 224 ≤ a → a < 240 → longer 2 past_two_bytes (a - 224) s k ≡ ok good → Read standard_of Scalar (a ∷ s) k good
+    three_back : 224 ≤ a → a < 240 → longer 2 past_two_bytes (a - 224) s k ≡ Ok good → Read standard_of Scalar (a ∷ s) k good
     unfolding longer continued
     three_back l h e =
         let b = byte_back 1 (a - 224) s _ good e in
@@ -170,7 +171,7 @@ module _ {A : Type 0} (k : ℕ → List ℕ → Spelled A) (good : A) where
           so = r.2;
         }
 
-    four_back : 240 ≤ a → longer 3 past_plane (a - 240) s k ≡ ok good → Read standard_of Scalar (a ∷ s) k good
+    four_back : 240 ≤ a → longer 3 past_plane (a - 240) s k ≡ Ok good → Read standard_of Scalar (a ∷ s) k good
     unfolding longer continued
     four_back l e =
         let b = byte_back 2 (a - 240) s _ good e in
@@ -194,7 +195,7 @@ module _ {A : Type 0} (k : ℕ → List ℕ → Spelled A) (good : A) where
 
   module _ (a : ℕ) (s : List ℕ) where
     lead_back : check (leb 192 a) tt (cond (ltb a 224) (longer 1 past_one_byte (a - 192) s k)
-        (cond (ltb a 240) (longer 2 past_two_bytes (a - 224) s k) (check (ltb a 248) tt (longer 3 past_plane (a - 240) s k)))) ≡ ok good
+        (cond (ltb a 240) (longer 2 past_two_bytes (a - 224) s k) (check (ltb a 248) tt (longer 3 past_plane (a - 240) s k)))) ≡ Ok good
         → Read standard_of Scalar (a ∷ s) k good
     lead_back e =
         let x = check-ok (leb 192 a) tt _ good e in
@@ -209,7 +210,7 @@ module _ {A : Type 0} (k : ℕ → List ℕ → Spelled A) (good : A) where
               ]
         ]
 
-  pub standard_back : (s : List ℕ) → standard_point s k ≡ ok good → Read standard_of Scalar s k good
+  pub standard_back : (s : List ℕ) → standard_point s k ≡ Ok good → Read standard_of Scalar s k good
   unfolding standard_point
   standard_back [] e = absurd (not-ok e)
   standard_back (a ∷ s) e =

@@ -13,7 +13,8 @@ use borrow.Author.Tests.{lt-ltb, le-ltb, le-leb, lt-leb, eq-eqb, ne_eqb}
 use Rattle.numbers.specs.Meaning.{same, position}
 use Rattle.numbers.specs.declared.Position.{Position}
 use Rattle.numbers.proofs.SameBytes.{same_refl, same-sym, same-other}
-use Rattle.refusal.specs.Reading.{refuse, ok, check, and_then}
+use Rattle.std.specs.Prelude.{Err, Ok}
+use Rattle.refusal.specs.Reading.{check, and_then}
 use Rattle.names.specs.declared.Point.{Point}
 use Rattle.names.specs.Layout.{first_high, past_surrogates, past_plane, past_last, past_one_byte, past_two_bytes, name_limit, in_two_bytes, in_three_bytes, standard_of, high_of, low_of, modified_of, modified}
 use Rattle.names.specs.Reading.{Spelled, continued, is_scalar, longer, standard_point, points_in, standard_points, told, size_of_asked_name, matches}
@@ -70,13 +71,13 @@ pub continued-first : (s : List ℕ) (n lead p : ℕ) → lead < 64 → Continue
 continued-first s n lead p h = let e : n - 0 ≡ n = omega arith in let f : p + 0 ≡ p = omega arith in record { small = omega arith; so = λ k. simp (e, f) }
 
 -- too few bytes are refused
-few : {A : Type 0} (n v : ℕ) (s : List ℕ) (k : ℕ → List ℕ → Spelled A) → length s < n → continued n v s k ≡ refuse tt
+few : {A : Type 0} (n v : ℕ) (s : List ℕ) (k : ℕ → List ℕ → Spelled A) → length s < n → continued n v s k ≡ Err tt
 unfolding continued check
 few {A} zero v s k h = absurd (omega arith)
 few {A} (suc n) v [] k h = refl
 few {A} (suc n) v (b ∷ s) k h = by (leb 128 b && ltb b 192) (continued n (v * 64 + (b - 128)) s k) (few n (v * 64 + (b - 128)) s k (omega arith))
   where
-    by : (t : Bool) (o : Spelled A) → o ≡ refuse tt → check t tt o ≡ refuse tt
+    by : (t : Bool) (o : Spelled A) → o ≡ Err tt → check t tt o ≡ Err tt
     by true o e = e
     by false o e = refl
 
@@ -111,11 +112,11 @@ module _ {s : List ℕ} {n lead p v i : ℕ} (st : Continued s n lead p v i) whe
     step : (k : Rest) → continued n lead (drop p s) k ≡ check (leb 128 b && ltb b 192) tt (continued (n - i - 1) (v * 64 + (b - 128)) (drop (p + i + 1) s) k)
     step k = st.so k ∙ one_more s (n - i) v (p + i) k (omega arith) l ∙ simp (← e)
 
-    pub continued-low : b < 128 → (k : Rest) → continued n lead (drop p s) k ≡ refuse tt
+    pub continued-low : b < 128 → (k : Rest) → continued n lead (drop p s) k ≡ Err tt
     unfolding check
     continued-low g k = step k ∙ simp (lt-leb 128 b g)
 
-    pub continued-high : 128 ≤ b → 192 ≤ b → (k : Rest) → continued n lead (drop p s) k ≡ refuse tt
+    pub continued-high : 128 ≤ b → 192 ≤ b → (k : Rest) → continued n lead (drop p s) k ≡ Err tt
     unfolding check
     continued-high g f k = step k ∙ simp (le-leb 128 b g, le-ltb b 192 f)
 
@@ -247,20 +248,20 @@ unfolding standard_points
 points_first asked none f = record { turns = length asked; enough = omega arith; so = refl }
 
 -- a code point in front
-in_front : {B : Type 0} (none : B) (f : List ℕ → B) (c : ℕ) (o : Spelled (List ℕ)) → told none f (and_then o (λ cs. ok (c ∷ cs))) ≡ told none (λ cs. f (c ∷ cs)) o
+in_front : {B : Type 0} (none : B) (f : List ℕ → B) (c : ℕ) (o : Spelled (List ℕ)) → told none f (and_then o (λ cs. Ok (c ∷ cs))) ≡ told none (λ cs. f (c ∷ cs)) o
 unfolding told and_then
-in_front none f c (refuse r) = refl
-in_front none f c (ok cs) = refl
+in_front none f c (Err r) = refl
+in_front none f c (Ok cs) = refl
 
 told_none : {B : Type 0} (none : B) (f : List ℕ → B) → ((cs : List ℕ) → f cs ≡ none) → (o : Spelled (List ℕ)) → told none f o ≡ none
 unfolding told
-told_none none f h (refuse r) = refl
-told_none none f h (ok cs) = h cs
+told_none none f h (Err r) = refl
+told_none none f h (Ok cs) = h cs
 
 told_same : {B : Type 0} (none : B) (f g : List ℕ → B) → ((cs : List ℕ) → f cs ≡ g cs) → (o : Spelled (List ℕ)) → told none f o ≡ told none g o
 unfolding told
-told_same none f g h (refuse r) = refl
-told_same none f g h (ok cs) = h cs
+told_same none f g h (Err r) = refl
+told_same none f g h (Ok cs) = h cs
 
 module _ {B : Type 0} {asked : List ℕ} {none : B} {f : List ℕ → B} {p : ℕ} {left : List ℕ → B} (st : Points asked none f p left) where
   pub points_done : length asked ≤ p → told none f (standard_points asked) ≡ left []

@@ -11,7 +11,7 @@ use borrow.Author.Tests.{le-leb, leb-true}
 use Rattle.numbers.specs.Meaning.{All, Bytes, same}
 use Rattle.numbers.proofs.ByteLists.{bytes-append}
 use Rattle.numbers.proofs.SameBytes.{same_refl, same→eq}
-use Rattle.refusal.specs.Reading.{refuse, ok}
+use Rattle.std.specs.Prelude.{Err, Ok}
 use Rattle.refusal.proofs.Laws.{ok_same}
 use Rattle.names.specs.Layout.{past_plane, Scalar, standard_of, standard, modified_of, modified, name_limit, Askable, PlainPoint, in_turn}
 use Rattle.names.specs.Reading.{Spelled, standard_point, modified_point, standard_points, modified_points, told, size_of_asked_name, askable, matches}
@@ -85,13 +85,13 @@ named_is_askable asked stored n h = record { points = n.points; scalars = n.scal
 -- ---- the tests
 
 -- either the bytes spell code points, or nothing is told of them
-read-or : (asked : List ℕ) → ((cs : List ℕ) × All Scalar cs × (asked ≡ standard cs) × (standard_points asked ≡ ok cs)) ⊎ (standard_points asked ≡ refuse tt)
+read-or : (asked : List ℕ) → ((cs : List ℕ) × All Scalar cs × (asked ≡ standard cs) × (standard_points asked ≡ Ok cs)) ⊎ (standard_points asked ≡ Err tt)
 read-or asked = by (standard_points asked) refl
   where
     by : (o : Spelled (List ℕ)) → standard_points asked ≡ o
-        → ((cs : List ℕ) × All Scalar cs × (asked ≡ standard cs) × (standard_points asked ≡ ok cs)) ⊎ (standard_points asked ≡ refuse tt)
-    by (refuse r) q = inr q
-    by (ok cs) q = let x = read_is_standard asked cs q in inl (cs, x.0, x.1, q)
+        → ((cs : List ℕ) × All Scalar cs × (asked ≡ standard cs) × (standard_points asked ≡ Ok cs)) ⊎ (standard_points asked ≡ Err tt)
+    by (Err r) q = inr q
+    by (Ok cs) q = let x = read_is_standard asked cs q in inl (cs, x.0, x.1, q)
 
 telling : {B : Type 0} (none : B) (f : List ℕ → B) (asked cs : List ℕ) → All Scalar cs → asked ≡ standard cs → told none f (standard_points asked) ≡ f cs
 unfolding told
@@ -102,7 +102,7 @@ size-told : (asked cs : List ℕ) → All Scalar cs → asked ≡ standard cs �
 unfolding size_of_asked_name
 size-told asked cs h e = telling (name_limit + 1) _ asked cs h e
 
-no_size : (asked : List ℕ) → standard_points asked ≡ refuse tt → size_of_asked_name asked ≡ name_limit + 1
+no_size : (asked : List ℕ) → standard_points asked ≡ Err tt → size_of_asked_name asked ≡ name_limit + 1
 unfolding size_of_asked_name told
 no_size asked e = rw e
 
@@ -124,7 +124,7 @@ size_is_the_forms asked = (
   λ n. ⊎_elim (λ x. omega (arith, size-told asked x.0 x.1 x.2, too_long x n)) (λ e. no_size asked e) (read-or asked),
 )
   where
-    too_long : (x : (cs : List ℕ) × All Scalar cs × (asked ≡ standard cs) × (standard_points asked ≡ ok cs)) → (Askable asked → ⊥) → name_limit < length (modified x.0)
+    too_long : (x : (cs : List ℕ) × All Scalar cs × (asked ≡ standard cs) × (standard_points asked ≡ Ok cs)) → (Askable asked → ⊥) → name_limit < length (modified x.0)
     too_long x n =
         elim (dec_lt name_limit (length (modified x.0))) [
           | yes h ↦ h

@@ -1,7 +1,6 @@
 -- What the two forms of a name and what is read of any bytes have to do with each other.
-use Rattle.std.specs.Prelude.{ℕ, ◌+◌, ◌≤◌, ◌≡◌, true, false, List, length}
+use Rattle.std.specs.Prelude.{ℕ, ◌+◌, ◌≤◌, ◌≡◌, true, false, List, length, Ok}
 use Rattle.numbers.specs.Meaning.{All, Bytes, same}
-use Rattle.refusal.specs.Reading.{ok}
 use Rattle.names.specs.Layout.{Scalar, standard, modified, name_limit, Named, Askable, Proper, PlainPoint, Plain}
 use Rattle.names.specs.Reading.{standard_points, modified_points, size_of_asked_name, askable, matches}
 
@@ -16,17 +15,17 @@ ModifiedIsBytes = (cs : List ℕ) → All Scalar cs → Bytes (modified cs)
 
 -- each form decodes to the code points it was made of
 abbrev pub StandardIsRead : Type 0
-StandardIsRead = (cs : List ℕ) → All Scalar cs → standard_points (standard cs) ≡ ok cs
+StandardIsRead = (cs : List ℕ) → All Scalar cs → standard_points (standard cs) ≡ Ok cs
 
 abbrev pub ModifiedIsRead : Type 0
-ModifiedIsRead = (cs : List ℕ) → All Scalar cs → modified_points (modified cs) ≡ ok cs
+ModifiedIsRead = (cs : List ℕ) → All Scalar cs → modified_points (modified cs) ≡ Ok cs
 
 -- and what decodes is that form of what it decodes to
 abbrev pub ReadIsStandard : Type 0
-ReadIsStandard = (s cs : List ℕ) → standard_points s ≡ ok cs → All Scalar cs × (s ≡ standard cs)
+ReadIsStandard = (s cs : List ℕ) → standard_points s ≡ Ok cs → All Scalar cs × (s ≡ standard cs)
 
 abbrev pub ReadIsModified : Type 0
-ReadIsModified = (s cs : List ℕ) → modified_points s ≡ ok cs → All Scalar cs × (s ≡ modified cs)
+ReadIsModified = (s cs : List ℕ) → modified_points s ≡ Ok cs → All Scalar cs × (s ≡ modified cs)
 
 -- two lists have the same modified form only if they are the same, and the same standard form too
 abbrev pub ModifiedTellsApart : Type 0

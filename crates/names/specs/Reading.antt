@@ -1,13 +1,13 @@
 -- 02, Ticket 5: which code points any bytes spell, in standard and in modified UTF-8; whether a name may be asked for, and whether a stored name is the asked one.
 -- A cursor `s` is what is left of the bytes, `k` is what follows of what was read. Bytes that are not of the form are refused, and nothing more is said of them.
-use Rattle.std.specs.Prelude.{ℕ, zero, suc, ◌+◌, ◌-◌, ◌*◌, min, Bool, false, ◌&&◌, ◌||◌, not, cond, List, [], ◌∷◌, eqb, leb, ltb, length}
+use Rattle.std.specs.Prelude.{ℕ, zero, suc, ◌+◌, ◌-◌, ◌*◌, min, Bool, false, ◌&&◌, ◌||◌, not, cond, List, [], ◌∷◌, eqb, leb, ltb, length, Result, Err, Ok}
 use Rattle.numbers.specs.Meaning.{same}
-use Rattle.refusal.specs.Reading.{Out, refuse, ok, check, and_then}
+use Rattle.refusal.specs.Reading.{check, and_then}
 use Rattle.names.specs.Layout.{first_high, first_low, past_surrogates, past_plane, past_last, past_one_byte, past_two_bytes, modified, name_limit}
 
 -- what was read, or that the bytes are not of the form
 abbrev pub Spelled : Type 0 → Type 0
-Spelled A = Out (Unit {0}) A
+Spelled A = Result A (Unit {0})
 
 -- one thing off the front of the bytes: what it is and what is left
 abbrev pub Reader : Type 0 → Type 0
@@ -18,7 +18,7 @@ Reader A = List ℕ → (ℕ → List ℕ → Spelled A) → Spelled A
 -- n continuation bytes, 80 to BF, of six bits each, behind the bits v of the bytes before
 unfoldable pub continued : {A : Type 0} → ℕ → ℕ → Reader A
 continued zero v s k = k v s
-continued (suc n) v [] k = refuse tt
+continued (suc n) v [] k = Err tt
 continued (suc n) v (b ∷ s) k = check (leb 128 b && ltb b 192) tt (continued n (v * 64 + (b - 128)) s k)
 
 -- whether a value is a code point that a name may have
@@ -32,7 +32,7 @@ longer n least v s k = continued n v s (λ c s. check (leb least c && is_scalar 
 -- one code point of standard UTF-8, by its lead byte: below 80 it is all; from C0, E0 and F0 on there are one, two and three bytes more. A continuation byte leads
 -- nothing, nor do F8 to FF; C0, C1 and F5 to F7 lead no value that `longer` lets pass
 unfoldable pub standard_point : {A : Type 0} → Reader A
-standard_point [] k = refuse tt
+standard_point [] k = Err tt
 standard_point (a ∷ s) k =
     cond (ltb a 128) (k a s)
     (check (leb 192 a) tt (cond (ltb a 224) (longer 1 past_one_byte (a - 192) s k)
@@ -40,7 +40,7 @@ standard_point (a ∷ s) k =
 
 -- one unit of UTF-16, of 16 bits, in modified UTF-8: zero in two bytes, else 1 to FFFF in the shortest of three lengths, surrogates too
 unfoldable pub modified_unit : {A : Type 0} → Reader A
-modified_unit [] k = refuse tt
+modified_unit [] k = Err tt
 modified_unit (a ∷ s) k =
     cond (ltb a 128) (check (leb 1 a) tt (k a s))
     (check (leb 192 a) tt (cond (ltb a 224) (continued 1 (a - 192) s (λ u s. check (eqb u 0 || leb past_one_byte u) tt (k u s)))
@@ -63,8 +63,8 @@ modified_point s k =
 -- ---- all code points, each read by `point`: each takes a byte at least, so that as many turns as there are bytes are enough
 
 unfoldable pub points_in : Reader (List ℕ) → ℕ → List ℕ → Spelled (List ℕ)
-points_in point zero s = cond (eqb (length s) 0) (ok []) (refuse tt)
-points_in point (suc n) s = cond (eqb (length s) 0) (ok []) (point s (λ c s. and_then (points_in point n s) (λ cs. ok (c ∷ cs))))
+points_in point zero s = cond (eqb (length s) 0) (Ok []) (Err tt)
+points_in point (suc n) s = cond (eqb (length s) 0) (Ok []) (point s (λ c s. and_then (points_in point n s) (λ cs. Ok (c ∷ cs))))
 
 unfoldable pub standard_points : List ℕ → Spelled (List ℕ)
 standard_points s = points_in standard_point (length s) s
@@ -76,8 +76,8 @@ modified_points s = points_in modified_point (length s) s
 
 -- what `f` says of what was read, or `none`
 unfoldable pub told : {A B : Type 0} → B → (A → B) → Spelled A → B
-told none f (refuse r) = none
-told none f (ok a) = f a
+told none f (Err r) = none
+told none f (Ok a) = f a
 
 -- the bytes of an asked name in modified form; one more than it may have stands for more, and for a name that isn't standard UTF-8
 unfoldable pub size_of_asked_name : List ℕ → ℕ

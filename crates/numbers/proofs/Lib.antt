@@ -5,3 +5,4 @@ pub mod Laws
 pub mod Signed
 pub mod SameBytes
 pub mod Tables
+mod Words

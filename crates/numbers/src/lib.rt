@@ -1,7 +1,7 @@
 // Integers of 1, 2, 4 and 8 bytes at a position of a slice, in both byte orders; and whether bytes are the same.
 #![tactic(auto)]
 
-ghost use Rattle.std.specs.Prelude.{◌≡◌, ◌+◌, ◌<◌, ◌≤◌, length, get_or};
+ghost use Rattle.std.specs.Prelude.{◌≡◌, ◌+◌, ◌^◌, ◌<◌, ◌≤◌, length, get_or};
 ghost use Rattle.numbers.specs.Meaning.{be_at, le_at, signed32};
 ghost use Rattle.numbers.specs.Meaning as meaning;
 
@@ -11,86 +11,50 @@ pub const SIGN_BIT: u64 = 2_147_483_648;
 // -1 as 32 bits.
 pub const MINUS_ONE: u64 = 4_294_967_295;
 
-// A byte position in a buffer: a kind of its own (document 01), which no row number can stand in for.
-#[derive(Clone, Copy)]
+/// A byte position in a buffer: a kind of its own, which no row number can stand in for.
+#[derive(Clone, Copy, Debug, PartialEq, Eq, PartialOrd, Ord, Hash)]
 pub struct Position(pub usize);
 
-// A row number: a kind of its own (document 01), which no byte position can stand in for.
-#[derive(Clone, Copy)]
+/// A row number: a kind of its own, which no byte position can stand in for.
+#[derive(Clone, Copy, Debug, PartialEq, Eq, PartialOrd, Ord, Hash)]
 pub struct Row(pub u64);
-
-fn wide(x: u8) -> u64
-    ensures { (result ≡ x) × (result < 256) }
-{
-    x as u64
-}
 
 // Each reader below `requires` that its bytes are there: whoever calls has just tested that, and none hands a caller's position on untested.
 
+/// The byte at a position.
 pub fn byte(s: &[u8], at: Position) -> u64
     requires { at.0 < length s.now }
     ensures { (result ≡ get_or s.now at.0 0) × (result < 256) }
 {
-    let p = at.0;
-    wide(s[p])
+    u64::from(s[at.0])
 }
 
-pub fn le16(s: &[u8], at: Position) -> u64
-    requires { at.0 + 2 ≤ length s.now }
-    ensures { (result ≡ le_at 2 s.now at.0) × (result < 65536) }
+/// The number of `N` bytes at a position, the first of the least weight (little-endian).
+pub fn le<const N: usize>(s: &[u8], at: Position) -> u64
+    requires fits { N ≤ 8 }
+    requires there { at.0 + N ≤ length s.now }
+    ensures value { result ≡ le_at N s.now at.0 }
+    ensures below { result < 256 ^ N }
 {
-    let p = at.0;
-    wide(s[p + 0]) + 256 * wide(s[p + 1])
+    let mut x = 0;
+    for i in 0..N {
+        x = x * 256 + u64::from(s[at.0 + (N - 1 - i)]);
+    }
+    x
 }
 
-pub fn le32(s: &[u8], at: Position) -> u64
-    requires { at.0 + 4 ≤ length s.now }
-    ensures { (result ≡ le_at 4 s.now at.0) × (result < 4294967296) }
+/// The number of `N` bytes at a position, the first of the greatest weight (big-endian).
+pub fn be<const N: usize>(s: &[u8], at: Position) -> u64
+    requires fits { N ≤ 8 }
+    requires there { at.0 + N ≤ length s.now }
+    ensures value { result ≡ be_at N s.now at.0 }
+    ensures below { result < 256 ^ N }
 {
-    let p = at.0;
-    wide(s[p + 0]) + 256 * wide(s[p + 1]) + 65536 * wide(s[p + 2]) + 16777216 * wide(s[p + 3])
-}
-
-pub fn le64(s: &[u8], at: Position) -> u64
-    requires { at.0 + 8 ≤ length s.now }
-    ensures { result ≡ le_at 8 s.now at.0 }
-{
-    let p = at.0;
-    let low = wide(s[p + 0])
-        + 256 * wide(s[p + 1])
-        + 65536 * wide(s[p + 2])
-        + 16777216 * wide(s[p + 3]);
-    let high = wide(s[p + 4])
-        + 256 * wide(s[p + 5])
-        + 65536 * wide(s[p + 6])
-        + 16777216 * wide(s[p + 7]);
-    low + 4294967296 * high
-}
-
-pub fn be16(s: &[u8], at: Position) -> u64
-    requires { at.0 + 2 ≤ length s.now }
-    ensures { (result ≡ be_at 2 s.now at.0) × (result < 65536) }
-{
-    let p = at.0;
-    wide(s[p + 0]) * 256 + wide(s[p + 1])
-}
-
-pub fn be32(s: &[u8], at: Position) -> u64
-    requires { at.0 + 4 ≤ length s.now }
-    ensures { (result ≡ be_at 4 s.now at.0) × (result < 4294967296) }
-{
-    let p = at.0;
-    ((wide(s[p + 0]) * 256 + wide(s[p + 1])) * 256 + wide(s[p + 2])) * 256 + wide(s[p + 3])
-}
-
-pub fn be64(s: &[u8], at: Position) -> u64
-    requires { at.0 + 8 ≤ length s.now }
-    ensures { result ≡ be_at 8 s.now at.0 }
-{
-    let p = at.0;
-    let a = ((wide(s[p + 0]) * 256 + wide(s[p + 1])) * 256 + wide(s[p + 2])) * 256 + wide(s[p + 3]);
-    (((a * 256 + wide(s[p + 4])) * 256 + wide(s[p + 5])) * 256 + wide(s[p + 6])) * 256
-        + wide(s[p + 7])
+    let mut x = 0;
+    for i in 0..N {
+        x = x * 256 + u64::from(s[at.0 + i]);
+    }
+    x
 }
 
 // Two's complement: the signed number that the 32 bits of x hold.
@@ -130,12 +94,12 @@ fn same_words(a: &[u8], b: &[u8]) -> bool
     ensures { result ≡ meaning.same a.now b.now }
 {
     let last = a.len() - WORD;
-    if le64(a, Position(last)) != le64(b, Position(last)) {
+    if le::<WORD>(a, Position(last)) != le::<WORD>(b, Position(last)) {
         return false;
     }
     let mut i = 0;
     while i < last {
-        if le64(a, Position(i)) != le64(b, Position(i)) {
+        if le::<WORD>(a, Position(i)) != le::<WORD>(b, Position(i)) {
             return false;
         }
         i += WORD;
@@ -148,10 +112,10 @@ fn same_halves(a: &[u8], b: &[u8]) -> bool
     ensures { result ≡ meaning.same a.now b.now }
 {
     let last = a.len() - HALF;
-    if le32(a, Position(0)) != le32(b, Position(0)) {
+    if le::<HALF>(a, Position(0)) != le::<HALF>(b, Position(0)) {
         return false;
     }
-    le32(a, Position(last)) == le32(b, Position(last))
+    le::<HALF>(a, Position(last)) == le::<HALF>(b, Position(last))
 }
 
 // Whether two slices have the same bytes.

@@ -10,7 +10,8 @@ use lib.Seq.{drop_at}
 use Rattle.numbers.specs.Meaning.{be, joined}
 use Rattle.refusal.specs.Meaning.{limit}
 use Rattle.refusal.specs.declared.Refusal.TheVariants.{Short, Dict}
-use Rattle.refusal.specs.Reading.{ok, check}
+use Rattle.std.specs.Prelude.{Ok}
+use Rattle.refusal.specs.Reading.{check}
 use Rattle.stored_value.specs.Meaning.{Cell, null, value}
 use Rattle.stored_value.specs.Reading.{value_size}
 use Rattle.stored_value.proofs.Laws.{value_laid}
@@ -45,7 +46,7 @@ abbrev pub front_laid : ℕ → List Entry → List (List Entry) → List ℕ �
 front_laid n nulls bs region = record { rows = n; values = length (joined bs); nulls = nulls; blocks = length bs; directory = directory 0 bs ++ behind_directory bs region }
 
 pub front_laid_lem : (n : ℕ) (nulls : List Entry) (bs : List (List Entry)) (region : List ℕ) → NullOnly nulls → Patterns nulls → NoneEmpty bs → n ≤ limit
-    → length (joined bs) ≤ most_values2 → length bs ≤ most_blocks → front (body2 n nulls bs region) ≡ ok (front_laid n nulls bs region)
+    → length (joined bs) ≤ most_values2 → length bs ≤ most_blocks → front (body2 n nulls bs region) ≡ Ok (front_laid n nulls bs region)
 unfolding front rest_of_front check
 front_laid_lem n nulls bs region o p ne hn hv hb =
     let m : ℕ = length (joined bs) in
@@ -66,7 +67,7 @@ pub starts_length : (start at : ℕ) (bs : List (List Entry)) → length (starts
 starts_length start at [] = refl
 starts_length start at (b ∷ bs) = rw (starts_length (start + length (directory_entry at b)) (at + length (block b)) bs)
 
-size_laid : (t : ℕ) (c : Cell) (tail : List ℕ) → Valued t c → value_size Short Dict t (value_bytes c ++ tail) ≡ ok (length (value_bytes c))
+size_laid : (t : ℕ) (c : Cell) (tail : List ℕ) → Valued t c → value_size Short Dict t (value_bytes c ++ tail) ≡ Ok (length (value_bytes c))
 size_laid t null tail v = absurd v
 size_laid t (value w) tail v = value_laid Short Dict t w tail v
 

@@ -10,7 +10,8 @@ use Rattle.numbers.specs.Meaning.{Order, big, number}
 use Rattle.refusal.specs.Meaning.{limit}
 use Rattle.refusal.specs.declared.Refusal.{Refusal}
 use Rattle.refusal.specs.declared.Refusal.TheVariants.{Short, Version, Dict}
-use Rattle.refusal.specs.Reading.{Out, refuse, ok, check}
+use Rattle.std.specs.Prelude.{Result, Err, Ok}
+use Rattle.refusal.specs.Reading.{check}
 use Rattle.refusal.proofs.Laws.{not-ok}
 use Rattle.stored_value.specs.Meaning.{types}
 use Rattle.dictionary.specs.Layout.{Entry, most_values2, most_blocks}
@@ -19,41 +20,41 @@ use Rattle.dictionary.proofs.LaidOut.{byte_laid}
 use Rattle.opening.specs.Reading.{rest_of_front, front}
 
 -- what x is refused with, y is refused with
-abbrev pub Follows : {A B : Type 0} → Out Refusal A → Out Refusal B → Type 0
-Follows x y = (r : Refusal) → x ≡ refuse r → y ≡ refuse r
+abbrev pub Follows : {A B : Type 0} → Result A Refusal → Result B Refusal → Type 0
+Follows x y = (r : Refusal) → x ≡ Err r → y ≡ Err r
 
 module _ {A B : Type 0} where
-  ok_follows : (a : A) (y : Out Refusal B) → Follows (ok a) y
+  ok_follows : (a : A) (y : Result B Refusal) → Follows (Ok a) y
   ok_follows a y r e = absurd (not-ok (sym e))
 
-  pub refusal_follows : (q : Refusal) → Follows {A = A} {B = B} (refuse q) (refuse q)
-  refusal_follows q r e = let i : q ≡ r = cc in ap refuse i
+  pub refusal_follows : (q : Refusal) → Follows {A = A} {B = B} (Err q) (Err q)
+  refusal_follows q r e = let i : q ≡ r = cc in ap Err i
 
-  check_follows : (b : Bool) (q : Refusal) (x : Out Refusal A) (y : Out Refusal B) → Follows x y → Follows (check b q x) (check b q y)
+  check_follows : (b : Bool) (q : Refusal) (x : Result A Refusal) (y : Result B Refusal) → Follows x y → Follows (check b q x) (check b q y)
   unfolding check
   check_follows true q x y f = f
   check_follows false q x y f = refusal_follows q
 
-  cond_follows : (b : Bool) (q : Refusal) (x : Out Refusal A) (y : Out Refusal B) → Follows x y → Follows (cond b x (refuse q)) (cond b y (refuse q))
+  cond_follows : (b : Bool) (q : Refusal) (x : Result A Refusal) (y : Result B Refusal) → Follows x y → Follows (cond b x (Err q)) (cond b y (Err q))
   cond_follows true q x y f = f
   cond_follows false q x y f = refusal_follows q
 
-  number_follows : (o : Order) (w : ℕ) (q : Refusal) (s : List ℕ) (j : ℕ → List ℕ → Out Refusal A) (k : ℕ → List ℕ → Out Refusal B)
-      → ((v : ℕ) (t : List ℕ) → Follows (j v t) (k v t)) → Follows (number o w (refuse q) s j) (number o w (refuse q) s k)
+  number_follows : (o : Order) (w : ℕ) (q : Refusal) (s : List ℕ) (j : ℕ → List ℕ → Result A Refusal) (k : ℕ → List ℕ → Result B Refusal)
+      → ((v : ℕ) (t : List ℕ) → Follows (j v t) (k v t)) → Follows (number o w (Err q) s j) (number o w (Err q) s k)
   unfolding number
   number_follows o w q s j k f = cond_follows (leb w (length s)) q _ _ (f _ _)
 
   -- a byte that is known
-  byte_follows : (b : ℕ) (s : List ℕ) (j : ℕ → List ℕ → Out Refusal A) (k : ℕ → List ℕ → Out Refusal B) → Follows (j b s) (k b s)
-      → Follows (number big 1 (refuse Short) (b ∷ s) j) (number big 1 (refuse Short) (b ∷ s) k)
+  byte_follows : (b : ℕ) (s : List ℕ) (j : ℕ → List ℕ → Result A Refusal) (k : ℕ → List ℕ → Result B Refusal) → Follows (j b s) (k b s)
+      → Follows (number big 1 (Err Short) (b ∷ s) j) (number big 1 (Err Short) (b ∷ s) k)
   byte_follows b s j k f = rw (byte_laid b s j, byte_laid b s k) f
 
-  count_follows : (most : ℕ) (s : List ℕ) (j : ℕ → List ℕ → Out Refusal A) (k : ℕ → List ℕ → Out Refusal B)
+  count_follows : (most : ℕ) (s : List ℕ) (j : ℕ → List ℕ → Result A Refusal) (k : ℕ → List ℕ → Result B Refusal)
       → ((v : ℕ) (t : List ℕ) → Follows (j v t) (k v t)) → Follows (count_at_most most s j) (count_at_most most s k)
   unfolding count_at_most
   count_follows most s j k f = number_follows big 4 Short s _ _ (λ v t. check_follows _ _ _ _ (check_follows _ _ _ _ (f v t)))
 
-  null_follows : (version2 has : Bool) (s : List ℕ) (j : List Entry → List ℕ → Out Refusal A) (k : List Entry → List ℕ → Out Refusal B)
+  null_follows : (version2 has : Bool) (s : List ℕ) (j : List Entry → List ℕ → Result A Refusal) (k : List Entry → List ℕ → Result B Refusal)
       → ((es : List Entry) (t : List ℕ) → Follows (j es t) (k es t)) → Follows (null_of version2 has s j) (null_of version2 has s k)
   unfolding null_of
   null_follows version2 false s j k f = f [] s
@@ -85,6 +86,6 @@ module _ (t : ℕ) (k : t < types) where
   front_follows (v ∷ s) e = rw e (two_follows s)
 
 -- a body of another version
-pub front-other : (v : ℕ) (s : List ℕ) → (v ≡ 2 → ⊥) → front (v ∷ s) ≡ refuse Version
+pub front-other : (v : ℕ) (s : List ℕ) → (v ≡ 2 → ⊥) → front (v ∷ s) ≡ Err Version
 unfolding front check
 front-other v s n = byte_laid v s _ ∙ rw (ne_eqb v 2 n)

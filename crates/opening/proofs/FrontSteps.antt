@@ -17,7 +17,8 @@ use Rattle.numbers.specs.Meaning.{big, be_at, number, sign_bit, position}
 use Rattle.refusal.specs.Meaning.{limit}
 use Rattle.refusal.specs.declared.Refusal.{Refusal}
 use Rattle.refusal.specs.declared.Refusal.TheVariants.{Short, Version, Dict, Limit}
-use Rattle.refusal.specs.Reading.{Out, refuse, ok, check}
+use Rattle.std.specs.Prelude.{Result, Err, Ok}
+use Rattle.refusal.specs.Reading.{check}
 use Rattle.refusal.proofs.Laws.{not-ok, ok_same}
 use Rattle.dictionary.specs.declared.Count.{Count}
 use Rattle.dictionary.specs.declared.Count.TheVariants.{Is}
@@ -35,28 +36,28 @@ use Rattle.opening.specs.Promises.{FrontIs, BehindIs}
 
 -- ---- a count, whatever follows
 
-abbrev told : ℕ → List Entry → List ℕ → Out Refusal Dictionary
-told rows es rest = ok (record { rows = rows; entries = es; region = rest })
+abbrev told : ℕ → List Entry → List ℕ → Result Dictionary Refusal
+told rows es rest = Ok (record { rows = rows; entries = es; region = rest })
 
-module _ {B : Type 0} (most : ℕ) (s : List ℕ) (g : ℕ → List ℕ → Out Refusal B) where
+module _ {B : Type 0} (most : ℕ) (s : List ℕ) (g : ℕ → List ℕ → Result B Refusal) where
   module _ (r : Refusal) (x : ℕ) (y : List ℕ) where
-    fails : (a b c : Bool) → cond a (check b Dict (check c Limit (told x [] y))) (refuse Short) ≡ refuse r
-        → cond a (check b Dict (check c Limit (g x y))) (refuse Short) ≡ refuse r
+    fails : (a b c : Bool) → cond a (check b Dict (check c Limit (told x [] y))) (Err Short) ≡ Err r
+        → cond a (check b Dict (check c Limit (g x y))) (Err Short) ≡ Err r
     unfolding check
     fails false b c e = let q : Short ≡ r = cc in rw q
     fails true false c e = let q : Dict ≡ r = cc in rw q
     fails true true false e = let q : Limit ≡ r = cc in rw q
     fails true true true e = absurd (not-ok (sym e))
 
-  count_refused : {r : Refusal} → ((f : AfterCount) → count_at_most most s f ≡ refuse r) → count_at_most most s g ≡ refuse r
+  count_refused : {r : Refusal} → ((f : AfterCount) → count_at_most most s f ≡ Err r) → count_at_most most s g ≡ Err r
   unfolding count_at_most number
   count_refused {r} h =
       fails r (be_at 4 s 0) (drop 4 s) (leb 4 (length s)) (ltb (be_at 4 s 0) sign_bit) (leb (be_at 4 s 0) most) (h (λ n rest. told n [] rest))
 
   module _ (n : ℕ) (rest : List ℕ) (x : ℕ) (y : List ℕ) where
     passes : (a b c : Bool)
-        → cond a (check b Dict (check c Limit (told x [] y))) (refuse Short) ≡ told n [] rest
-        → cond a (check b Dict (check c Limit (g x y))) (refuse Short) ≡ g n rest
+        → cond a (check b Dict (check c Limit (told x [] y))) (Err Short) ≡ told n [] rest
+        → cond a (check b Dict (check c Limit (g x y))) (Err Short) ≡ g n rest
     unfolding check
     passes false b c e = absurd (not-ok e)
     passes true false c e = absurd (not-ok e)
@@ -74,23 +75,23 @@ module _ {B : Type 0} (most : ℕ) (s : List ℕ) (g : ℕ → List ℕ → Out 
 
 -- ---- null's entry, whatever follows
 
-module _ {B : Type 0} (s : List ℕ) (g : List Entry → List ℕ → Out Refusal B) where
+module _ {B : Type 0} (s : List ℕ) (g : List Entry → List ℕ → Result B Refusal) where
   module _ (r : Refusal) (x : List Entry) (y : List ℕ) where
-    lost : (a b : Bool) → cond a (cond b (told 0 x y) (refuse Short)) (refuse Short) ≡ refuse r
-        → cond a (cond b (g x y) (refuse Short)) (refuse Short) ≡ refuse r
+    lost : (a b : Bool) → cond a (cond b (told 0 x y) (Err Short)) (Err Short) ≡ Err r
+        → cond a (cond b (g x y) (Err Short)) (Err Short) ≡ Err r
     lost false b e = let q : Short ≡ r = cc in rw q
     lost true false e = let q : Short ≡ r = cc in rw q
     lost true true e = absurd (not-ok (sym e))
 
-  null_refused : (has : Bool) {r : Refusal} → ((f : AfterEntries) → null_of true has s f ≡ refuse r) → null_of true has s g ≡ refuse r
+  null_refused : (has : Bool) {r : Refusal} → ((f : AfterEntries) → null_of true has s f ≡ Err r) → null_of true has s g ≡ Err r
   unfolding null_of number
   null_refused false {r} h = absurd (not-ok (sym (h (λ ns rest. told 0 ns rest))))
   null_refused true {r} h = lost r _ _ (leb 4 (length s)) (leb 4 (length (drop 4 s))) (h (λ ns rest. told 0 ns rest))
 
   module _ (ns : List Entry) (rest : List ℕ) (x : List Entry) (y : List ℕ) where
     kept : (a b : Bool)
-        → cond a (cond b (told 0 x y) (refuse Short)) (refuse Short) ≡ told 0 ns rest
-        → cond a (cond b (g x y) (refuse Short)) (refuse Short) ≡ g ns rest
+        → cond a (cond b (told 0 x y) (Err Short)) (Err Short) ≡ told 0 ns rest
+        → cond a (cond b (g x y) (Err Short)) (Err Short) ≡ g ns rest
     kept false b e = absurd (not-ok e)
     kept true false e = absurd (not-ok e)
     kept true true e =
@@ -114,7 +115,7 @@ module _ (rows n : ℕ) (has : Bool) (s : List ℕ) (at : ℕ) {x : Null} (w : N
 
   module _ {offset : ℤ} {extent p : ℕ} (e : x ≡ Numbers offset extent (position p)) where
     passed : rest_of_front rows n has (drop at s) ≡ count_at_most most_blocks (drop p s) (λ b s. check (cond (eqb n 0) (eqb b 0) (leb 1 b)) Dict
-        (ok (record { rows = rows; values = n; nulls = nulls has offset extent; blocks = b; directory = s })))
+        (Ok (record { rows = rows; values = n; nulls = nulls has offset extent; blocks = b; directory = s })))
     unfolding rest_of_front
     passed = null_passed (drop at s) _ has (rw e at w).0
 
@@ -122,7 +123,7 @@ module _ (rows n : ℕ) (has : Bool) (s : List ℕ) (at : ℕ) {x : Null} (w : N
     behind-count v d = passed ∙ count_refused most_blocks (drop p s) _ (rw d at v)
 
     module _ {y : Count} (v : CountAt most_blocks s p y) {b : ℕ} (d : y ≡ Is b) {fit : Bool} (f : fit ≡ cond (eqb n 0) (eqb b 0) (leb 1 b)) where
-      tested : rest_of_front rows n has (drop at s) ≡ check fit Dict (ok (record { rows = rows; values = n; nulls = nulls has offset extent; blocks = b; directory = drop (p + 4) s }))
+      tested : rest_of_front rows n has (drop at s) ≡ check fit Dict (Ok (record { rows = rows; values = n; nulls = nulls has offset extent; blocks = b; directory = drop (p + 4) s }))
       tested = passed ∙ count_passed most_blocks (drop p s) _ (rw d at v).0 ∙ rw f
 
       pub behind_unfit : fit ≡ false → BehindIs rows n has s at (FrontRead.Refused Dict)
@@ -149,10 +150,10 @@ module _ (s : List ℕ) where
   front_empty h = word_short 1 s 0 _ (omega arith)
 
   module _ (l : 1 ≤ length s) {v : ℕ} (e : v ≡ get_or s 0 0) where
-    after : List ℕ → Out Refusal Front
+    after : List ℕ → Result Front Refusal
     after s =
         count_at_most limit s (λ rows s. count_at_most most_values2 s (λ n s.
-        number big 1 (refuse Short) s (λ has_null_byte s. check (leb has_null_byte 1) Dict (rest_of_front rows n (eqb has_null_byte 1) s))))
+        number big 1 (Err Short) s (λ has_null_byte s. check (leb has_null_byte 1) Dict (rest_of_front rows n (eqb has_null_byte 1) s))))
 
     versioned : front s ≡ check (eqb v 2) Version (after (drop 1 s))
     unfolding front after
@@ -173,7 +174,7 @@ module _ (s : List ℕ) where
 
       module _ {x : Count} (w : CountAt limit s 1 x) {rows : ℕ} (d : x ≡ Is rows) where
         numbered : front s ≡ count_at_most most_values2 (drop 5 s) (λ n s.
-            number big 1 (refuse Short) s (λ has_null_byte s. check (leb has_null_byte 1) Dict (rest_of_front rows n (eqb has_null_byte 1) s)))
+            number big 1 (Err Short) s (λ has_null_byte s. check (leb has_null_byte 1) Dict (rest_of_front rows n (eqb has_null_byte 1) s)))
         unfolding after
         numbered = begun ∙ count_passed limit (drop 1 s) _ (rw d at w).0
 
@@ -181,7 +182,7 @@ module _ (s : List ℕ) where
         front-values u g = numbered ∙ count_refused most_values2 (drop 5 s) _ (rw g at u)
 
         module _ {y : Count} (u : CountAt most_values2 s 5 y) {n : ℕ} (g : y ≡ Is n) where
-          flagged : front s ≡ number big 1 (refuse Short) (drop 9 s) (λ has_null_byte s. check (leb has_null_byte 1) Dict (rest_of_front rows n (eqb has_null_byte 1) s))
+          flagged : front s ≡ number big 1 (Err Short) (drop 9 s) (λ has_null_byte s. check (leb has_null_byte 1) Dict (rest_of_front rows n (eqb has_null_byte 1) s))
           flagged = numbered ∙ count_passed most_values2 (drop 5 s) _ (rw g at u).0
 
           pub front_cut : length s < 10 → FrontIs s (FrontRead.Refused Short)

@@ -8,7 +8,8 @@ use borrow.Author.Tests.{le-leb, lt-leb, lt-ltb, le-ltb}
 use Rattle.refusal.specs.Meaning.{limit}
 use Rattle.refusal.specs.declared.Refusal.{Refusal}
 use Rattle.refusal.specs.declared.Refusal.TheVariants.{Room, Literal, Limit}
-use Rattle.refusal.specs.Reading.{Out, refuse, ok, check, and_then, numbers_of, fault_in}
+use Rattle.std.specs.Prelude.{Result, Err, Ok}
+use Rattle.refusal.specs.Reading.{check, and_then, numbers_of, fault_in}
 use Rattle.row_field.specs.Meaning.{cleared}
 use Rattle.stored_value.specs.Meaning.{types}
 use Rattle.dictionary.specs.declared.Checked.{Checked}
@@ -30,15 +31,15 @@ use Rattle.opening.specs.Reading.{Table, front, filled, openable, opened, zeroed
 use Rattle.opening.specs.Promises.{OpenPromise, front_found, FrontIs, Fills}
 
 -- the numbers are those of the answer, and so is the fault
-open_numbers_lem : (o : Out Refusal Table) → open_out (opened_by o) ≡ numbers_of (0, 0) open_numbers o
+open_numbers_lem : (o : Result Table Refusal) → open_out (opened_by o) ≡ numbers_of (0, 0) open_numbers o
 unfolding open_out numbers_of opened_by
-open_numbers_lem (refuse r) = refl
-open_numbers_lem (ok a) = refl
+open_numbers_lem (Err r) = refl
+open_numbers_lem (Ok a) = refl
 
-open_fault_lem : (o : Out Refusal Table) → open_fault (opened_by o) ≡ fault_in o
+open_fault_lem : (o : Result Table Refusal) → open_fault (opened_by o) ≡ fault_in o
 unfolding open_fault fault_in opened_by
-open_fault_lem (refuse r) = refl
-open_fault_lem (ok a) = refl
+open_fault_lem (Err r) = refl
+open_fault_lem (Ok a) = refl
 
 -- where the directory begins that the code found
 directory_at : (s : List ℕ) (p : ℕ) → p ≤ length s → behind s (drop p s) ≡ p
@@ -50,7 +51,7 @@ module _ (t : ℕ) (s f table : List ℕ) where
   open_says e b w =
       record { answer = e; buffer = b; filled = w; numbers = rw e (open_numbers_lem (opened t s f table)); fault = rw e (open_fault_lem (opened t s f table)) }
 
-  early : {r : Refusal} → openable t s f table ≡ refuse r → OpenPromise t s f f table table (Opened.Refused r)
+  early : {r : Refusal} → openable t s f table ≡ Err r → OpenPromise t s f f table table (Opened.Refused r)
   unfolding opened open_buffer zeroed_from open_table table_of opened_by and_then
   early e = open_says (rw e) (rw e) (rw e)
 
@@ -67,7 +68,7 @@ module _ (t : ℕ) (s f table : List ℕ) where
       pub open_front : {r : Refusal} → x ≡ FrontRead.Refused r → OpenPromise t s f f table table (Opened.Refused r)
       unfolding openable check and_then
       open_front {r} e =
-          let i : front s ≡ refuse r = rw e at w in
+          let i : front s ≡ Err r = rw e at w in
           early (rw (le-leb (length s) limit short, lt-ltb t types known, i))
 
       pub open_inside : {g : Fields} → x ≡ Read g → g.directory.0 ≤ length s
@@ -77,15 +78,15 @@ module _ (t : ℕ) (s f table : List ℕ) where
         pub open_prepared : {r : Refusal} → c ≡ Checked.Refused r → OpenPromise t s f f table table (Opened.Refused r)
         unfolding openable check and_then
         open_prepared {r} q =
-            let i : front s ≡ ok (front_found s g) = (rw e at w).0 in
-            let d : prepared t s f ≡ refuse r = rw q at p in
+            let i : front s ≡ Ok (front_found s g) = (rw e at w).0 in
+            let d : prepared t s f ≡ Err r = rw q at p in
             early (rw (le-leb (length s) limit short, lt-ltb t types known, i, d))
 
         module _ {h : Summary} (q : c ≡ Found h) where
           pub open_short : length table < g.blocks → OpenPromise t s f f table table (Opened.Refused Room)
           unfolding openable check and_then
           open_short l =
-              let i : front s ≡ ok (front_found s g) = (rw e at w).0 in
+              let i : front s ≡ Ok (front_found s g) = (rw e at w).0 in
               let d : Prepares t s f (Found h) = rw q at p in
               early (rw (le-leb (length s) limit short, lt-ltb t types known, i, d.1, lt-leb g.blocks (length table) l))
 
@@ -96,10 +97,10 @@ module _ (t : ℕ) (s f table : List ℕ) where
             d : Dictionary
             d = dictionary_of s h read.0.entries
 
-            passed : openable t s f table ≡ ok (record { fields = front_found s g; read = d })
+            passed : openable t s f table ≡ Ok (record { fields = front_found s g; read = d })
             unfolding openable check and_then d
             passed =
-                let i : front s ≡ ok (front_found s g) = (rw e at w).0 in
+                let i : front s ≡ Ok (front_found s g) = (rw e at w).0 in
                 rw (le-leb (length s) limit short, lt-ltb t types known, i, read.1, le-leb g.blocks (length table) l)
 
             module _ {b : BitmapsAudited} {after : List ℕ} (a : ForDictionary t s h (λ d. AuditsField d f after b)) where
@@ -110,7 +111,7 @@ module _ (t : ℕ) (s f table : List ℕ) where
               pub open_refused : {r : Refusal} → b ≡ BitmapsAudited.Refused r → OpenPromise t s f after table table (Opened.Refused r)
               unfolding opened open_buffer zeroed_from open_table table_of opened_by and_then
               open_refused {r} j =
-                  let o : audited d (cleared d.rows f) ≡ refuse r = rw j at outcome.outcome in
+                  let o : audited d (cleared d.rows f) ≡ Err r = rw j at outcome.outcome in
                   open_says (rw (passed, o)) (rw passed outcome.buffer) (rw (passed, o))
 
               pub open_accepted : {k : ℕ} → b ≡ Nulls k → {words : List ℕ} → Fills t g.blocks s g.directory.0 table words

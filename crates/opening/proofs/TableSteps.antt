@@ -6,7 +6,7 @@ use native.Mathlib.Omega.{arith}
 use lib.ListN.{length, drop, set, length-append, length-drop}
 use Rattle.refusal.specs.declared.Refusal.{Refusal}
 use Rattle.refusal.specs.declared.Refusal.TheVariants.{Short, Dict}
-use Rattle.refusal.specs.Reading.{Out, refuse, ok}
+use Rattle.std.specs.Prelude.{Result, Err, Ok}
 use Rattle.stored_value.specs.Reading.{value_size}
 use Rattle.dictionary.specs.Promises.{EndsAt}
 use Rattle.dictionary.proofs.Steps.{drop_past}
@@ -54,16 +54,16 @@ module _ {t n : ℕ} {s : List ℕ} {at : ℕ} {before table : List ℕ} {i p : 
         let l : length st.written < length before = omega (arith, st.many, st.room) in
         rw (st.now, ← st.many) (next_word before st.written p l)
 
-    entered : (o : Out Refusal ℕ) → value_size Short Dict t (drop p s) ≡ o
+    entered : (o : Result ℕ Refusal) → value_size Short Dict t (drop p s) ≡ o
         → starts_in t n at (drop at s) ≡ st.written ++ (p ∷ if_sized o (λ k. starts_in t (n - (i + 1)) (p + k + 4) (drop (k + 4) (drop p s))))
     unfolding starts_in
     entered o e =
         let m : n - i ≡ suc (n - (i + 1)) = omega arith in
         rw m at st.whole ∙ rw e
 
-    pub filling_refused : {r : Refusal} → value_size Short Dict t (drop p s) ≡ refuse r → Fills t n s at before (set table i p)
+    pub filling_refused : {r : Refusal} → value_size Short Dict t (drop p s) ≡ Err r → Fills t n s at before (set table i p)
     unfolding if_sized
-    filling_refused {r} e = stored ∙ ap (written_to before) (sym (entered (refuse r) e))
+    filling_refused {r} e = stored ∙ ap (written_to before) (sym (entered (Err r) e))
 
     pub filling_next : (e : ℕ) → EndsAt t s p e → Filling t n s at before (set table i p) (i + 1) (e + 4)
     unfolding if_sized
@@ -77,6 +77,6 @@ module _ {t n : ℕ} {s : List ℕ} {at : ℕ} {before table : List ℕ} {i p : 
           many = omega (arith, length-append st.written (p ∷ []), st.many);
           now = stored;
           whole =
-              entered (ok (e - p)) w.0
+              entered (Ok (e - p)) w.0
               ∙ rw (a, drop_past s p e 4 (omega (arith, w.1))) (sym (append_assoc st.written (p ∷ []) (starts_in t (n - (i + 1)) (e + 4) (drop (e + 4) s))));
         }

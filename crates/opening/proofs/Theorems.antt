@@ -11,7 +11,8 @@ use Rattle.numbers.specs.Meaning.{be, joined}
 use Rattle.refusal.specs.Meaning.{limit}
 use Rattle.refusal.specs.declared.Refusal.{Refusal}
 use Rattle.refusal.specs.declared.Refusal.TheVariants.{Version, Room, Literal, Limit}
-use Rattle.refusal.specs.Reading.{Out, refuse, ok, check, and_then}
+use Rattle.std.specs.Prelude.{Result, Err, Ok}
+use Rattle.refusal.specs.Reading.{check, and_then}
 use Rattle.refusal.proofs.Laws.{not-ok, ok_same, then_ok}
 use Rattle.row_field.specs.Meaning.{cleared}
 use Rattle.stored_value.specs.Meaning.{types, Cell, null}
@@ -60,7 +61,7 @@ module _ (t : ℕ) (cells : List Cell) (nulls : List Entry) (bs : List (List Ent
   abbrev fields : Front
   fields = front_laid n nulls bs region
 
-  pub front_of : front body ≡ ok fields
+  pub front_of : front body ≡ Ok fields
   front_of =
       let l : length region ≤ limit = omega (arith, region2 n nulls bs region, laid.short) in
       let p : Patterns (nulls ++ joined bs) = all_patterns region cells (nulls ++ joined bs) l laid.entries.rows in
@@ -83,7 +84,7 @@ module _ (t : ℕ) (cells : List Cell) (nulls : List Entry) (bs : List (List Ent
       laid.few_rows laid.few_values laid.few_blocks laid.short
 
 -- a column's body whose fields in front were read is laid out in version 2: version 1 begins with 1, which is VERSION
-opened_column : (t : ℕ) (cells : List Cell) (body table : List ℕ) (f : Front) (rows many : ℕ) (words : List ℕ) → ColumnBody t cells body → front body ≡ ok f
+opened_column : (t : ℕ) (cells : List Cell) (body table : List ℕ) (f : Front) (rows many : ℕ) (words : List ℕ) → ColumnBody t cells body → front body ≡ Ok f
     → f.blocks ≤ length table → length cells ≡ rows → many ≡ f.blocks → words ≡ filled t body f table → OpenedIs t body table rows many words
 opened_column t cells body table f rows many words (version1 nulls es region c k x d n l z) e h r m w = absurd (not-ok (sym (front-other 1 _ (λ q. omega arith)) ∙ e))
 opened_column t cells body table f rows many words (version2 nulls bs region c k x d n l b z) e h r m w =
@@ -120,7 +121,7 @@ unfolding audit
 laid_out_is_opened t cells nulls bs region field table laid b h w =
     let s : List ℕ = body2 (length cells) nulls bs region in
     let f : Front = front_laid (length cells) nulls bs region in
-    let e : front s ≡ ok f = front_of t cells nulls bs region laid in
+    let e : front s ≡ Ok f = front_of t cells nulls bs region laid in
     let a = column_is_answered t cells s (is_column t cells nulls bs region laid) field b h in
     let (d, read, last) = then_ok (prepared t s field) _ (length cells) a.audited in (
       rw (← filled_laid t cells nulls bs region laid table) (opened-ok t s field table f d (length cells) e read w last),
@@ -130,24 +131,24 @@ laid_out_is_opened t cells nulls bs region field table laid b h w =
 -- ---- Audit's refusals
 
 -- Open's row count is Audit's
-row_count : (many : ℕ) (words : List ℕ) (x : Out Refusal ℕ)
-    → and_then (and_then x (λ rows. ok (record { rows = rows; blocks = many; words = words }))) (λ (a : Table). ok a.rows) ≡ x
+row_count : (many : ℕ) (words : List ℕ) (x : Result ℕ Refusal)
+    → and_then (and_then x (λ rows. Ok (record { rows = rows; blocks = many; words = words }))) (λ (a : Table). Ok a.rows) ≡ x
 unfolding and_then
-row_count many words (refuse r) = refl
-row_count many words (ok n) = refl
+row_count many words (Err r) = refl
+row_count many words (Ok n) = refl
 
 module _ (t : ℕ) (body field table : List ℕ) where
   abbrev AsAudited : Type 0
-  AsAudited = (and_then (opened t body field table) (λ a. ok a.rows) ≡ audit t body field) × (open_buffer t body field table ≡ audit_buffer t body field)
+  AsAudited = (and_then (opened t body field table) (λ a. Ok a.rows) ≡ audit t body field) × (open_buffer t body field table ≡ audit_buffer t body field)
 
   -- refused before a byte is written, and not
-  refused_alike : (r : Refusal) → prepared t body field ≡ refuse r → openable t body field table ≡ refuse r → AsAudited
+  refused_alike : (r : Refusal) → prepared t body field ≡ Err r → openable t body field table ≡ Err r → AsAudited
   unfolding audit audit_buffer bitmap_index.zeroed_from and_then
   refused_alike r p e =
       let (answer, buffer, kept) = refused_early t body field table r e in
       (rw (answer, p), rw (buffer, p))
 
-  read_alike : (f : Front) (d : Dictionary) → front body ≡ ok f → prepared t body field ≡ ok d → f.blocks ≤ length table → AsAudited
+  read_alike : (f : Front) (d : Dictionary) → front body ≡ Ok f → prepared t body field ≡ Ok d → f.blocks ≤ length table → AsAudited
   unfolding opened audit and_then
   read_alike f d e p h = (
     rw (openable-ok t body field table f d e p h, p) (row_count f.blocks _ (audited d (cleared d.rows field))),
@@ -157,15 +158,15 @@ module _ (t : ℕ) (body field table : List ℕ) where
 pub opened_as_audited : OpenedAsAudited
 opened_as_audited t body field table two words = go (prepared t body field) refl
   where
-    go : (x : Out Refusal Dictionary) → prepared t body field ≡ x → AsAudited t body field table
-    go (refuse r) p = refused_alike t body field table r p (openable_refused t body field table two r p)
-    go (ok d) p =
+    go : (x : Result Dictionary Refusal) → prepared t body field ≡ x → AsAudited t body field table
+    go (Err r) p = refused_alike t body field table r p (openable_refused t body field table two r p)
+    go (Ok d) p =
         let (f, e) = front_read t body field d two p in
         read_alike t body field table f d e p (words f e)
 
 -- refused by the limit, the type or the version
-refused_first : (t : ℕ) (body field table : List ℕ) (b c : Bool) (q r v : Refusal) → openable t body field table ≡ check b q (check c r (refuse v))
-    → (opened t body field table ≡ check b q (check c r (refuse v))) × (open_buffer t body field table ≡ field) × (open_table t body field table ≡ table)
+refused_first : (t : ℕ) (body field table : List ℕ) (b c : Bool) (q r v : Refusal) → openable t body field table ≡ check b q (check c r (Err v))
+    → (opened t body field table ≡ check b q (check c r (Err v))) × (open_buffer t body field table ≡ field) × (open_table t body field table ≡ table)
 unfolding check
 refused_first t body field table true true q r v e = refused_early t body field table v e
 refused_first t body field table true false q r v e = refused_early t body field table r e

@@ -1,10 +1,10 @@
 -- What is claimed of Open, over its definition in Reading; proofs/Theorems proves it. `Bytes` is asked of buffers: a buffer's numbers are bytes.
-use Rattle.std.specs.Prelude.{ℕ, ◌≤◌, ◌<◌, ◌≡◌, List, ◌∷◌, ◌++◌, ltb, leb, length, drop, get_or}
+use Rattle.std.specs.Prelude.{ℕ, ◌≤◌, ◌<◌, ◌≡◌, List, ◌∷◌, ◌++◌, ltb, leb, length, drop, get_or, Err, Ok}
 use Rattle.numbers.specs.Meaning.{Bytes, be, joined}
 use Rattle.refusal.specs.Meaning.{limit}
 use Rattle.refusal.specs.declared.Refusal.{Refusal}
 use Rattle.refusal.specs.declared.Refusal.TheVariants.{Version, Room, Literal, Limit}
-use Rattle.refusal.specs.Reading.{refuse, ok, check, and_then}
+use Rattle.refusal.specs.Reading.{check, and_then}
 use Rattle.row_field.specs.Meaning.{size, cleared}
 use Rattle.stored_value.specs.Meaning.{types, Cell, null}
 use Rattle.dictionary.specs.Layout.{Entry, NoneEmpty, Rises, most_values2, most_blocks, blocks, directory, body2}
@@ -60,15 +60,15 @@ pub record OpenedIs (t : ℕ) (body table : List ℕ) (rows many : ℕ) (words :
 
 abbrev pub OpenedIsLaidOut : Type 0
 OpenedIsLaidOut =
-    (t : ℕ) (body field table : List ℕ) (rows many : ℕ) (words : List ℕ) → Bytes body → opened t body field table ≡ ok (record { rows = rows; blocks = many; words = words })
+    (t : ℕ) (body field table : List ℕ) (rows many : ℕ) (words : List ℕ) → Bytes body → opened t body field table ≡ Ok (record { rows = rows; blocks = many; words = words })
     → OpenedIs t body table rows many words
 
 -- what the table then holds is what was answered; with a refusal, whatever it is, the words that it held: "A refused open leaves the table untouched"
 abbrev pub TableHoldsTheAnswer : Type 0
 TableHoldsTheAnswer =
     (t : ℕ) (body field table : List ℕ)
-    → ((a : Table) → opened t body field table ≡ ok a → open_table t body field table ≡ a.words)
-    × ((r : Refusal) → opened t body field table ≡ refuse r → open_table t body field table ≡ table)
+    → ((a : Table) → opened t body field table ≡ Ok a → open_table t body field table ≡ a.words)
+    × ((r : Refusal) → opened t body field table ≡ Err r → open_table t body field table ≡ table)
 
 -- whatever a writer lays out in version 2 is opened, in any field and table with room, and the field is then zero
 abbrev pub LaidOutIsOpened : Type 0
@@ -76,24 +76,24 @@ LaidOutIsOpened =
     (t : ℕ) (cells : List Cell) (nulls : List Entry) (bs : List (List Entry)) (region field table : List ℕ) → InBlocks t cells nulls bs region → Bytes field
     → size (length cells) ≤ length field → length bs ≤ length table
     → (opened t (body2 (length cells) nulls bs region) field table
-    ≡ ok (record { rows = length cells; blocks = length bs; words = entry_starts (length cells) nulls bs ++ drop (length bs) table }))
+    ≡ Ok (record { rows = length cells; blocks = length bs; words = entry_starts (length cells) nulls bs ++ drop (length bs) table }))
     × (open_buffer t (body2 (length cells) nulls bs region) field table ≡ cleared (length cells) field)
 
 -- ---- Audit's refusals
 
 -- a table with a word for each block that the body states
 abbrev pub HasWords : List ℕ → List ℕ → Type 0
-HasWords body table = (f : Front) → front body ≡ ok f → f.blocks ≤ length table
+HasWords body table = (f : Front) → front body ≡ Ok f → f.blocks ≤ length table
 
 -- of a body that doesn't begin with another version than 2, with such a table: what Audit says, row count or refusal, and what it leaves in the field
 abbrev pub OpenedAsAudited : Type 0
 OpenedAsAudited =
     (t : ℕ) (body field table : List ℕ) → get_or body 0 2 ≡ 2 → HasWords body table
-    → (and_then (opened t body field table) (λ a. ok a.rows) ≡ audit t body field) × (open_buffer t body field table ≡ audit_buffer t body field)
+    → (and_then (opened t body field table) (λ a. Ok a.rows) ≡ audit t body field) × (open_buffer t body field table ≡ audit_buffer t body field)
 
 -- "A version 1 body is VERSION", and one of any other version but 2; LIMIT and LITERAL come first. Field and table stay
 pub record RefusesVersion (t : ℕ) (body field table : List ℕ) : Type 0 where
-  pub refused : opened t body field table ≡ check (leb (length body) limit) Limit (check (ltb t types) Literal (refuse Version))
+  pub refused : opened t body field table ≡ check (leb (length body) limit) Limit (check (ltb t types) Literal (Err Version))
   pub buffer : open_buffer t body field table ≡ field
   pub kept : open_table t body field table ≡ table
 
@@ -103,11 +103,11 @@ OtherVersionIsRefused = (t v : ℕ) (s field table : List ℕ) → (v ≡ 2 → 
 -- "Too short a table is ROOM, where 01 tests room": after the dictionary, and before a bitmap is looked at. Field and table stay
 abbrev pub ShortTableIsRoom : Type 0
 ShortTableIsRoom =
-    (t : ℕ) (body field table : List ℕ) (d : Dictionary) (f : Front) → prepared t body field ≡ ok d → front body ≡ ok f → length table < f.blocks
-    → (opened t body field table ≡ refuse Room) × (open_buffer t body field table ≡ field) × (open_table t body field table ≡ table)
+    (t : ℕ) (body field table : List ℕ) (d : Dictionary) (f : Front) → prepared t body field ≡ Ok d → front body ≡ Ok f → length table < f.blocks
+    → (opened t body field table ≡ Err Room) × (open_buffer t body field table ≡ field) × (open_table t body field table ≡ table)
 
 -- what Audit refuses up to ROOM is refused so whatever the table is, if the body doesn't begin with another version than 2. Field and table stay
 abbrev pub RefusedUpToRoom : Type 0
 RefusedUpToRoom =
-    (t : ℕ) (body field table : List ℕ) (r : Refusal) → get_or body 0 2 ≡ 2 → prepared t body field ≡ refuse r
-    → (opened t body field table ≡ refuse r) × (open_buffer t body field table ≡ field) × (open_table t body field table ≡ table)
+    (t : ℕ) (body field table : List ℕ) (r : Refusal) → get_or body 0 2 ≡ 2 → prepared t body field ≡ Err r
+    → (opened t body field table ≡ Err r) × (open_buffer t body field table ≡ field) × (open_table t body field table ≡ table)

@@ -1,7 +1,7 @@
 -- What contracts say, in the reading's terms: of Open, then of the functions that it is made of.
-use Rattle.std.specs.Prelude.{ℕ, ◌≤◌, ◌<◌, ◌≡◌, Bool, List, length, drop}
+use Rattle.std.specs.Prelude.{ℕ, ◌≤◌, ◌<◌, ◌≡◌, Bool, List, length, drop, Err, Ok}
 use Rattle.numbers.specs.Meaning.{four_bytes}
-use Rattle.refusal.specs.Reading.{refuse, ok, numbers_of, fault_in}
+use Rattle.refusal.specs.Reading.{numbers_of, fault_in}
 use Rattle.dictionary.specs.Layout.{most_blocks}
 use Rattle.dictionary.specs.Promises.{pattern, nulls}
 use Rattle.opening.specs.declared.Opened.{Opened}
@@ -30,13 +30,13 @@ abbrev pub FieldsFit : List ℕ → Fields → Type 0
 FieldsFit s f = (f.directory.0 ≤ length s) × (f.blocks ≤ most_blocks) × (pattern f.null_offset < four_bytes)
 
 abbrev pub FrontIs : List ℕ → FrontRead → Type 0
-FrontIs s (FrontRead.Refused r) = front s ≡ refuse r
-FrontIs s (Read f) = (front s ≡ ok (front_found s f)) × FieldsFit s f
+FrontIs s (FrontRead.Refused r) = front s ≡ Err r
+FrontIs s (Read f) = (front s ≡ Ok (front_found s f)) × FieldsFit s f
 
 -- the same behind a row count, a value number and has-null, at a position
 abbrev pub BehindIs : ℕ → ℕ → Bool → List ℕ → ℕ → FrontRead → Type 0
-BehindIs rows n has s at (FrontRead.Refused r) = rest_of_front rows n has (drop at s) ≡ refuse r
-BehindIs rows n has s at (Read f) = (rest_of_front rows n has (drop at s) ≡ ok (front_found s f)) × FieldsFit s f
+BehindIs rows n has s at (FrontRead.Refused r) = rest_of_front rows n has (drop at s) ≡ Err r
+BehindIs rows n has s at (Read f) = (rest_of_front rows n has (drop at s) ≡ Ok (front_found s f)) × FieldsFit s f
 
 -- ---- `fill`: the table's front holds where the entries start of the directory at a position
 

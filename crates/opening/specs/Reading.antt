@@ -1,11 +1,11 @@
 -- What Open answers for any bytes (02, Ticket 6: "the open audits, then fills a lent table"): its stages in their order, each begun only where the one before
 -- passed.
-use Rattle.std.specs.Prelude.{ℕ, zero, suc, ◌+◌, Bool, true, cond, List, [], ◌∷◌, ◌++◌, eqb, ltb, leb, length, drop}
+use Rattle.std.specs.Prelude.{ℕ, zero, suc, ◌+◌, Bool, true, cond, List, [], ◌∷◌, ◌++◌, eqb, ltb, leb, length, drop, Result, Err, Ok}
 use Rattle.numbers.specs.Meaning.{big, number}
 use Rattle.refusal.specs.Meaning.{limit, number_of, no_fault, fault_of}
 use Rattle.refusal.specs.declared.Refusal.{Refusal}
 use Rattle.refusal.specs.declared.Refusal.TheVariants.{Short, Version, Dict, Room, Literal, Limit}
-use Rattle.refusal.specs.Reading.{Out, refuse, ok, check, and_then}
+use Rattle.refusal.specs.Reading.{check, and_then}
 use Rattle.row_field.specs.Meaning.{cleared}
 use Rattle.stored_value.specs.Meaning.{types}
 use Rattle.stored_value.specs.Reading.{value_size}
@@ -26,23 +26,23 @@ pub record Front : Type 0 where
   pub directory : List ℕ
 
 -- null's entry and the block number, behind a row count, a value number n and has-null: no blocks exactly when there is no value
-unfoldable pub rest_of_front : ℕ → ℕ → Bool → List ℕ → Out Refusal Front
+unfoldable pub rest_of_front : ℕ → ℕ → Bool → List ℕ → Result Front Refusal
 rest_of_front rows n has_null_byte s =
     null_of true has_null_byte s (λ nulls s. count_at_most most_blocks s (λ b s. check (cond (eqb n 0) (eqb b 0) (leb 1 b)) Dict
-    (ok (record { rows = rows; values = n; nulls = nulls; blocks = b; directory = s }))))
+    (Ok (record { rows = rows; values = n; nulls = nulls; blocks = b; directory = s }))))
 
-unfoldable pub front : List ℕ → Out Refusal Front
+unfoldable pub front : List ℕ → Result Front Refusal
 front s =
-    number big 1 (refuse Short) s (λ version s. check (eqb version 2) Version
+    number big 1 (Err Short) s (λ version s. check (eqb version 2) Version
     (count_at_most limit s (λ rows s. count_at_most most_values2 s (λ n s.
-    number big 1 (refuse Short) s (λ has_null_byte s. check (leb has_null_byte 1) Dict (rest_of_front rows n (eqb has_null_byte 1) s))))))
+    number big 1 (Err Short) s (λ has_null_byte s. check (leb has_null_byte 1) Dict (rest_of_front rows n (eqb has_null_byte 1) s))))))
 
 -- ---- the table
 
 -- what follows a value of this size; nothing where none stands
-unfoldable pub if_sized : Out Refusal ℕ → (ℕ → List ℕ) → List ℕ
-if_sized (refuse r) k = []
-if_sized (ok n) k = k n
+unfoldable pub if_sized : Result ℕ Refusal → (ℕ → List ℕ) → List ℕ
+if_sized (Err r) k = []
+if_sized (Ok n) k = k n
 
 -- where n entries of a directory start that stand one behind another at the front of s, the first at `at`: a value and a block's offset each. They end where no
 -- value stands, which is so in no dictionary that was accepted
@@ -62,11 +62,11 @@ pub record Openable : Type 0 where
 
 -- all that comes before a byte of the field or a word of the table is written: "Too short a table is ROOM, where 01 tests room. A version 1 body is VERSION".
 -- The table is "under no length limit"
-unfoldable pub openable : ℕ → List ℕ → List ℕ → List ℕ → Out Refusal Openable
+unfoldable pub openable : ℕ → List ℕ → List ℕ → List ℕ → Result Openable Refusal
 openable t body field table =
     check (leb (length body) limit) Limit (check (ltb t types) Literal
     (and_then (front body) (λ f. and_then (prepared t body field) (λ d.
-    check (leb f.blocks (length table)) Room (ok (record { fields = f; read = d }))))))
+    check (leb f.blocks (length table)) Room (Ok (record { fields = f; read = d }))))))
 
 -- an accepted open: the row count, the number of blocks, and what the table then holds
 pub record Table : Type 0 where
@@ -77,23 +77,23 @@ pub record Table : Type 0 where
 unfoldable pub filled : ℕ → List ℕ → Front → List ℕ → List ℕ
 filled t body f table = written_to table (starts_in t f.blocks (behind body f.directory) f.directory)
 
-unfoldable pub opened : ℕ → List ℕ → List ℕ → List ℕ → Out Refusal Table
+unfoldable pub opened : ℕ → List ℕ → List ℕ → List ℕ → Result Table Refusal
 opened t body field table =
     and_then (openable t body field table) (λ o. and_then (audited o.read (cleared o.read.rows field)) (λ rows.
-    ok (record { rows = rows; blocks = o.fields.blocks; words = filled t body o.fields table })))
+    Ok (record { rows = rows; blocks = o.fields.blocks; words = filled t body o.fields table })))
 
 -- the field: as Audit leaves it, untouched up to ROOM and zero after it
-unfoldable pub zeroed_from : Out Refusal Openable → List ℕ → List ℕ
-zeroed_from (refuse r) field = field
-zeroed_from (ok o) field = cleared o.read.rows field
+unfoldable pub zeroed_from : Result Openable Refusal → List ℕ → List ℕ
+zeroed_from (Err r) field = field
+zeroed_from (Ok o) field = cleared o.read.rows field
 
 unfoldable pub open_buffer : ℕ → List ℕ → List ℕ → List ℕ → List ℕ
 open_buffer t body field table = zeroed_from (openable t body field table) field
 
 -- "A refused open leaves the table untouched, an accepted one what lies behind"
-unfoldable pub table_of : Out Refusal Table → List ℕ → List ℕ
-table_of (refuse r) table = table
-table_of (ok a) table = a.words
+unfoldable pub table_of : Result Table Refusal → List ℕ → List ℕ
+table_of (Err r) table = table
+table_of (Ok a) table = a.words
 
 unfoldable pub open_table : ℕ → List ℕ → List ℕ → List ℕ → List ℕ
 open_table t body field table = table_of (opened t body field table) table
@@ -101,9 +101,9 @@ open_table t body field table = table_of (opened t body field table) table
 -- ---- the call's answer, and its numbers: the answer's, 0 for accepted and else the refusal's in 01's table; then row count and number of blocks, both 0 with a
 -- refusal
 
-unfoldable pub opened_by : Out Refusal Table → Opened
-opened_by (refuse r) = Opened.Refused r
-opened_by (ok a) = Accepted a.rows a.blocks
+unfoldable pub opened_by : Result Table Refusal → Opened
+opened_by (Err r) = Opened.Refused r
+opened_by (Ok a) = Accepted a.rows a.blocks
 
 unfoldable pub open_out : Opened → ℕ × (ℕ × ℕ)
 open_out (Opened.Refused r) = (number_of r, (0, 0))

@@ -1,9 +1,8 @@
 -- What is claimed of refusals that carry nothing (02, Ticket 2). Crates above say of their stages before a bitmap is looked at that they carry nothing.
-use Rattle.std.specs.Prelude.{◌≡◌}
+use Rattle.std.specs.Prelude.{◌≡◌, Result, Err, Ok}
 use Rattle.refusal.specs.declared.Refusal.{Refusal}
 use Rattle.refusal.specs.declared.Refusal.TheVariants.{Short, Magic, Version, Head, Dict, Bitmap, Range, Twice, Missing, Room, Literal, Limit, Checksum, NoBin}
 use Rattle.refusal.specs.Meaning.{fault_of, no_fault}
-use Rattle.refusal.specs.Reading.{Out, refuse, ok}
 
 -- the refusals that carry nothing besides their number
 abbrev pub Bare : Refusal → Type 0
@@ -23,9 +22,9 @@ Bare Checksum = Unit {0}
 Bare NoBin = Unit {0}
 
 -- if it is a refusal, it carries nothing
-abbrev pub CarriesNothing : {A : Type 0} → Out Refusal A → Type 0
-CarriesNothing (refuse r) = Bare r
-CarriesNothing (ok a) = Unit {0}
+abbrev pub CarriesNothing : {A : Type 0} → Result A Refusal → Type 0
+CarriesNothing (Err r) = Bare r
+CarriesNothing (Ok a) = Unit {0}
 
 -- all three numbers of its fault are then 0
 abbrev pub BareHasNoFault : Type 0

@@ -2,7 +2,7 @@
 use Prim.Native.Nat.{ℕ, zero, suc}
 use mathlib.Core.List.{List}
 use Rattle.refusal.specs.declared.Refusal.{Refusal}
-use Rattle.refusal.specs.Reading.{Out}
+use Rattle.std.specs.Prelude.{Result}
 use Rattle.refusal.specs.Claims.{Bare, CarriesNothing}
 use Rattle.refusal.proofs.CarriesNothing.{bare}
 use Rattle.stored_value.specs.Reading.{value_size, value_of, literals}
@@ -12,7 +12,7 @@ module _ (short broken : Refusal) (f : Bare short) (g : Bare broken) (t : ℕ) (
   unfolding value_size
   size_bare = search bare depth 7
 
-  pub value_bare : {A : Type 0} (k : List ℕ → List ℕ → Out Refusal A) → ((v r : List ℕ) → CarriesNothing (k v r))
+  pub value_bare : {A : Type 0} (k : List ℕ → List ℕ → Result A Refusal) → ((v r : List ℕ) → CarriesNothing (k v r))
       → CarriesNothing (value_of short broken t s k)
   unfolding value_of
   value_bare k h = search (bare, size_bare)

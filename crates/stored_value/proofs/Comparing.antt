@@ -5,7 +5,7 @@ use mathlib.Core.Bool.{Bool, true, false, ◌||◌}
 use mathlib.Core.List.{List, [], ◌∷◌, ◌++◌}
 use lib.ListN.{length, take, drop}
 use Rattle.numbers.specs.Meaning.{same}
-use Rattle.refusal.specs.Reading.{ok}
+use Rattle.std.specs.Prelude.{Ok}
 use Rattle.hash_table.proofs.Chaining.{among-more}
 use Rattle.stored_value.specs.Meaning.{listed, most_literals}
 use Rattle.stored_value.specs.Reading.{literals}
@@ -55,6 +55,6 @@ module _ {t : ℕ} {s v : List ℕ} {p : ℕ} (past : Unlisted t s v p) where
         let behind = walk_behind (walk_next past.walk all a h k takes) all a in
         sym (ap (listed v) behind.1 ∙ listed_kept v (past.ls ++ (take k (drop p s) ∷ [])) behind.0 (with_this ∙ y))
 
-    pub unlisted_next : is ≡ false → (all : List (List ℕ)) → literals t most_literals [] s ≡ ok all → Unlisted t s v (p + k)
+    pub unlisted_next : is ≡ false → (all : List (List ℕ)) → literals t most_literals [] s ≡ Ok all → Unlisted t s v (p + k)
     unlisted_next n all a =
         record { i = past.i + 1; ls = past.ls ++ (take k (drop p s) ∷ []); walk = walk_next past.walk all a h k takes; none = with_this ∙ n }

@@ -7,7 +7,7 @@ use native.Mathlib.Omega.{arith}
 use lib.ListN.{length, take, drop, length-append}
 use Rattle.numbers.specs.Meaning.{same}
 use Rattle.numbers.proofs.SameBytes.{same→eq}
-use Rattle.refusal.specs.Reading.{ok}
+use Rattle.std.specs.Prelude.{Ok}
 use Rattle.hash_table.specs.Promises.{among, Holds, Inserts}
 use Rattle.hash_table.proofs.Chaining.{among-more, insert_old, insert_new}
 use Rattle.stored_value.specs.Meaning.{listed, most_literals}
@@ -50,7 +50,7 @@ module _ (t : ℕ) (s table : List ℕ) (n p : ℕ) (past : Passed t s table n p
       let y : past.ls ≡ all = walk_done past.walk all e h in
       record { vs = past.vs; holds = past.holds; lists = λ v. past.lists v ∙ ap (among v) y ∙ sym (listed-among v all) }
 
-  module _ (all : List (List ℕ)) (a : literals t most_literals [] s ≡ ok all) (h : p < length s) where
+  module _ (all : List (List ℕ)) (a : literals t most_literals [] s ≡ Ok all) (h : p < length s) where
     pub passed_few : n < most_literals
     passed_few = omega (arith, walk_more past.walk all a h, past.fewer)
 

@@ -16,7 +16,8 @@ use Rattle.numbers.proofs.Laws.{number_laid, number_at_back}
 use Rattle.numbers.proofs.SameBytes.{same_refl, same→eq, same-sym}
 use Rattle.refusal.specs.declared.Refusal.{Refusal}
 use Rattle.refusal.specs.declared.Refusal.TheVariants.{Literal, Limit}
-use Rattle.refusal.specs.Reading.{Out, refuse, ok, check, and_then}
+use Rattle.std.specs.Prelude.{Result, Err, Ok}
+use Rattle.refusal.specs.Reading.{check, and_then}
 use Rattle.refusal.proofs.Laws.{not-ok, check-ok}
 use Rattle.stored_value.specs.Meaning.{widths, types, width, is_string, longest_string, boolean_ok, Value, number, string, Cell, null, value, same_cell, listed, most_literals, Literals}
 use Rattle.stored_value.specs.Reading.{string_size, value_size, value_of, literals}
@@ -45,17 +46,17 @@ same_cell-sym (value v) (value w) = same-sym v w
 -- ---- the size of a value: a number's, and a string's
 
 module _ (short broken : Refusal) (t : ℕ) (s : List ℕ) where
-  pub size_unknown : types ≤ t → value_size short broken t s ≡ refuse Literal
+  pub size_unknown : types ≤ t → value_size short broken t s ≡ Err Literal
   unfolding value_size check
   size_unknown h = rw (le-ltb t types h)
 
   module _ (k : t < types) where
     pub size_number : is_string t ≡ false
-        → value_size short broken t s ≡ check (leb (width t) (length s)) short (check (boolean_ok t s) broken (ok (width t)))
+        → value_size short broken t s ≡ check (leb (width t) (length s)) short (check (boolean_ok t s) broken (Ok (width t)))
     unfolding value_size check
     size_number e = rw (lt-ltb t types k, e)
 
-    pub size-string : is_string t ≡ true → value_size short broken t s ≡ meaning.number big 4 (refuse short) s (string_size short broken)
+    pub size-string : is_string t ≡ true → value_size short broken t s ≡ meaning.number big 4 (Err short) s (string_size short broken)
     unfolding value_size check
     size-string e = rw (lt-ltb t types k, e)
 
@@ -81,7 +82,7 @@ first_byte : (t : ℕ) (v tail : List ℕ) → 0 < length v → boolean_ok t (v 
 unfolding boolean_ok
 first_byte t v tail p = rw (get_or-append v tail 0 0 p)
 
-pub value_laid : (short broken : Refusal) (t : ℕ) (v tail : List ℕ) → Value t v → value_size short broken t (v ++ tail) ≡ ok (length v)
+pub value_laid : (short broken : Refusal) (t : ℕ) (v tail : List ℕ) → Value t v → value_size short broken t (v ++ tail) ≡ Ok (length v)
 unfolding check
 value_laid short broken t v tail (number v' n l b o) =
     let w = width_some t n in
@@ -92,19 +93,19 @@ value_laid short broken t v tail (string c k n l b) =
     let p : length c < sign_bit = omega arith in
     let q : length c ≤ length (c ++ tail) = simp length-append (omega arith) in
     size-string short broken t (v ++ tail) k n
-    ∙ number_laid big 4 (refuse short) (length c) (c ++ tail) (string_size short broken) (omega arith)
-    ∙ rw (lt-ltb (length c) sign_bit p, le-leb (length c) longest_string l, le-leb (length c) (length (c ++ tail)) q) (ap ok (omega arith))
+    ∙ number_laid big 4 (Err short) (length c) (c ++ tail) (string_size short broken) (omega arith)
+    ∙ rw (lt-ltb (length c) sign_bit p, le-leb (length c) longest_string l, le-leb (length c) (length (c ++ tail)) q) (ap Ok (omega arith))
 
 first_taken : (t k : ℕ) (s : List ℕ) → 0 < k → boolean_ok t (take k s) ≡ boolean_ok t s
 unfolding boolean_ok
 first_taken t k s p = rw (get_or-take k s 0 0 p)
 
-pub number_ok : {A : Type 0} (w : ℕ) (r : Refusal) (s : List ℕ) (k : ℕ → List ℕ → Out Refusal A) (a : A) → meaning.number big w (refuse r) s k ≡ ok a
-    → (w ≤ length s) × (k (be_at w s 0) (drop w s) ≡ ok a)
+pub number_ok : {A : Type 0} (w : ℕ) (r : Refusal) (s : List ℕ) (k : ℕ → List ℕ → Result A Refusal) (a : A) → meaning.number big w (Err r) s k ≡ Ok a
+    → (w ≤ length s) × (k (be_at w s 0) (drop w s) ≡ Ok a)
 unfolding meaning.number
 number_ok {A} w r s k a e = go (leb w (length s)) refl e
   where
-    go : (b : Bool) → leb w (length s) ≡ b → cond b (k (be_at w s 0) (drop w s)) (refuse r) ≡ ok a → (w ≤ length s) × (k (be_at w s 0) (drop w s) ≡ ok a)
+    go : (b : Bool) → leb w (length s) ≡ b → cond b (k (be_at w s 0) (drop w s)) (Err r) ≡ Ok a → (w ≤ length s) × (k (be_at w s 0) (drop w s) ≡ Ok a)
     go true t e = (leb-true w (length s) t, e)
     go false t e = absurd (not-ok e)
 
@@ -114,7 +115,7 @@ pub record ValueRead (t : ℕ) (s : List ℕ) (k : ℕ) : Type 0 where
   pub fits : k ≤ length s
   pub whole : Bytes s → Value t (take k s)
 
-module _ (short broken : Refusal) (t : ℕ) (s : List ℕ) (k : ℕ) (e : value_size short broken t s ≡ ok k) where
+module _ (short broken : Refusal) (t : ℕ) (s : List ℕ) (k : ℕ) (e : value_size short broken t s ≡ Ok k) where
   known : t < types
   unfolding value_size
   known = ltb-true t types (check-ok _ _ _ k e).0
@@ -167,57 +168,57 @@ value-length t v (string c k n l b) = omega arith
 
 -- ---- literals: laid out, so read; read, so laid out
 
-pub literals_end : (t n : ℕ) (ls : List (List ℕ)) → literals t n ls [] ≡ ok ls
+pub literals_end : (t n : ℕ) (ls : List (List ℕ)) → literals t n ls [] ≡ Ok ls
 unfolding literals
 literals_end t zero ls = refl
 literals_end t (suc n) ls = refl
 
 module _ (t : ℕ) (ls : List (List ℕ)) (s : List ℕ) (p : 0 < length s) where
   -- no more may come, and there is a byte
-  pub literals-full : literals t 0 ls s ≡ refuse Limit
+  pub literals-full : literals t 0 ls s ≡ Err Limit
   unfolding literals
   literals-full = rw (ne_eqb (length s) 0 (omega arith))
 
   -- one literal more
-  pub literals-next : (n k : ℕ) → value_size Literal Literal t s ≡ ok k → literals t (suc n) ls s ≡ literals t n (ls ++ (take k s ∷ [])) (drop k s)
+  pub literals-next : (n k : ℕ) → value_size Literal Literal t s ≡ Ok k → literals t (suc n) ls s ≡ literals t n (ls ++ (take k s ∷ [])) (drop k s)
   unfolding literals value_of and_then
   literals-next n k e = rw (ne_eqb (length s) 0 (omega arith), e)
 
-  pub literals_refused : (n : ℕ) (r : Refusal) → value_size Literal Literal t s ≡ refuse r → literals t (suc n) ls s ≡ refuse r
+  pub literals_refused : (n : ℕ) (r : Refusal) → value_size Literal Literal t s ≡ Err r → literals t (suc n) ls s ≡ Err r
   unfolding literals value_of and_then
   literals_refused n r e = rw (ne_eqb (length s) 0 (omega arith), e)
 
-laid_from : (t n : ℕ) (acc ls : List (List ℕ)) → Literals t ls → length ls ≤ n → literals t n acc (joined ls) ≡ ok (acc ++ ls)
-laid_from t n acc [] x m = literals_end t n acc ∙ ap ok (sym (append-nil acc))
+laid_from : (t n : ℕ) (acc ls : List (List ℕ)) → Literals t ls → length ls ≤ n → literals t n acc (joined ls) ≡ Ok (acc ++ ls)
+laid_from t n acc [] x m = literals_end t n acc ∙ ap Ok (sym (append-nil acc))
 laid_from t zero acc (l ∷ ls) x m = absurd (omega arith)
 laid_from t (suc n) acc (l ∷ ls) x m =
     let s : List ℕ = l ++ joined ls in
     let p : 0 < length s = rw length-append (omega (arith, value-length t l x.0)) in
     let e = literals-next t acc s p n (length l) (value_laid Literal Literal t l (joined ls) x.0) in
     let q = rw (take_at l (joined ls) (length l) refl, drop_at l (joined ls) (length l) refl) at e in
-    q ∙ laid_from t n (acc ++ (l ∷ [])) ls x.1 (omega arith) ∙ ap ok (append_assoc acc (l ∷ []) ls)
+    q ∙ laid_from t n (acc ++ (l ∷ [])) ls x.1 (omega arith) ∙ ap Ok (append_assoc acc (l ∷ []) ls)
 
-pub literals_laid : (t : ℕ) (ls : List (List ℕ)) → Literals t ls → length ls ≤ most_literals → literals t most_literals [] (joined ls) ≡ ok ls
+pub literals_laid : (t : ℕ) (ls : List (List ℕ)) → Literals t ls → length ls ≤ most_literals → literals t most_literals [] (joined ls) ≡ Ok ls
 literals_laid t ls x m = laid_from t most_literals [] ls x m
 
 -- what is said of literals that were read behind `acc`, n at most
 abbrev From : ℕ → ℕ → List (List ℕ) → List ℕ → List (List ℕ) → Type 0
 From t n acc s ls = (ms : List (List ℕ)) × (ls ≡ acc ++ ms) × (s ≡ joined ms) × (Bytes s → Literals t ms) × (length ms ≤ n)
 
-none : (t n : ℕ) (acc ls : List (List ℕ)) → literals t n acc [] ≡ ok ls → From t n acc [] ls
+none : (t n : ℕ) (acc ls : List (List ℕ)) → literals t n acc [] ≡ Ok ls → From t n acc [] ls
 none t n acc ls e = let q = literals_end t n acc in ([], cc (append-nil acc), refl, λ h. tt, omega arith)
 
-back_from : (t n : ℕ) (acc : List (List ℕ)) (s : List ℕ) (ls : List (List ℕ)) → literals t n acc s ≡ ok ls → From t n acc s ls
+back_from : (t n : ℕ) (acc : List (List ℕ)) (s : List ℕ) (ls : List (List ℕ)) → literals t n acc s ≡ Ok ls → From t n acc s ls
 back_from t zero acc [] ls e = none t zero acc ls e
 back_from t zero acc (b ∷ s) ls e = absurd (not-ok (sym (literals-full t acc (b ∷ s) (omega arith)) ∙ e))
 back_from t (suc n) acc [] ls e = none t (suc n) acc ls e
 back_from t (suc n) acc (b ∷ s) ls e = by (value_size Literal Literal t (b ∷ s)) refl (λ k. back_from t n _ (drop k (b ∷ s)) ls)
   where
-    by : (o : Out Refusal ℕ) → value_size Literal Literal t (b ∷ s) ≡ o
-        → ((k : ℕ) → literals t n (acc ++ (take k (b ∷ s) ∷ [])) (drop k (b ∷ s)) ≡ ok ls → From t n (acc ++ (take k (b ∷ s) ∷ [])) (drop k (b ∷ s)) ls)
+    by : (o : Result ℕ Refusal) → value_size Literal Literal t (b ∷ s) ≡ o
+        → ((k : ℕ) → literals t n (acc ++ (take k (b ∷ s) ∷ [])) (drop k (b ∷ s)) ≡ Ok ls → From t n (acc ++ (take k (b ∷ s) ∷ [])) (drop k (b ∷ s)) ls)
         → From t (suc n) acc (b ∷ s) ls
-    by (refuse r) v next = absurd (not-ok (sym (literals_refused t acc (b ∷ s) (omega arith) n r v) ∙ e))
-    by (ok k) v next =
+    by (Err r) v next = absurd (not-ok (sym (literals_refused t acc (b ∷ s) (omega arith) n r v) ∙ e))
+    by (Ok k) v next =
         let l : List ℕ = take k (b ∷ s) in
         let m = next k (sym (literals-next t acc (b ∷ s) (omega arith) n k v) ∙ e) in (
           l ∷ m.0,
@@ -228,20 +229,20 @@ back_from t (suc n) acc (b ∷ s) ls e = by (value_size Literal Literal t (b ∷
         )
 
 -- what was read before stands in front
-pub literals-behind : (t n : ℕ) (acc : List (List ℕ)) (s : List ℕ) (ls : List (List ℕ)) → literals t n acc s ≡ ok ls → (ms : List (List ℕ)) × (ls ≡ acc ++ ms)
+pub literals-behind : (t n : ℕ) (acc : List (List ℕ)) (s : List ℕ) (ls : List (List ℕ)) → literals t n acc s ≡ Ok ls → (ms : List (List ℕ)) × (ls ≡ acc ++ ms)
 literals-behind t n acc s ls e = let m = back_from t n acc s ls e in (m.0, m.1)
 
-pub literals-joined : (t : ℕ) (s : List ℕ) (ls : List (List ℕ)) → literals t most_literals [] s ≡ ok ls → s ≡ joined ls
+pub literals-joined : (t : ℕ) (s : List ℕ) (ls : List (List ℕ)) → literals t most_literals [] s ≡ Ok ls → s ≡ joined ls
 literals-joined t s ls e = let m = back_from t most_literals [] s ls e in subst (λ (x : List (List ℕ)). s ≡ joined x) (sym m.1) m.2
 
-pub literals_back : (t : ℕ) (s : List ℕ) (ls : List (List ℕ)) → Bytes s → literals t most_literals [] s ≡ ok ls
+pub literals_back : (t : ℕ) (s : List ℕ) (ls : List (List ℕ)) → Bytes s → literals t most_literals [] s ≡ Ok ls
     → (s ≡ joined ls) × Literals t ls × (length ls ≤ most_literals)
 literals_back t s ls h e =
     let m = back_from t most_literals [] s ls e in
     subst (λ (x : List (List ℕ)). (s ≡ joined x) × Literals t x × (length x ≤ most_literals)) (sym m.1) (m.2, m.3 h, m.4)
 
 -- of one literal, a value is listed if it has all the bytes
-pub listed_alone : (t : ℕ) (v s : List ℕ) (ls : List (List ℕ)) → literals t most_literals [] s ≡ ok ls → length ls ≡ 1 → listed v ls ≡ same v s
+pub listed_alone : (t : ℕ) (v s : List ℕ) (ls : List (List ℕ)) → literals t most_literals [] s ≡ Ok ls → length ls ≡ 1 → listed v ls ≡ same v s
 unfolding listed
 listed_alone t v s [] e n = absurd (omega arith)
 listed_alone t v s (l ∷ []) e n = or-false (same v l) ∙ ap (same v) (sym (literals-joined t s (l ∷ []) e ∙ append-nil l))

@@ -7,7 +7,7 @@ use native.Mathlib.Omega.{arith}
 use lib.ListN.{length, take, drop}
 use Rattle.refusal.specs.declared.Refusal.{Refusal}
 use Rattle.refusal.specs.declared.Refusal.TheVariants.{Literal}
-use Rattle.refusal.specs.Reading.{Out, refuse, ok}
+use Rattle.std.specs.Prelude.{Result, Err, Ok}
 use Rattle.refusal.proofs.Laws.{not-ok, ok_same}
 use Rattle.stored_value.specs.Meaning.{most_literals}
 use Rattle.stored_value.specs.Reading.{value_size, literals}
@@ -23,7 +23,7 @@ pub record Walk (t : ℕ) (s : List ℕ) (i : ℕ) (ls : List (List ℕ)) (p : �
 pub walk_first : (t : ℕ) (s : List ℕ) → Walk t s 0 [] 0
 walk_first t s = record { most = omega arith; rest = refl }
 
-module _ {t : ℕ} {s : List ℕ} {i : ℕ} {ls : List (List ℕ)} {p : ℕ} (w : Walk t s i ls p) (all : List (List ℕ)) (a : literals t most_literals [] s ≡ ok all) where
+module _ {t : ℕ} {s : List ℕ} {i : ℕ} {ls : List (List ℕ)} {p : ℕ} (w : Walk t s i ls p) (all : List (List ℕ)) (a : literals t most_literals [] s ≡ Ok all) where
   pub walk_done : length s ≤ p → ls ≡ all
   walk_done h = ok_same ls all (sym (literals_done t most_literals i ls s p h) ∙ w.rest ∙ a)
 
@@ -40,18 +40,18 @@ module _ {t : ℕ} {s : List ℕ} {i : ℕ} {ls : List (List ℕ)} {p : ℕ} (w 
         by (yes l) = l
         by (no o) = absurd (not-ok (sym (turn_full t most_literals i ls s p h (omega (arith, w.most))) ∙ w.rest ∙ a))
 
-    accepted : (k : ℕ) × (value_size Literal Literal t (drop p s) ≡ ok k)
+    accepted : (k : ℕ) × (value_size Literal Literal t (drop p s) ≡ Ok k)
     accepted = by (value_size Literal Literal t (drop p s)) refl
       where
-        by : (o : Out Refusal ℕ) → value_size Literal Literal t (drop p s) ≡ o → (k : ℕ) × (value_size Literal Literal t (drop p s) ≡ ok k)
-        by (refuse r) x = absurd (not-ok (sym (turn_refused t most_literals i ls s p h walk_more r x) ∙ w.rest ∙ a))
-        by (ok k) x = (k, x)
+        by : (o : Result ℕ Refusal) → value_size Literal Literal t (drop p s) ≡ o → (k : ℕ) × (value_size Literal Literal t (drop p s) ≡ Ok k)
+        by (Err r) x = absurd (not-ok (sym (turn_refused t most_literals i ls s p h walk_more r x) ∙ w.rest ∙ a))
+        by (Ok k) x = (k, x)
 
     pub walk_stands : Stands t (drop p s)
     walk_stands = (Literal, Literal, accepted.0, accepted.1)
 
     module _ (k : ℕ) (takes : Takes t (drop p s) k) where
-      is : value_size Literal Literal t (drop p s) ≡ ok k
+      is : value_size Literal Literal t (drop p s) ≡ Ok k
       is = rw (takes Literal Literal accepted.0 accepted.1) accepted.1
 
       pub walk_within : (1 ≤ k) × (p + k ≤ length s)

@@ -24,7 +24,8 @@ use Rattle.refusal.specs.declared.Refusal.TheVariants.{Literal, Limit}
 use Rattle.stored_value.specs.declared.Sized.{Sized}
 use Rattle.stored_value.specs.declared.Counted.{Counted}
 use Rattle.stored_value.specs.Meaning.{types, width, is_string, longest_string, boolean_ok, signed_number, is_less_bytewise, less}
-use Rattle.refusal.specs.Reading.{Out, refuse, ok, check, numbers_of}
+use Rattle.std.specs.Prelude.{Result, Err, Ok}
+use Rattle.refusal.specs.Reading.{check, numbers_of}
 use Rattle.refusal.proofs.Laws.{check-ok, ok_same, not-ok}
 use Rattle.stored_value.specs.Promises.{sized_by, SizePromise, counted_by, CountPromise}
 use Rattle.stored_value.specs.Reading.{string_size, value_size, literals}
@@ -86,7 +87,7 @@ module _ (short broken : Refusal) (s : List ℕ) (p : ℕ) where
   halves : be_at 4 s p ≡ be_at 2 s p * two_bytes + be_at 2 s (p + 2)
   halves = be_at_split 2 2 s p
 
-  pub string_negative : half_sign ≤ be_at 2 s p → string_size short broken (be_at 4 s p) (drop (p + 4) s) ≡ refuse broken
+  pub string_negative : half_sign ≤ be_at 2 s p → string_size short broken (be_at 4 s p) (drop (p + 4) s) ≡ Err broken
   unfolding check
   string_negative g = let l : sign_bit ≤ be_at 4 s p = omega (arith, halves) in rw (le-ltb (be_at 4 s p) sign_bit l)
 
@@ -94,7 +95,7 @@ module _ (short broken : Refusal) (s : List ℕ) (p : ℕ) where
     lower-lt : be_at 2 s (p + 2) < two_bytes
     lower-lt = be_at-lt 2 s (p + 2) d
 
-    pub string-over : 0 < be_at 2 s p → be_at 2 s p < half_sign → string_size short broken (be_at 4 s p) (drop (p + 4) s) ≡ refuse Limit
+    pub string-over : 0 < be_at 2 s p → be_at 2 s p < half_sign → string_size short broken (be_at 4 s p) (drop (p + 4) s) ≡ Err Limit
     unfolding check
     string-over o g =
         let l : be_at 4 s p < sign_bit = omega (arith, halves, lower-lt) in
@@ -105,19 +106,19 @@ module _ (short broken : Refusal) (s : List ℕ) (p : ℕ) where
       lower : be_at 4 s p ≡ be_at 2 s (p + 2)
       lower = omega (arith, halves)
 
-      by_bytes : string_size short broken (be_at 4 s p) (drop (p + 4) s) ≡ check (leb (be_at 2 s (p + 2)) (length s - (p + 4))) short (ok (4 + be_at 2 s (p + 2)))
+      by_bytes : string_size short broken (be_at 4 s p) (drop (p + 4) s) ≡ check (leb (be_at 2 s (p + 2)) (length s - (p + 4))) short (Ok (4 + be_at 2 s (p + 2)))
       unfolding check
       by_bytes =
           let l : be_at 2 s (p + 2) < sign_bit = omega (arith, lower-lt) in
           let h : be_at 2 s (p + 2) ≤ longest_string = omega (arith, lower-lt) in
           rw (lower, lt-ltb (be_at 2 s (p + 2)) sign_bit l, le-leb (be_at 2 s (p + 2)) longest_string h, length-drop (p + 4) s)
 
-      pub string-cut : length s - (p + 4) < be_at 2 s (p + 2) → string_size short broken (be_at 4 s p) (drop (p + 4) s) ≡ refuse short
+      pub string-cut : length s - (p + 4) < be_at 2 s (p + 2) → string_size short broken (be_at 4 s p) (drop (p + 4) s) ≡ Err short
       unfolding check
       string-cut l = by_bytes ∙ rw (lt-leb (be_at 2 s (p + 2)) (length s - (p + 4)) l)
 
       pub string-whole : be_at 2 s (p + 2) ≤ length s - (p + 4)
-          → string_size short broken (be_at 4 s p) (drop (p + 4) s) ≡ ok (4 + be_at 2 s (p + 2))
+          → string_size short broken (be_at 4 s p) (drop (p + 4) s) ≡ Ok (4 + be_at 2 s (p + 2))
       unfolding check
       string-whole l = by_bytes ∙ rw (le-leb (be_at 2 s (p + 2)) (length s - (p + 4)) l)
 
@@ -129,25 +130,25 @@ module _ (short broken : Refusal) (t : ℕ) (s : List ℕ) (p : ℕ) (k : t < ty
     unfolding is_string
     is_string_lem = eq-eqb (width t) 0 w
 
-    pub string-short : length s - p < 4 → value_size short broken t (drop p s) ≡ refuse short
-    string-short h = size-string short broken t (drop p s) k is_string_lem ∙ number_short big 4 (refuse short) s p (string_size short broken) h
+    pub string-short : length s - p < 4 → value_size short broken t (drop p s) ≡ Err short
+    string-short h = size-string short broken t (drop p s) k is_string_lem ∙ number_short big 4 (Err short) s p (string_size short broken) h
 
     pub by_length : p + 4 ≤ length s → value_size short broken t (drop p s) ≡ string_size short broken (be_at 4 s p) (drop (p + 4) s)
-    by_length h = size-string short broken t (drop p s) k is_string_lem ∙ number_at_lem big 4 (refuse short) s p (string_size short broken) h
+    by_length h = size-string short broken t (drop p s) k is_string_lem ∙ number_at_lem big 4 (Err short) s p (string_size short broken) h
 
   module _ (w : 0 < width t) where
     is_number : is_string t ≡ false
     unfolding is_string
     is_number = ne_eqb (width t) 0 (λ e. omega arith)
 
-    pub number_cut : length s - p < width t → value_size short broken t (drop p s) ≡ refuse short
+    pub number_cut : length s - p < width t → value_size short broken t (drop p s) ≡ Err short
     unfolding check
     number_cut h =
         let l : length (drop p s) < width t = rw length-drop h in
         size_number short broken t (drop p s) k is_number ∙ rw (lt-leb (width t) (length (drop p s)) l)
 
     module _ (h : width t ≤ length s - p) where
-      by_boolean : (b : Bool) → boolean_ok t (drop p s) ≡ b → value_size short broken t (drop p s) ≡ check b broken (ok (width t))
+      by_boolean : (b : Bool) → boolean_ok t (drop p s) ≡ b → value_size short broken t (drop p s) ≡ check b broken (Ok (width t))
       unfolding check
       by_boolean b e =
           let l : width t ≤ length (drop p s) = rw length-drop h in
@@ -156,28 +157,28 @@ module _ (short broken : Refusal) (t : ℕ) (s : List ℕ) (p : ℕ) (k : t < ty
       first : get_or (drop p s) 0 0 ≡ get_or s p 0
       first = get_or-drop p s 0 0 ∙ ap (λ (i : ℕ). get_or s i 0) (add-zero p)
 
-      pub boolean_over : t ≡ 1 → 1 < get_or s p 0 → value_size short broken t (drop p s) ≡ refuse broken
+      pub boolean_over : t ≡ 1 → 1 < get_or s p 0 → value_size short broken t (drop p s) ≡ Err broken
       unfolding boolean_ok check
       boolean_over e g = by_boolean false (rw (eq-eqb t 1 e, first, lt-leb (get_or s p 0) 1 g))
 
-      pub boolean_whole : t ≡ 1 → get_or s p 0 ≤ 1 → value_size short broken t (drop p s) ≡ ok (width t)
+      pub boolean_whole : t ≡ 1 → get_or s p 0 ≤ 1 → value_size short broken t (drop p s) ≡ Ok (width t)
       unfolding boolean_ok check
       boolean_whole e g = by_boolean true (rw (eq-eqb t 1 e, first, le-leb (get_or s p 0) 1 g))
 
-      pub number-whole : (t ≡ 1 → ⊥) → value_size short broken t (drop p s) ≡ ok (width t)
+      pub number-whole : (t ≡ 1 → ⊥) → value_size short broken t (drop p s) ≡ Ok (width t)
       unfolding boolean_ok check
       number-whole n = by_boolean true (rw (ne_eqb t 1 n))
 
-  pub past : length s < p → value_size short broken t (drop p s) ≡ refuse short
+  pub past : length s < p → value_size short broken t (drop p s) ≡ Err short
   past h = by (ℕ_discrete (width t) 0)
     where
-      by : Dec (width t ≡ 0) → value_size short broken t (drop p s) ≡ refuse short
+      by : Dec (width t ≡ 0) → value_size short broken t (drop p s) ≡ Err short
       by (yes w) = string-short w (omega arith)
       by (no w) = number_cut (omega arith) (omega arith)
 
 -- ---- `known_size`: a value that was accepted is as long as its type says, or as a string says before its bytes
 
-module _ (short broken : Refusal) (t : ℕ) (s : List ℕ) (p k : ℕ) (e : value_size short broken t (drop p s) ≡ ok k) where
+module _ (short broken : Refusal) (t : ℕ) (s : List ℕ) (p k : ℕ) (e : value_size short broken t (drop p s) ≡ Ok k) where
   known_type : t < types
   unfolding value_size
   known_type = ltb-true t types (check-ok _ _ _ k e).0
@@ -203,25 +204,25 @@ module _ (short broken : Refusal) (t : ℕ) (s : List ℕ) (p k : ℕ) (e : valu
 
 -- ---- the promise of what was read, and what was read of an answer
 
-pub says_refused : {o : Out Refusal ℕ} {r : Refusal} → o ≡ refuse r → SizePromise o (Sized.Refused r)
+pub says_refused : {o : Result ℕ Refusal} {r : Refusal} → o ≡ Err r → SizePromise o (Sized.Refused r)
 unfolding sized_by numbers_of
 says_refused e = record { answer = rw e; numbers = rw e }
 
-pub says_bytes : {o : Out Refusal ℕ} {m n : ℕ} → m ≡ n → o ≡ ok n → SizePromise o (Sized.Bytes m)
+pub says_bytes : {o : Result ℕ Refusal} {m n : ℕ} → m ≡ n → o ≡ Ok n → SizePromise o (Sized.Bytes m)
 unfolding sized_by numbers_of
 says_bytes h e = record { answer = rw (e, h); numbers = rw (e, h) }
 
-pub size_refused : (o : Out Refusal ℕ) (x : Sized) (r : Refusal) → SizePromise o x → x ≡ Sized.Refused r → o ≡ refuse r
+pub size_refused : (o : Result ℕ Refusal) (x : Sized) (r : Refusal) → SizePromise o x → x ≡ Sized.Refused r → o ≡ Err r
 unfolding sized_by
-size_refused (refuse q) x r e f = cc e.answer
-size_refused (ok n) x r e f = cc e.answer
+size_refused (Err q) x r e f = cc e.answer
+size_refused (Ok n) x r e f = cc e.answer
 
-pub size-bytes : (o : Out Refusal ℕ) (x : Sized) (n : ℕ) → SizePromise o x → x ≡ Sized.Bytes n → o ≡ ok n
+pub size-bytes : (o : Result ℕ Refusal) (x : Sized) (n : ℕ) → SizePromise o x → x ≡ Sized.Bytes n → o ≡ Ok n
 unfolding sized_by
-size-bytes (refuse q) x n e f = cc e.answer
-size-bytes (ok m) x n e f = cc e.answer
+size-bytes (Err q) x n e f = cc e.answer
+size-bytes (Ok m) x n e f = cc e.answer
 
-pub size_within : (short broken : Refusal) (t : ℕ) (s : List ℕ) (p n : ℕ) → p ≤ length s → value_size short broken t (drop p s) ≡ ok n
+pub size_within : (short broken : Refusal) (t : ℕ) (s : List ℕ) (p n : ℕ) → p ≤ length s → value_size short broken t (drop p s) ≡ Ok n
     → (1 ≤ n) × (p + n ≤ length s)
 size_within short broken t s p n l e =
     let r = value_read short broken t (drop p s) n e in
@@ -231,31 +232,31 @@ size_within short broken t s p n l e =
 -- ---- `literals`: a turn at the i-th of m, at p
 
 module _ (t m i : ℕ) (ls : List (List ℕ)) (s : List ℕ) (p : ℕ) where
-  pub literals_done : length s ≤ p → literals t (m - i) ls (drop p s) ≡ ok ls
+  pub literals_done : length s ≤ p → literals t (m - i) ls (drop p s) ≡ Ok ls
   literals_done h = rw (drop_of_length-le s h) (literals_end t (m - i) ls)
 
   module _ (h : p < length s) where
     left : 0 < length (drop p s)
     left = rw length-drop (omega arith)
 
-    pub turn_full : i ≡ m → literals t (m - i) ls (drop p s) ≡ refuse Limit
+    pub turn_full : i ≡ m → literals t (m - i) ls (drop p s) ≡ Err Limit
     turn_full e = let z : m - i ≡ 0 = omega arith in rw z (literals-full t ls (drop p s) left)
 
     module _ (g : i < m) where
       more : m - i ≡ suc (m - (i + 1))
       more = omega arith
 
-      pub turn_refused : (r : Refusal) → value_size Literal Literal t (drop p s) ≡ refuse r → literals t (m - i) ls (drop p s) ≡ refuse r
+      pub turn_refused : (r : Refusal) → value_size Literal Literal t (drop p s) ≡ Err r → literals t (m - i) ls (drop p s) ≡ Err r
       turn_refused r e = rw more (literals_refused t ls (drop p s) left (m - (i + 1)) r e)
 
-      pub turn_next : (n : ℕ) → value_size Literal Literal t (drop p s) ≡ ok n
+      pub turn_next : (n : ℕ) → value_size Literal Literal t (drop p s) ≡ Ok n
           → literals t (m - i) ls (drop p s) ≡ literals t (m - (i + 1)) (ls ++ (take n (drop p s) ∷ [])) (drop (p + n) s)
       turn_next n e = rw (more, ← drop-drop n p s) (literals-next t ls (drop p s) left (m - (i + 1)) n e)
 
-pub counts_refused : {o : Out Refusal (List (List ℕ))} {r : Refusal} → o ≡ refuse r → CountPromise o (Counted.Refused r)
+pub counts_refused : {o : Result (List (List ℕ)) Refusal} {r : Refusal} → o ≡ Err r → CountPromise o (Counted.Refused r)
 unfolding counted_by numbers_of
 counts_refused e = record { answer = rw e; numbers = rw e }
 
-pub counts_literals : {o : Out Refusal (List (List ℕ))} {n : ℕ} (ls : List (List ℕ)) → length ls ≡ n → o ≡ ok ls → CountPromise o (Counted.Count n)
+pub counts_literals : {o : Result (List (List ℕ)) Refusal} {n : ℕ} (ls : List (List ℕ)) → length ls ≡ n → o ≡ Ok ls → CountPromise o (Counted.Count n)
 unfolding counted_by numbers_of
 counts_literals ls h e = record { answer = rw (e, h); numbers = rw (e, h) }

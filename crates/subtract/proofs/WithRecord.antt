@@ -10,7 +10,8 @@ use lib.ListN.{length}
 use Rattle.refusal.specs.Meaning.{limit}
 use Rattle.refusal.specs.declared.Refusal.{Refusal}
 use Rattle.refusal.specs.declared.Refusal.TheVariants.{Limit, Room}
-use Rattle.refusal.specs.Reading.{Out, refuse, ok, check, and_then, numbers_of}
+use Rattle.std.specs.Prelude.{Result, Err, Ok}
+use Rattle.refusal.specs.Reading.{check, and_then, numbers_of}
 use Rattle.refusal.proofs.Laws.{not-ok, then_ok, check-ok}
 use Rattle.row_field.specs.Meaning.{size, rows_from, count}
 use Rattle.subtract.specs.declared.Record.{Record}
@@ -27,20 +28,20 @@ use Rattle.subtract.proofs.Laws.{left-removed, none_left, set_in-le, left-or_del
 -- ---- the answer
 
 -- the reading of an answer of Subtract
-reading_of : Subtracted → Out Refusal Counts
-reading_of (Subtracted.Refused r) = refuse r
-reading_of (Done left gone) = ok (record { left = left; removed = gone })
+reading_of : Subtracted → Result Counts Refusal
+reading_of (Subtracted.Refused r) = Err r
+reading_of (Done left gone) = Ok (record { left = left; removed = gone })
 
-reading_back : (o : Out Refusal Counts) → reading_of (subtracted_by o) ≡ o
+reading_back : (o : Result Counts Refusal) → reading_of (subtracted_by o) ≡ o
 unfolding subtracted_by reading_of
-reading_back (refuse r) = refl
-reading_back (ok counts) = refl
+reading_back (Err r) = refl
+reading_back (Ok counts) = refl
 
 -- the numbers of the reading's answer, whether it says skip or keep
-record_numbers_lem : (o : Out Refusal RecordCounts) → record_subtract_out (record_subtracted_by o) ≡ numbers_of (no_record, 0) record_subtract_numbers o
+record_numbers_lem : (o : Result RecordCounts Refusal) → record_subtract_out (record_subtracted_by o) ≡ numbers_of (no_record, 0) record_subtract_numbers o
 unfolding record_subtract_out record_subtracted_by numbers_of
-record_numbers_lem (refuse r) = refl
-record_numbers_lem (ok a) = go (keeps a.said.matched)
+record_numbers_lem (Err r) = refl
+record_numbers_lem (Ok a) = go (keeps a.said.matched)
   where
     go : (b : Bool) → record_subtract_out (cond b (Keep a.said a.removed) (Skip a.said a.removed)) ≡ (0, (numbers_of_record a.said, a.removed))
     go true = refl
@@ -69,7 +70,7 @@ module _ (given : Record) (f g : List ℕ) {s : Subtracted} {after : List ℕ} (
 -- ---- the record that is handed back
 
 -- where Subtract accepts, its counts and its buffer are these
-module _ (n : ℕ) (f g : List ℕ) (counts : Counts) (e : subtraction n f g ≡ ok counts) where
+module _ (n : ℕ) (f g : List ℕ) (counts : Counts) (e : subtraction n f g ≡ Ok counts) where
   its_buffer : subtract_buffer n f g ≡ subtracted n f g
   unfolding buffer_by
   its_buffer = rw e
@@ -82,7 +83,7 @@ module _ (n : ℕ) (f g : List ℕ) (counts : Counts) (e : subtraction n f g ≡
       let (room', last) = check-ok _ _ _ counts second in
       cc
 
-pub counted_afresh : (given : Record) (f g : List ℕ) (a : RecordCounts) → record_subtraction given f g ≡ ok a → CountedAfresh given f g a
+pub counted_afresh : (given : Record) (f g : List ℕ) (a : RecordCounts) → record_subtraction given f g ≡ Ok a → CountedAfresh given f g a
 unfolding record_subtraction
 counted_afresh given f g a e =
     let n : ℕ = given.rows in
@@ -109,20 +110,20 @@ counted_afresh given f g a e =
 
 -- ---- refusals
 
-pub refused_alike : (given : Record) (f g : List ℕ) (r : Refusal) → (record_subtraction given f g ≡ refuse r) ↔ (subtraction given.rows f g ≡ refuse r)
+pub refused_alike : (given : Record) (f g : List ℕ) (r : Refusal) → (record_subtraction given f g ≡ Err r) ↔ (subtraction given.rows f g ≡ Err r)
 unfolding record_subtraction and_then
 refused_alike given f g r =
     go (subtraction given.rows f g) (λ counts. record { said = replaced given (count g given.rows) counts.left; removed = counts.removed })
   where
-    go : (o : Out Refusal Counts) (k : Counts → RecordCounts) → (and_then o (λ counts. ok (k counts)) ≡ refuse r) ↔ (o ≡ refuse r)
-    go (refuse r') k = (λ e. cc, λ e. cc)
-    go (ok counts) k = (λ e. absurd (not-ok (sym e)), λ e. absurd (not-ok (sym e)))
+    go : (o : Result Counts Refusal) (k : Counts → RecordCounts) → (and_then o (λ counts. Ok (k counts)) ≡ Err r) ↔ (o ≡ Err r)
+    go (Err r') k = (λ e. cc, λ e. cc)
+    go (Ok counts) k = (λ e. absurd (not-ok (sym e)), λ e. absurd (not-ok (sym e)))
 
-pub refused_for : (n : ℕ) (f g : List ℕ) (r : Refusal) → subtraction n f g ≡ refuse r → (r ≡ Limit) ⊎ (r ≡ Room)
+pub refused_for : (n : ℕ) (f g : List ℕ) (r : Refusal) → subtraction n f g ≡ Err r → (r ≡ Limit) ⊎ (r ≡ Room)
 unfolding subtraction check
 refused_for n f g r = go (leb n limit) (leb (size n) (length f)) (leb (size n) (length g)) (record { left = count (subtracted n f g) n; removed = removed n f g })
   where
-    go : (a b c : Bool) (counts : Counts) → check a Limit (check b Room (check c Room (ok counts))) ≡ refuse r → (r ≡ Limit) ⊎ (r ≡ Room)
+    go : (a b c : Bool) (counts : Counts) → check a Limit (check b Room (check c Room (Ok counts))) ≡ Err r → (r ≡ Limit) ⊎ (r ≡ Room)
     go false b c counts e = inl (cc)
     go true false c counts e = inr (cc)
     go true true false counts e = inr (cc)

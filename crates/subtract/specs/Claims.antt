@@ -1,9 +1,8 @@
 -- What is proved of a field less the rows of another, in terms of the bits of both, and of the record that is handed back.
-use Rattle.std.specs.Prelude.{ℕ, ◌+◌, ◌<◌, ◌≤◌, ◌≡◌, ◌↔◌, ◌⊎◌, true, false, not, ◌&&◌, List, ltb, length}
+use Rattle.std.specs.Prelude.{ℕ, ◌+◌, ◌<◌, ◌≤◌, ◌≡◌, ◌↔◌, ◌⊎◌, true, false, not, ◌&&◌, List, ltb, length, Err, Ok}
 use Rattle.row_field.specs.Meaning.{bit, count}
 use Rattle.refusal.specs.declared.Refusal.{Refusal}
 use Rattle.refusal.specs.declared.Refusal.TheVariants.{Limit, Room}
-use Rattle.refusal.specs.Reading.{refuse, ok}
 use Rattle.subtract.specs.declared.Record.{Record}
 use Rattle.subtract.specs.Meaning.{subtracted, removed, numbers_of_record, record_from_numbers, keeps}
 use Rattle.subtract.specs.Reading.{subtraction, subtract_buffer, RecordCounts, record_subtraction}
@@ -44,11 +43,11 @@ pub record CountedAfresh (given : Record) (f g : List ℕ) (a : RecordCounts) : 
   pub buffer : subtract_buffer given.rows f g ≡ subtracted given.rows f g
 
 abbrev pub RecordIsCountedAfresh : Type 0
-RecordIsCountedAfresh = (given : Record) (f g : List ℕ) (a : RecordCounts) → record_subtraction given f g ≡ ok a → CountedAfresh given f g a
+RecordIsCountedAfresh = (given : Record) (f g : List ℕ) (a : RecordCounts) → record_subtraction given f g ≡ Ok a → CountedAfresh given f g a
 
 -- Subtract with a record is refused exactly as Subtract with its row count, for LIMIT or ROOM, whatever its other numbers are; the first buffer then stays
 abbrev pub RefusedAsSubtract : Type 0
 RefusedAsSubtract =
     (given : Record) (f g : List ℕ) (r : Refusal)
-    → ((record_subtraction given f g ≡ refuse r) ↔ (subtraction given.rows f g ≡ refuse r))
-    × (record_subtraction given f g ≡ refuse r → ((r ≡ Limit) ⊎ (r ≡ Room)) × (subtract_buffer given.rows f g ≡ f))
+    → ((record_subtraction given f g ≡ Err r) ↔ (subtraction given.rows f g ≡ Err r))
+    × (record_subtraction given f g ≡ Err r → ((r ≡ Limit) ⊎ (r ≡ Room)) × (subtract_buffer given.rows f g ≡ f))

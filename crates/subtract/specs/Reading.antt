@@ -1,8 +1,8 @@
 -- What Subtract, with a row count and with a record, answers for any two fields, and what the first buffer holds after it (01: "Subtract checks LIMIT, then ROOM,
 -- and changes nothing when it refuses"; 02, Ticket 7).
-use Rattle.std.specs.Prelude.{ℕ, cond, List, leb, length}
+use Rattle.std.specs.Prelude.{ℕ, cond, List, leb, length, Result, Err, Ok}
 use Rattle.refusal.specs.Meaning.{limit, number_of}
-use Rattle.refusal.specs.Reading.{Out, refuse, ok, check, and_then}
+use Rattle.refusal.specs.Reading.{check, and_then}
 use Rattle.refusal.specs.declared.Refusal.{Refusal}
 use Rattle.refusal.specs.declared.Refusal.TheVariants.{Limit, Room}
 use Rattle.row_field.specs.Meaning.{size, count}
@@ -19,25 +19,25 @@ pub record Counts : Type 0 where
   pub removed : ℕ
 
 -- LIMIT for a row count above the limit, then ROOM for a field with fewer than ceil(n / 8) bytes; else the rows below n that are left in f, and those removed
-unfoldable pub subtraction : ℕ → List ℕ → List ℕ → Out Refusal Counts
+unfoldable pub subtraction : ℕ → List ℕ → List ℕ → Result Counts Refusal
 subtraction n f g =
     check (leb n limit) Limit
     (check (leb (size n) (length f)) Room
     (check (leb (size n) (length g)) Room
-    (ok (record { left = count (subtracted n f g) n; removed = removed n f g }))))
+    (Ok (record { left = count (subtracted n f g) n; removed = removed n f g }))))
 
 -- the first buffer after the call: a refusal changes nothing
-unfoldable pub buffer_by : Out Refusal Counts → ℕ → List ℕ → List ℕ → List ℕ
-buffer_by (refuse r) n f g = f
-buffer_by (ok c) n f g = subtracted n f g
+unfoldable pub buffer_by : Result Counts Refusal → ℕ → List ℕ → List ℕ → List ℕ
+buffer_by (Err r) n f g = f
+buffer_by (Ok c) n f g = subtracted n f g
 
 abbrev pub subtract_buffer : ℕ → List ℕ → List ℕ → List ℕ
 subtract_buffer n f g = buffer_by (subtraction n f g) n f g
 
 -- the call's answer
-unfoldable pub subtracted_by : Out Refusal Counts → Subtracted
-subtracted_by (refuse r) = Subtracted.Refused r
-subtracted_by (ok c) = Done c.left c.removed
+unfoldable pub subtracted_by : Result Counts Refusal → Subtracted
+subtracted_by (Err r) = Subtracted.Refused r
+subtracted_by (Ok c) = Done c.left c.removed
 
 -- the answer's number, 0 for accepted and else the refusal's in 01's table; then rows left and rows removed, 0 with a refusal
 unfoldable pub subtract_out : Subtracted → ℕ × (ℕ × ℕ)
@@ -60,15 +60,15 @@ replaced given deleted matched = record { rows = given.rows; nulls = given.nulls
 
 -- "Deleted then counts all rows set below that count in the second field .. Matched is counted afresh, as rows left in the first". LIMIT and ROOM are Subtract's,
 -- and the first buffer is then as Subtract leaves it
-unfoldable pub record_subtraction : Record → List ℕ → List ℕ → Out Refusal RecordCounts
+unfoldable pub record_subtraction : Record → List ℕ → List ℕ → Result RecordCounts Refusal
 record_subtraction given f g =
     and_then (subtraction given.rows f g) (λ counts.
-    ok (record { said = replaced given (count g given.rows) counts.left; removed = counts.removed }))
+    Ok (record { said = replaced given (count g given.rows) counts.left; removed = counts.removed }))
 
 -- "skip is said exactly when matched is 0"
-unfoldable pub record_subtracted_by : Out Refusal RecordCounts → RecordSubtracted
-record_subtracted_by (refuse r) = RecordSubtracted.Refused r
-record_subtracted_by (ok a) = cond (keeps a.said.matched) (Keep a.said a.removed) (Skip a.said a.removed)
+unfoldable pub record_subtracted_by : Result RecordCounts Refusal → RecordSubtracted
+record_subtracted_by (Err r) = RecordSubtracted.Refused r
+record_subtracted_by (Ok a) = cond (keeps a.said.matched) (Keep a.said a.removed) (Skip a.said a.removed)
 
 -- the answer's number; then the record's four and rows removed, all 0 with a refusal
 unfoldable pub record_subtract_out : RecordSubtracted → ℕ × (List ℕ × ℕ)

@@ -4,7 +4,7 @@ use mathlib.Core.List.{List, [], ◌∷◌, ◌++◌}
 use native.Mathlib.Omega.{arith}
 use lib.ListN.{length, take, drop, length-append}
 use Rattle.refusal.specs.declared.Refusal.TheVariants.{Literal}
-use Rattle.refusal.specs.Reading.{ok}
+use Rattle.std.specs.Prelude.{Ok}
 use Rattle.stored_value.specs.Meaning.{most_literals}
 use Rattle.stored_value.specs.Reading as reading
 use Rattle.stored_value.proofs.Steps.{size_refused, size-bytes, size_within, counts_refused, counts_literals, literals_done, turn_full, turn_refused, turn_next}
@@ -33,7 +33,7 @@ returns-in-Refused c =
 found : (c : In-Bytes)
     → let l = c.loop-p in
     let a = c.args in
-    reading.value_size Literal Literal a.t (drop l.p a.s.now) ≡ ok c.in-Bytes.n
+    reading.value_size Literal Literal a.t (drop l.p a.s.now) ≡ Ok c.in-Bytes.n
 found c =
     let l = c.loop-p in
     let a = c.args in

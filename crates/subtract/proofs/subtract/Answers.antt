@@ -9,7 +9,8 @@ use lib.Dec.{leb}
 use lib.ListN.{length}
 use borrow.Author.Tests.{le-leb, lt-leb, leb-true}
 use Rattle.refusal.specs.Meaning.{limit}
-use Rattle.refusal.specs.Reading.{Out, refuse, ok, check, numbers_of}
+use Rattle.std.specs.Prelude.{Result, Err, Ok}
+use Rattle.refusal.specs.Reading.{check, numbers_of}
 use Rattle.refusal.specs.declared.Refusal.{Refusal}
 use Rattle.refusal.specs.declared.Refusal.TheVariants.{Limit, Room}
 use Rattle.row_field.specs.Meaning.{size, count}
@@ -22,31 +23,31 @@ use Rattle.subtract.proofs.subtract.Goals as goal
 use Rattle.subtract.proofs.subtract.Goals.{After-count-left, Else-not-has_room-2}
 
 -- the numbers of the reading's answer are those that 01 gives it
-numbers_by : (o : Out Refusal Counts) → subtract_out (subtracted_by o) ≡ numbers_of (0, 0) subtract_numbers o
+numbers_by : (o : Result Counts Refusal) → subtract_out (subtracted_by o) ≡ numbers_of (0, 0) subtract_numbers o
 unfolding subtract_out subtracted_by numbers_of
-numbers_by (refuse r) = refl
-numbers_by (ok c) = refl
+numbers_by (Err r) = refl
+numbers_by (Ok c) = refl
 
-promise : {n : ℕ} {f g after : List ℕ} {r : Subtracted} (o : Out Refusal Counts) → subtraction n f g ≡ o → r ≡ subtracted_by o → after ≡ buffer_by o n f g
+promise : {n : ℕ} {f g after : List ℕ} {r : Subtracted} (o : Result Counts Refusal) → subtraction n f g ≡ o → r ≡ subtracted_by o → after ≡ buffer_by o n f g
     → SubtractPromise n f g after r
 promise o e a b = record { answer = rw e a; buffer = rw e b; numbers = rw e (ap subtract_out a ∙ numbers_by o) }
 
 -- ---- the stages, by their tests
 module _ (n : ℕ) (f g : List ℕ) where
-  over-limit : leb n limit ≡ false → subtraction n f g ≡ refuse Limit
+  over-limit : leb n limit ≡ false → subtraction n f g ≡ Err Limit
   unfolding subtraction check
   over-limit l = rw l
 
-  first_short : leb n limit ≡ true → leb (size n) (length f) ≡ false → subtraction n f g ≡ refuse Room
+  first_short : leb n limit ≡ true → leb (size n) (length f) ≡ false → subtraction n f g ≡ Err Room
   unfolding subtraction check
   first_short l h = rw (l, h)
 
-  second_short : leb n limit ≡ true → leb (size n) (length f) ≡ true → leb (size n) (length g) ≡ false → subtraction n f g ≡ refuse Room
+  second_short : leb n limit ≡ true → leb (size n) (length f) ≡ true → leb (size n) (length g) ≡ false → subtraction n f g ≡ Err Room
   unfolding subtraction check
   second_short l h k = rw (l, h, k)
 
   accepted : leb n limit ≡ true → leb (size n) (length f) ≡ true → leb (size n) (length g) ≡ true
-      → subtraction n f g ≡ ok (record { left = count (subtracted n f g) n; removed = removed n f g })
+      → subtraction n f g ≡ Ok (record { left = count (subtracted n f g) n; removed = removed n f g })
   unfolding subtraction check
   accepted l h k = rw (l, h, k)
 
@@ -55,13 +56,13 @@ pub returns-then-rows-gt-LIMIT : goal.returns-then-rows-gt-LIMIT
 unfolding subtracted_by buffer_by
 returns-then-rows-gt-LIMIT c =
     let a = c.args in
-    promise (refuse Limit) (over-limit a.rows a.first.now a.second.now (lt-leb _ limit c.if-rows-gt-LIMIT.true)) refl refl
+    promise (Err Limit) (over-limit a.rows a.first.now a.second.now (lt-leb _ limit c.if-rows-gt-LIMIT.true)) refl refl
 
 pub returns-then-not-has_room : goal.returns-then-not-has_room
 unfolding subtracted_by buffer_by
 returns-then-not-has_room c =
     let a = c.args in
-    promise (refuse Room)
+    promise (Err Room)
     (first_short a.rows a.first.now a.second.now (le-leb _ limit c.if-rows-gt-LIMIT.false) (sym c.has_room.ensures ∙ c.if-not-has_room.true))
     refl
     refl
@@ -72,7 +73,7 @@ returns-then-not-has_room-2 c =
     let a = c.args in
     let f = sym c.has_room.ensures ∙ c.if-not-has_room.false in
     let g = sym c.has_room-2.ensures ∙ c.if-not-has_room-2.true in
-    promise (refuse Room) (second_short a.rows a.first.now a.second.now (le-leb _ limit c.if-rows-gt-LIMIT.false) f g) refl refl
+    promise (Err Room) (second_short a.rows a.first.now a.second.now (le-leb _ limit c.if-rows-gt-LIMIT.false) f g) refl refl
 
 -- the row count is within the limit, and both fields have room
 module _ (t : Else-not-has_room-2) where
@@ -111,4 +112,4 @@ returns c =
     let l = left c in
     let r : c.count-before.result - c.count-left.result ≡ removed a.rows a.first.now a.second.now = omega (arith, parts c) in
     let o = accepted a.rows a.first.now a.second.now (within (goal.at.returns c).Else-not-has_room-2) (first-room (goal.at.returns c).Else-not-has_room-2) (second-room (goal.at.returns c).Else-not-has_room-2) in
-    promise (ok (record { left = _; removed = _ })) o (cc) c.subtract_rows.ensures
+    promise (Ok (record { left = _; removed = _ })) o (cc) c.subtract_rows.ensures
