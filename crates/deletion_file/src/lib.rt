@@ -67,7 +67,7 @@ fn next_bin(file: &[u8], at: Position) -> NextBin
     if left < NUMBER_SIZE {
         return NextBin::Short;
     }
-    let size = numbers::be32(file, Position(size_at)) as usize;
+    let size = numbers::be::<4>(file, Position(size_at)) as usize;
     if size < NUMBER_SIZE {
         return NextBin::Short;
     }
@@ -110,7 +110,7 @@ pub fn has_magic(bin: &[u8]) -> bool
     requires { number_size ≤ length bin.now }
     ensures { result ≡ begins_with_magic bin.now }
 {
-    numbers::be32(bin, Position(0)) == MAGIC
+    numbers::be::<4>(bin, Position(0)) == MAGIC
 }
 
 // Whether the stored checksum is that of the whole bin.
@@ -131,7 +131,7 @@ fn open_bin(file: &[u8], start: Position, end: Position) -> Place
     if !has_magic(&file[from..to]) {
         return Place::Refused(Refusal::Magic);
     }
-    if !checksum_holds(&file[from..to], numbers::be32(file, Position(to))) {
+    if !checksum_holds(&file[from..to], numbers::be::<4>(file, Position(to))) {
         return Place::Refused(Refusal::Checksum);
     }
     Place::At {

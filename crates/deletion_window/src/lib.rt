@@ -85,7 +85,7 @@ fn next_bitmap(bytes: &[u8], at: Position, least: u64) -> NextBitmap
     if bytes.len() - p < INDEX_SIZE {
         return NextBitmap::Unsound;
     }
-    let index = numbers::le32(bytes, Position(p));
+    let index = numbers::le::<4>(bytes, Position(p));
     if index < least {
         return NextBitmap::Unsound;
     }
@@ -117,7 +117,7 @@ fn mark_each(bytes: &[u8], first: Row, rows: u64, field: &mut [u8]) -> bool
     if bytes.len() < COUNT_SIZE {
         return false;
     }
-    let mut left = numbers::le64(bytes, Position(0));
+    let mut left = numbers::le::<8>(bytes, Position(0));
     let mut at: usize = COUNT_SIZE;
     let mut least: u64 = 0;
     while 0 < left {
@@ -181,7 +181,7 @@ fn kind_of(bin: &[u8]) -> Kind
     if deletion_file::has_magic(bin) {
         return Kind::Bits32;
     }
-    if numbers::le32(bin, Position(0)) == MAGIC_64 {
+    if numbers::le::<4>(bin, Position(0)) == MAGIC_64 {
         return Kind::Bits64;
     }
     Kind::Unknown
@@ -229,7 +229,7 @@ fn mark_held(
     if !known(kind) {
         return Deletions::Refused(Refusal::Magic);
     }
-    if !deletion_file::checksum_holds(&file[from..to], numbers::be32(file, Position(to))) {
+    if !deletion_file::checksum_holds(&file[from..to], numbers::be::<4>(file, Position(to))) {
         return Deletions::Refused(Refusal::Checksum);
     }
     mark_behind(kind, &file[behind..to], first, rows, field)

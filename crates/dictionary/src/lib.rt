@@ -158,7 +158,7 @@ pub fn count_at(body: &[u8], at: Position, most: u64) -> Count
     if body.len() - p < 4 {
         return Count::Refused(Refusal::Short);
     }
-    let n = numbers::be32(body, at);
+    let n = numbers::be::<4>(body, at);
     if numbers::SIGN_BIT <= n {
         return Count::Refused(Refusal::Dict);
     }
@@ -225,7 +225,7 @@ pub fn offset_at(body: &[u8], at: Position) -> i32
     requires { at.0 + 4 ≤ length body.now }
     ensures { OffsetAt body.now at.0 result }
 {
-    numbers::to_signed(numbers::be32(body, at) as u32)
+    numbers::to_signed(numbers::be::<4>(body, at) as u32)
 }
 
 // Null's entry, if there is one.
@@ -258,7 +258,7 @@ pub fn null_entry(body: &[u8], version2: bool, has: bool, at: Position) -> Null
     }
     Null::Numbers {
         offset: offset,
-        extent: numbers::be32(body, Position(e)),
+        extent: numbers::be::<4>(body, Position(e)),
         next: Position(e + 4),
     }
 }
@@ -494,7 +494,7 @@ fn one_block(
     ensures { BlockAt t before body.now base.0 listing.0 at.0 result }
 {
     let to = known_end(body, t, listing);
-    let offset = numbers::be32(body, to);
+    let offset = numbers::be::<4>(body, to);
     let p = at.0;
     if offset != (p - base.0) as u64 {
         return Block::Refused(Refusal::Dict);
@@ -502,7 +502,7 @@ fn one_block(
     if body.len() - p < 4 {
         return Block::Refused(Refusal::Short);
     }
-    let n = numbers::be32(body, at);
+    let n = numbers::be::<4>(body, at);
     if n < 1 {
         return Block::Refused(Refusal::Dict);
     }
@@ -601,7 +601,7 @@ fn entries_two(body: &[u8], t: u32, n: u64, at: Position) -> AllEntries
     if body.len() - e < 4 {
         return AllEntries::Refused(Refusal::Short);
     }
-    let offset = numbers::be32(body, to);
+    let offset = numbers::be::<4>(body, to);
     let base = e + 4;
     match all_blocks(body, t, b, directory, Position(base)) {
         Blocks::Refused(r) => {
@@ -697,7 +697,7 @@ fn extent_at(body: &[u8], version2: bool, end: Position) -> u64
     ensures { result ≡ stored_extent_at version2 end.0 body.now }
 {
     if version2 {
-        return numbers::be32(body, Position(end.0 + 4));
+        return numbers::be::<4>(body, Position(end.0 + 4));
     }
     numbers::MINUS_ONE
 }
@@ -766,7 +766,7 @@ pub fn next(body: &[u8], t: u32, version2: bool, cursor: Cursor) -> EntryAt
         }
         let opened = Cursor {
             at: Position(p + 4),
-            left: numbers::be32(body, at),
+            left: numbers::be::<4>(body, at),
         };
         return entry_at(body, t, version2, opened);
     }

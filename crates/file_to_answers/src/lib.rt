@@ -70,7 +70,7 @@ pub fn locate<'a>(
             &bytes[0..0]
         }
         Located::Refused(r) => {
-            *answer = refusal::number(r);
+            *answer = r.number();
             &bytes[0..0]
         }
     }

@@ -57,7 +57,7 @@ fn hash(v: &[u8]) -> usize
     let mut h: u64 = 0;
     let mut i = 0;
     while 4 <= v.len() - i {
-        h = mix(h, numbers::le32(v, Position(i)));
+        h = mix(h, numbers::le::<4>(v, Position(i)));
         i += 4;
     }
     (hash_bytes(v, Position(i), h) / LOW_BITS) as usize

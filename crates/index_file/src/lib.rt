@@ -108,7 +108,7 @@ fn name_at(s: &[u8], at: Position) -> Name
     if s.len() - p < 2 {
         return Name::Broken;
     }
-    let n = numbers::be16(s, Position(p)) as usize;
+    let n = numbers::be::<2>(s, Position(p)) as usize;
     let from = p + 2;
     if s.len() - from < n {
         return Name::Broken;
@@ -125,7 +125,7 @@ fn count_at(s: &[u8], at: Position) -> Count
     if s.len() - p < 4 {
         return Count::Broken;
     }
-    let v = numbers::be32(s, Position(p));
+    let v = numbers::be::<4>(s, Position(p));
     if numbers::SIGN_BIT <= v {
         return Count::Broken;
     }
@@ -150,8 +150,8 @@ fn entries_at(s: &[u8], at: Position, n: u64, kind: &[u8], size: usize) -> Walk
         if s.len() - e < 8 {
             return Walk::Broken;
         }
-        let start = numbers::be32(s, Position(e)) as usize;
-        let length = numbers::be32(s, Position(e + 4)) as usize;
+        let start = numbers::be::<4>(s, Position(e)) as usize;
+        let length = numbers::be::<4>(s, Position(e + 4)) as usize;
         let from = next.0 + 2;
         let stored = &s[from..e];
         let hit = if kind.len() == size {
@@ -267,8 +267,8 @@ fn read_file(bytes: &[u8], column: &[u8], kind: &[u8], sizes: Sizes) -> Located
     requires { (front_size ≤ length bytes.now) × HaveSizes sizes column.now kind.now }
     ensures { result ≡ located_by (file (matches column.now) (matches kind.now) bytes.now) }
 {
-    let magic = numbers::be64(bytes, Position(0));
-    let version = numbers::be32(bytes, Position(8));
+    let magic = numbers::be::<8>(bytes, Position(0));
+    let version = numbers::be::<4>(bytes, Position(8));
     if magic != MAGIC {
         return Located::Refused(Refusal::Magic);
     }

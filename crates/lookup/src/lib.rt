@@ -105,7 +105,7 @@ fn listing_at(body: &[u8], t: u32, at: Position) -> Listing
             }
             return Listing::Is {
                 end: end,
-                offset: numbers::be32(body, end),
+                offset: numbers::be::<4>(body, end),
             };
         }
     }
@@ -145,7 +145,7 @@ fn base_of(body: &[u8], t: u32, table: &[u32], fields: Fields) -> Base
             if body.len() - e < WORD {
                 return Base::Refused(Refusal::Short);
             }
-            let offset = numbers::be32(body, to);
+            let offset = numbers::be::<4>(body, to);
             let base = e + WORD;
             let room = (body.len() - base) as u64;
             if room < offset {
@@ -226,7 +226,7 @@ fn search_entries(body: &[u8], t: u32, literal: &[u8], n: u64, at: Position) -> 
                         return Search::Done(Found {
                             hit: true,
                             offset: dictionary::offset_at(body, end),
-                            extent: numbers::be32(body, Position(e + WORD)),
+                            extent: numbers::be::<4>(body, Position(e + WORD)),
                             compared: i,
                         });
                     }
@@ -257,7 +257,7 @@ fn search_block(body: &[u8], t: u32, literal: &[u8], at: Position) -> Search
     if body.len() - p < WORD {
         return Search::Refused(Refusal::Short);
     }
-    let n = numbers::be32(body, at);
+    let n = numbers::be::<4>(body, at);
     if n < 1 {
         return Search::Refused(Refusal::Dict);
     }

@@ -31,8 +31,8 @@ fn deletions_said(answer: Deletions, deleted: &mut u64, fault: &mut [u64; 3]) ->
     match answer {
         Deletions::Refused(r) => {
             *deleted = 0;
-            *fault = refusal::fault(r); // of a bin the container
-            refusal::number(r)
+            *fault = r.fault(); // of a bin the container
+            r.number()
         }
         Deletions::Deleted(n) => {
             *deleted = n;
@@ -85,7 +85,7 @@ pub fn poddurance_subtract(
         Subtracted::Refused(r) => {
             *left = 0;
             *removed = 0;
-            refusal::number(r)
+            r.number()
         }
         Subtracted::Done {
             left: l,
@@ -106,7 +106,7 @@ fn record_subtracted(answer: RecordSubtracted, said: &mut [u64; 4], removed: &mu
         RecordSubtracted::Refused(r) => {
             *said = subtract::NO_RECORD; // after a refusal nothing is claimed
             *removed = 0;
-            refusal::number(r)
+            r.number()
         }
         RecordSubtracted::Skip {
             record,
@@ -173,7 +173,7 @@ pub fn poddurance_locate<'a>(
         Located::Refused(r) => {
             *start = 0;
             *length = 0;
-            refusal::number(r)
+            r.number()
         }
     }
 }
@@ -191,8 +191,8 @@ pub fn poddurance_audit(
     match answer {
         Audited::Refused(r) => {
             *rows = 0;
-            *fault = refusal::fault(r);
-            refusal::number(r)
+            *fault = r.fault();
+            r.number()
         }
         Audited::Rows(n) => {
             *rows = n;
@@ -209,8 +209,8 @@ fn answered(answer: Answered, said: &mut [u64; 4], fault: &mut [u64; 3]) -> u8
     match answer {
         Answered::Refused(r) => {
             *said = subtract::NO_RECORD; // a refusal carries no record
-            *fault = refusal::fault(r);
-            refusal::number(r)
+            *fault = r.fault();
+            r.number()
         }
         Answered::Skip(record) => {
             *said = subtract::record_numbers(record);
@@ -263,8 +263,8 @@ pub fn poddurance_open(
         Opened::Refused(r) => {
             *rows = 0;
             *blocks = 0;
-            *fault = refusal::fault(r);
-            refusal::number(r)
+            *fault = r.fault();
+            r.number()
         }
         Opened::Accepted {
             rows: count,

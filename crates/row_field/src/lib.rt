@@ -222,7 +222,7 @@ fn count_words(field: &[u8], words: usize) -> u64
     let mut total: u64 = 0;
     let mut i = 0;
     while i < words {
-        let word = numbers::le64(field, Position(i * 8));
+        let word = numbers::le::<8>(field, Position(i * 8));
         total += u64::count_ones(word) as u64;
         i += 1;
     }

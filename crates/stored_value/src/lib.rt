@@ -90,14 +90,14 @@ pub fn size(s: &[u8], at: Position, t: u32, short: Refusal, broken: Refusal) -> 
             return Sized::Refused(short);
         }
         // In a string that is accepted the upper half is 0, so where the next value begins waits for the lower half alone.
-        let high = numbers::be16(s, at);
+        let high = numbers::be::<2>(s, at);
         if 0 < high {
             if HALF_SIGN <= high {
                 return Sized::Refused(broken);
             }
             return Sized::Refused(Refusal::Limit);
         }
-        let n = numbers::be16(s, Position(p + HALF_LENGTH));
+        let n = numbers::be::<2>(s, Position(p + HALF_LENGTH));
         if ((left - 4) as u64) < n {
             return Sized::Refused(short);
         }
@@ -121,7 +121,7 @@ pub fn known_size(s: &[u8], at: Position, t: u32) -> usize
 {
     let w = width_of(t);
     if w == 0 {
-        let n = numbers::be32(s, at);
+        let n = numbers::be::<4>(s, at);
         return 4 + n as usize;
     }
     w
@@ -160,13 +160,13 @@ fn spelled(s: &[u8], w: usize) -> u64
         return spelled_short(s, w);
     }
     if w == 8 {
-        return numbers::be64(s, Position(0));
+        return numbers::be::<8>(s, Position(0));
     }
     if w == 4 {
-        return numbers::be32(s, Position(0));
+        return numbers::be::<4>(s, Position(0));
     }
     if w == 2 {
-        return numbers::be16(s, Position(0));
+        return numbers::be::<2>(s, Position(0));
     }
     spelled_short(s, w)
 }

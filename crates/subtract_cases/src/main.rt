@@ -27,7 +27,7 @@ fn case(rt: &impl Print, name: &str, bytes: [u8; 4], second: [u8; 4], rows: u64)
     print!(rt; "{name}")?;
     match answer {
         Subtracted::Refused(r) => {
-            say(rt, ": refused ", wide(refusal::number(r)))?;
+            say(rt, ": refused ", wide(r.number()))?;
         }
         Subtracted::Done { left, removed } => {
             say(rt, ": left ", left)?;
@@ -49,7 +49,7 @@ fn say_counts(rt: &impl Print, record: Record, removed: u64) -> io::Result<()> {
 fn say_handed_back(rt: &impl Print, answer: RecordSubtracted, given: Record) -> io::Result<Record> {
     match answer {
         RecordSubtracted::Refused(r) => {
-            say(rt, ": refused ", wide(refusal::number(r)))?;
+            say(rt, ": refused ", wide(r.number()))?;
             Ok(given)
         }
         RecordSubtracted::Skip { record, removed } => {

@@ -8,4 +8,4 @@ use Rattle.deletion_file.proofs.has_magic.Goals as goal
 
 pub returns : goal.returns
 unfolding begins_with_magic
-returns c = ap (λ (m : ℕ). eqb m magic) c.be32.ensures.0
+returns c = ap (λ (m : ℕ). eqb m magic) c.be.ensures.value

@@ -15,17 +15,17 @@ returns-then-left-lt-NUMBER_SIZE c =
 pub returns-then-size-lt-NUMBER_SIZE : goal.returns-then-size-lt-NUMBER_SIZE
 returns-then-size-lt-NUMBER_SIZE c =
     let a = c.args in
-    next_small a.file.now a.at.0 (omega arith) (omega arith) c.be32-size.ensures.0 (omega arith)
+    next_small a.file.now a.at.0 (omega arith) (omega arith) c.be-size.ensures.value (omega arith)
 
 pub returns-then-left-size : goal.returns-then-left-size
 returns-then-left-size c =
     let a = c.args in
-    next_long a.file.now a.at.0 (omega arith) (omega arith) c.be32-size.ensures.0 (omega arith)
+    next_long a.file.now a.at.0 (omega arith) (omega arith) c.be-size.ensures.value (omega arith)
 
 pub returns : goal.returns
 returns c =
     let a = c.args in (
-      next_is a.file.now a.at.0 (omega arith) (omega arith) c.be32-size.ensures.0 (omega arith) (omega arith),
+      next_is a.file.now a.at.0 (omega arith) (omega arith) c.be-size.ensures.value (omega arith) (omega arith),
       refl,
       record { magic_fits = omega arith; sum_fits = omega arith },
     )

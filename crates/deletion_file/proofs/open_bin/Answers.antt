@@ -12,12 +12,12 @@ pub returns-then-not-checksum_holds : goal.returns-then-not-checksum_holds
 returns-then-not-checksum_holds c =
     let a = c.args in
     wrong-checksum a.file.now a.start.0 a.end.0 c.has_magic.ensures c.if-not-has_magic.false c.checksum_holds.ensures
-    c.be32.ensures.0 c.if-not-checksum_holds.true
+    c.be.ensures.value c.if-not-checksum_holds.true
 
 pub returns : goal.returns
 returns c =
     let a = c.args in (
       right-checksum a.file.now a.start.0 a.end.0 c.has_magic.ensures c.if-not-has_magic.false c.checksum_holds.ensures
-          c.be32.ensures.0 c.if-not-checksum_holds.false,
+          c.be.ensures.value c.if-not-checksum_holds.false,
       record { rising = omega arith; inside = omega arith },
     )

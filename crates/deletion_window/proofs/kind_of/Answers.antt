@@ -5,10 +5,10 @@ use Rattle.deletion_window.proofs.kind_of.Goals as goal
 pub returns-then-has_magic : goal.returns-then-has_magic
 returns-then-has_magic c = kind_32 _ c.has_magic.ensures c.if-has_magic.true
 
-pub returns-then-le32-eq-MAGIC_64 : goal.returns-then-le32-eq-MAGIC_64
-returns-then-le32-eq-MAGIC_64 c =
-    kind_64 _ c.has_magic.ensures c.if-has_magic.false c.le32.ensures.0 c.if-le32-eq-MAGIC_64.true
+pub returns-then-le-eq-MAGIC_64 : goal.returns-then-le-eq-MAGIC_64
+returns-then-le-eq-MAGIC_64 c =
+    kind_64 _ c.has_magic.ensures c.if-has_magic.false c.le.ensures.value c.if-le-eq-MAGIC_64.true
 
 pub returns : goal.returns
 returns c =
-    kind_none _ c.has_magic.ensures c.if-has_magic.false c.le32.ensures.0 c.if-le32-eq-MAGIC_64.false
+    kind_none _ c.has_magic.ensures c.if-has_magic.false c.le.ensures.value c.if-le-eq-MAGIC_64.false

@@ -14,7 +14,7 @@ returns-then-bytes-lt-COUNT_SIZE c =
 pub loop-left-init : goal.loop-left-init
 loop-left-init c =
     let a = c.args in
-    (omega arith, refl, each_first a.first.0 a.rows a.bytes.now a.field.now (omega arith) c.le64-left.ensures)
+    (omega arith, refl, each_first a.first.0 a.rows a.bytes.now a.field.now (omega arith) c.le-left.ensures.value)
 
 pub returns-in-Unsound : goal.returns-in-Unsound
 returns-in-Unsound c =

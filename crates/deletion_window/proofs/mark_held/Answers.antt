@@ -13,11 +13,11 @@ returns-then-not-checksum_holds c =
     let a = c.args in
     let is = sym c.known.ensures ∙ c.if-not-known.false in
     marks_refused _ _ _ (sum_wrong a.file.now a.start.0 a.end.0 c.kind_of-kind.ensures is c.checksum_holds.ensures
-    c.be32.ensures.0 c.if-not-checksum_holds.true)
+    c.be.ensures.value c.if-not-checksum_holds.true)
 
 pub returns : goal.returns
 returns c =
     let a = c.args in
     let is = sym c.known.ensures ∙ c.if-not-known.false in
     marks_same _ _ _ _ (sum_right a.file.now a.start.0 a.end.0 c.kind_of-kind.ensures is c.checksum_holds.ensures
-    c.be32.ensures.0 c.if-not-checksum_holds.false) c.mark_behind.ensures
+    c.be.ensures.value c.if-not-checksum_holds.false) c.mark_behind.ensures

@@ -14,21 +14,21 @@ returns-then-bytes-p-lt-INDEX_SIZE c =
 pub returns-then-index-least : goal.returns-then-index-least
 returns-then-index-least c =
     let a = c.args in
-    next_low a.least a.bytes.now a.at.0 (omega arith) c.le32-index.ensures.0 c.if-index-least.true
+    next_low a.least a.bytes.now a.at.0 (omega arith) c.le-index.ensures.value c.if-index-least.true
 
 pub returns-then-index-ge-INDEX_END : goal.returns-then-index-ge-INDEX_END
 returns-then-index-ge-INDEX_END c =
     let a = c.args in
-    next-high a.least a.bytes.now a.at.0 (omega arith) c.le32-index.ensures.0 c.if-index-least.false c.if-index-ge-INDEX_END.true
+    next-high a.least a.bytes.now a.at.0 (omega arith) c.le-index.ensures.value c.if-index-least.false c.if-index-ge-INDEX_END.true
 
 -- the bitmap that was measured
 found : (c : In-Sound)
     → let a = c.args in
-    FoundBitmap a.least a.at.0 a.bytes.now c.le32-index.result (a.at.0 + 4)
+    FoundBitmap a.least a.at.0 a.bytes.now c.le-index.result (a.at.0 + 4)
     (a.at.0 + 4 + c.in-Sound.length)
 found c =
     let a = c.args in
-    next-found a.least a.bytes.now a.at.0 (omega arith) c.le32-index.ensures.0 c.if-index-least.false
+    next-found a.least a.bytes.now a.at.0 (omega arith) c.le-index.ensures.value c.if-index-least.false
     c.if-index-ge-INDEX_END.false (rw (to_end (a.at.0 + 4) a.bytes.now) at c.measure-measured.ensures) c.in-Sound.is (λ i. (c.type_inv.bytes i).fits)
 
 pub overflow_add-result : goal.overflow_add-result
@@ -37,7 +37,7 @@ overflow_add-result c = let w = found c in record { fits = omega arith }
 pub returns-in-Unsound : goal.returns-in-Unsound
 returns-in-Unsound c =
     let a = c.args in
-    next-unsound a.least a.bytes.now a.at.0 (omega arith) c.le32-index.ensures.0 c.if-index-least.false
+    next-unsound a.least a.bytes.now a.at.0 (omega arith) c.le-index.ensures.value c.if-index-least.false
     c.if-index-ge-INDEX_END.false (rw (to_end (a.at.0 + 4) a.bytes.now) at c.measure-measured.ensures) c.in-Unsound.is
 
 pub returns-in-Sound : goal.returns-in-Sound

@@ -7,10 +7,10 @@ pub returns-then-body-p-lt4 : goal.returns-then-body-p-lt4
 returns-then-body-p-lt4 c = let a = c.args in count-short _ a.body.now a.at.0 (omega arith)
 
 pub returns-then-n-ge-SIGN_BIT : goal.returns-then-n-ge-SIGN_BIT
-returns-then-n-ge-SIGN_BIT c = let a = c.args in count_negative _ a.body.now a.at.0 (omega arith) c.be32-n.ensures.0 c.if-n-ge-SIGN_BIT.true
+returns-then-n-ge-SIGN_BIT c = let a = c.args in count_negative _ a.body.now a.at.0 (omega arith) c.be-n.ensures.value c.if-n-ge-SIGN_BIT.true
 
 pub returns-then-most-n : goal.returns-then-most-n
-returns-then-most-n c = let a = c.args in count-over _ a.body.now a.at.0 (omega arith) c.be32-n.ensures.0 c.if-n-ge-SIGN_BIT.false c.if-most-n.true
+returns-then-most-n c = let a = c.args in count-over _ a.body.now a.at.0 (omega arith) c.be-n.ensures.value c.if-n-ge-SIGN_BIT.false c.if-most-n.true
 
 pub returns : goal.returns
-returns c = let a = c.args in (count_is _ a.body.now a.at.0 (omega arith) c.be32-n.ensures.0 c.if-n-ge-SIGN_BIT.false c.if-most-n.false, omega arith, c.if-most-n.false)
+returns c = let a = c.args in (count_is _ a.body.now a.at.0 (omega arith) c.be-n.ensures.value c.if-n-ge-SIGN_BIT.false c.if-most-n.false, omega arith, c.if-most-n.false)

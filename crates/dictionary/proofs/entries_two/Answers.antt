@@ -50,7 +50,7 @@ pub returns-in-Refused-all_blocks : goal.returns-in-Refused-all_blocks
 returns-in-Refused-all_blocks c =
     let a = c.args in
     let l = (listed (goal.at.returns-in-Refused-all_blocks c).In-Ends).3 in
-    two-broken a.t a.n a.body.now a.at.0 (blocks (goal.at.returns-in-Refused-all_blocks c).In-Is) c.blocks_fit.ensures c.if-not-blocks_fit.false (listed (goal.at.returns-in-Refused-all_blocks c).In-Ends) (omega arith) c.be32-offset.ensures.0
+    two-broken a.t a.n a.body.now a.at.0 (blocks (goal.at.returns-in-Refused-all_blocks c).In-Is) c.blocks_fit.ensures c.if-not-blocks_fit.false (listed (goal.at.returns-in-Refused-all_blocks c).In-Ends) (omega arith) c.be-offset.ensures.value
     (rw c.in-Refused-all_blocks.is at c.all_blocks.ensures)
 
 pub overflow_sub-next : goal.overflow_sub-next
@@ -60,19 +60,19 @@ pub returns-then-offset-next : goal.returns-then-offset-next
 returns-then-offset-next c =
     let a = c.args in
     let l = (listed (goal.at.returns-then-offset-next c).In-Ends).3 in
-    two-offset a.t a.n a.body.now a.at.0 (blocks (goal.at.returns-then-offset-next c).In-Is) c.blocks_fit.ensures c.if-not-blocks_fit.false (listed (goal.at.returns-then-offset-next c).In-Ends) (omega arith) c.be32-offset.ensures.0
+    two-offset a.t a.n a.body.now a.at.0 (blocks (goal.at.returns-then-offset-next c).In-Is) c.blocks_fit.ensures c.if-not-blocks_fit.false (listed (goal.at.returns-then-offset-next c).In-Ends) (omega arith) c.be-offset.ensures.value
     (rw c.in-End.is at c.all_blocks.ensures) c.if-offset-next.true
 
 pub returns-then-sum-n : goal.returns-then-sum-n
 returns-then-sum-n c =
     let a = c.args in
     let l = (listed (goal.at.returns-then-sum-n c).In-Ends).3 in
-    two_sum a.t a.n a.body.now a.at.0 (blocks (goal.at.returns-then-sum-n c).In-Is) c.blocks_fit.ensures c.if-not-blocks_fit.false (listed (goal.at.returns-then-sum-n c).In-Ends) (omega arith) c.be32-offset.ensures.0
+    two_sum a.t a.n a.body.now a.at.0 (blocks (goal.at.returns-then-sum-n c).In-Is) c.blocks_fit.ensures c.if-not-blocks_fit.false (listed (goal.at.returns-then-sum-n c).In-Ends) (omega arith) c.be-offset.ensures.value
     (rw c.in-End.is at c.all_blocks.ensures) c.if-offset-next.false c.if-sum-n.true
 
 pub returns-in-End : goal.returns-in-End
 returns-in-End c =
     let a = c.args in
     let l = (listed (goal.at.returns-in-End c).In-Ends).3 in
-    two_ends a.t a.n a.body.now a.at.0 (blocks (goal.at.returns-in-End c).In-Is) c.blocks_fit.ensures c.if-not-blocks_fit.false (listed (goal.at.returns-in-End c).In-Ends) (omega arith) c.be32-offset.ensures.0
+    two_ends a.t a.n a.body.now a.at.0 (blocks (goal.at.returns-in-End c).In-Is) c.blocks_fit.ensures c.if-not-blocks_fit.false (listed (goal.at.returns-in-End c).In-Ends) (omega arith) c.be-offset.ensures.value
     (rw c.in-End.is at c.all_blocks.ensures) c.if-offset-next.false c.if-sum-n.false

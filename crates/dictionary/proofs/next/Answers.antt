@@ -21,7 +21,7 @@ pub returns-then-cursor-eq0 : goal.returns-then-cursor-eq0
 returns-then-cursor-eq0 c =
     let a = c.args in
     is_next a.t a.version2 a.body.now a.cursor (λ i. (c.type_inv.body i).fits)
-    (c.entry_at.ensures ∙ next-opened a.t a.version2 a.body.now a.cursor c.if-cursor-eq0.true (omega arith) c.be32.ensures.0)
+    (c.entry_at.ensures ∙ next-opened a.t a.version2 a.body.now a.cursor c.if-cursor-eq0.true (omega arith) c.be.ensures.value)
 
 pub returns : goal.returns
 returns c =

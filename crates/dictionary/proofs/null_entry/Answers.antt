@@ -32,4 +32,4 @@ returns c =
     let a = c.args in
     let has = c.if-not-has.false in
     let o = c.offset_at-offset.ensures in
-    (null-two a.body.now a.at.0 a.version2 has (omega arith) o.0 o.1 c.if-not-version2.false (omega arith) c.be32.ensures.0, omega arith, has_one has)
+    (null-two a.body.now a.at.0 a.version2 has (omega arith) o.0 o.1 c.if-not-version2.false (omega arith) c.be.ensures.value, omega arith, has_one has)

@@ -11,8 +11,8 @@ use Rattle.dictionary.proofs.one_block.Goals.{After-struct_known-1}
 pub known_end-to-requires : goal.known_end-to-requires
 known_end-to-requires c = (c.requires.3.0, c.requires.3.1)
 
-pub be32-offset-requires : goal.be32-offset-requires
-be32-offset-requires c = listed_end c.args.t c.args.body.now c.args.listing.0 c.known_end-to.result.0 c.known_end-to.ensures c.requires.3
+pub be-offset-requires-there : goal.be-offset-requires-there
+be-offset-requires-there c = listed_end c.args.t c.args.body.now c.args.listing.0 c.known_end-to.result.0 c.known_end-to.ensures c.requires.3
 
 -- the block's listing
 here : (c : After-struct_known-1) (d : Listing) (ds : List Listing) → let a = c.args in ListingsFrom a.t (drop a.listing.0 a.body.now) (d ∷ ds)
@@ -20,18 +20,18 @@ here : (c : After-struct_known-1) (d : Listing) (ds : List Listing) → let a = 
 here c d ds l = let pre = c.requires in record { from = pre.0; to = pre.1; value = c.known_end-to.ensures; listed = l }
 
 pub returns-then-offset-p : goal.returns-then-offset-p
-returns-then-offset-p c = λ d ds l es f. block_misplaced (here (goal.at.returns-then-offset-p c).After-struct_known-1 d ds l) es f c.be32-offset.ensures.0 c.if-offset-p.true
+returns-then-offset-p c = λ d ds l es f. block_misplaced (here (goal.at.returns-then-offset-p c).After-struct_known-1 d ds l) es f c.be-offset.ensures.value c.if-offset-p.true
 
 pub returns-then-body-p-lt4 : goal.returns-then-body-p-lt4
-returns-then-body-p-lt4 c = λ d ds l es f. block-short (here (goal.at.returns-then-body-p-lt4 c).After-struct_known-1 d ds l) es f c.be32-offset.ensures.0 c.if-offset-p.false c.if-body-p-lt4.true
+returns-then-body-p-lt4 c = λ d ds l es f. block-short (here (goal.at.returns-then-body-p-lt4 c).After-struct_known-1 d ds l) es f c.be-offset.ensures.value c.if-offset-p.false c.if-body-p-lt4.true
 
 pub returns-then-n-lt1 : goal.returns-then-n-lt1
 returns-then-n-lt1 c = λ d ds l es f.
-    block_none (here (goal.at.returns-then-n-lt1 c).After-struct_known-1 d ds l) es f c.be32-offset.ensures.0 c.if-offset-p.false (omega arith) c.be32-n.ensures.0 c.if-n-lt1.true
+    block_none (here (goal.at.returns-then-n-lt1 c).After-struct_known-1 d ds l) es f c.be-offset.ensures.value c.if-offset-p.false (omega arith) c.be-n.ensures.value c.if-n-lt1.true
 
 pub returns-then-n-ge-SIGN_BIT : goal.returns-then-n-ge-SIGN_BIT
 returns-then-n-ge-SIGN_BIT c = λ d ds l es f.
-    block_negative (here (goal.at.returns-then-n-ge-SIGN_BIT c).After-struct_known-1 d ds l) es f c.be32-offset.ensures.0 c.if-offset-p.false (omega arith) c.be32-n.ensures.0 c.if-n-lt1.false c.if-n-ge-SIGN_BIT.true
+    block_negative (here (goal.at.returns-then-n-ge-SIGN_BIT c).After-struct_known-1 d ds l) es f c.be-offset.ensures.value c.if-offset-p.false (omega arith) c.be-n.ensures.value c.if-n-lt1.false c.if-n-ge-SIGN_BIT.true
 
 pub block_entries-requires : goal.block_entries-requires
 block_entries-requires c =
@@ -39,7 +39,7 @@ block_entries-requires c =
 
 pub returns-in-Refused : goal.returns-in-Refused
 returns-in-Refused c = λ d ds l es f.
-    block_refused (here (goal.at.returns-in-Refused c).After-struct_known-1 d ds l) es f c.be32-offset.ensures.0 c.if-offset-p.false (omega arith) c.be32-n.ensures.0 c.if-n-lt1.false c.if-n-ge-SIGN_BIT.false
+    block_refused (here (goal.at.returns-in-Refused c).After-struct_known-1 d ds l) es f c.be-offset.ensures.value c.if-offset-p.false (omega arith) c.be-n.ensures.value c.if-n-lt1.false c.if-n-ge-SIGN_BIT.false
     (rw c.in-Refused.is at c.block_entries.ensures)
 
 pub overflow_add-result : goal.overflow_add-result
@@ -55,9 +55,9 @@ returns-in-To c =
         block_listed (here (goal.at.returns-in-To c).After-struct_known-1 d ds l),
         (
           b.0.0,
-          λ es f. block_passed (here (goal.at.returns-in-To c).After-struct_known-1 d ds l) es f c.be32-offset.ensures.0 c.if-offset-p.false (omega arith) c.be32-n.ensures.0 c.if-n-lt1.false c.if-n-ge-SIGN_BIT.false c.in-To.last b,
+          λ es f. block_passed (here (goal.at.returns-in-To c).After-struct_known-1 d ds l) es f c.be-offset.ensures.value c.if-offset-p.false (omega arith) c.be-n.ensures.value c.if-n-lt1.false c.if-n-ge-SIGN_BIT.false c.in-To.last b,
           b.0.2,
-          λ more g. block_stand a.t a.body.now a.at.0 (b.0.0 ++ more) (omega arith) c.be32-n.ensures.0 c.if-n-lt1.false
+          λ more g. block_stand a.t a.body.now a.at.0 (b.0.0 ++ more) (omega arith) c.be-n.ensures.value c.if-n-lt1.false
               (simp length-append (omega (arith, b.0.2))) (b.0.3 more g),
         ),
       ),

@@ -16,7 +16,7 @@ pub loop-i-preserved : goal.loop-i-preserved
 loop-i-preserved c =
     let l = c.loop-i in
     let v = c.args.v.now in
-    (rw (c.mix-h.ensures.0, c.le32.ensures.0) (words-next v l.h l.i (omega arith) ∙ l.invariant.0), c.mix-h.ensures.1, omega arith)
+    (rw (c.mix-h.ensures.0, c.le.ensures.value) (words-next v l.h l.i (omega arith) ∙ l.invariant.0), c.mix-h.ensures.1, omega arith)
 
 pub returns : goal.returns
 unfolding hash_of

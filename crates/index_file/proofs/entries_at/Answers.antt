@@ -55,7 +55,7 @@ loop-i-preserved c =
     let l = c.loop-i in (
       omega (arith, (ends (goal.at.loop-i-preserved c).In-Ends).1),
       entries_next l.invariant.1 c.loop-i-test.true c.name_at-name.ensures c.in-Ends.is (omega (arith, (ends (goal.at.loop-i-preserved c).In-Ends).1))
-          c.be32-start.ensures.0 c.be32-length.ensures.0 (hits (goal.at.loop-i-preserved c).Joined-kind-size) c.after_entry-place.ensures,
+          c.be-start.ensures.value c.be-length.ensures.value (hits (goal.at.loop-i-preserved c).Joined-kind-size) c.after_entry-place.ensures,
     )
 
 pub returns : goal.returns

@@ -20,11 +20,11 @@ returns-then-body-e-lt-WORD c =
 pub returns-then-room-offset : goal.returns-then-room-offset
 returns-then-room-offset c =
     let a = c.args in
-    base-past a.t a.table.now a.body.now a.fields c.directory_end.ensures c.in-At.is (omega (arith, overflow_sub-body (goal.at.returns-then-room-offset c).In-At)) c.be32-offset.ensures.0
+    base-past a.t a.table.now a.body.now a.fields c.directory_end.ensures c.in-At.is (omega (arith, overflow_sub-body (goal.at.returns-then-room-offset c).In-At)) c.be-offset.ensures.value
     c.if-room-offset.true
 
 pub returns-in-At : goal.returns-in-At
 returns-in-At c =
     let a = c.args in
-    base_at a.t a.table.now a.body.now a.fields c.directory_end.ensures c.in-At.is (omega (arith, overflow_sub-body (goal.at.returns-in-At c).In-At)) c.be32-offset.ensures.0
+    base_at a.t a.table.now a.body.now a.fields c.directory_end.ensures c.in-At.is (omega (arith, overflow_sub-body (goal.at.returns-in-At c).In-At)) c.be-offset.ensures.value
     c.if-room-offset.false

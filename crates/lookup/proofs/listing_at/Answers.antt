@@ -26,4 +26,4 @@ pub returns-in-To : goal.returns-in-To
 returns-in-To c =
     let a = c.args in
     let w = found (goal.at.returns-in-To c).In-To in
-    listing_is a.t a.body.now a.at.0 c.in-To.end.0 w (omega (arith, w.2)) c.be32.ensures.0 c.be32.ensures.1
+    listing_is a.t a.body.now a.at.0 c.in-To.end.0 w (omega (arith, w.2)) c.be.ensures.value c.be.ensures.below

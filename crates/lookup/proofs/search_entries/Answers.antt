@@ -59,13 +59,13 @@ offset_at-requires c = omega (arith, inside (goal.at.offset_at-requires c).Else-
 pub overflow_add-e : goal.overflow_add-e
 overflow_add-e c = omega (arith, inside (goal.at.overflow_add-e c).Else-body-e-lt-TWO_WORDS)
 
-pub be32-requires : goal.be32-requires
-be32-requires c = omega (arith, inside (goal.at.be32-requires c).Else-body-e-lt-TWO_WORDS)
+pub be-requires-there : goal.be-requires-there
+be-requires-there c = omega (arith, inside (goal.at.be-requires-there c).Else-body-e-lt-TWO_WORDS)
 
 pub returns-then-same : goal.returns-then-same
 returns-then-same c =
     searching_hit c.loop-i.invariant c.loop-i-test.true c.in-To.end.0 (found (goal.at.returns-then-same c).In-To) (inside (goal.at.returns-then-same c).Else-body-e-lt-TWO_WORDS)
-    (sym c.same.ensures ∙ c.if-same.true) c.offset_at.ensures c.be32.ensures.0
+    (sym c.same.ensures ∙ c.if-same.true) c.offset_at.ensures c.be.ensures.value
 
 pub returns : goal.returns
 returns c = searching_done c.loop-i.invariant c.loop-i-test.false

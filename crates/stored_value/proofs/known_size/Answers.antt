@@ -4,8 +4,8 @@ use native.Mathlib.Omega.{arith}
 use Rattle.stored_value.proofs.Steps.{known-number, known-length, known-string}
 use Rattle.stored_value.proofs.known_size.Goals as goal
 
-pub be32-n-requires : goal.be32-n-requires
-be32-n-requires c =
+pub be-n-requires-there : goal.be-n-requires-there
+be-n-requires-there c =
     let a = c.args in
     let (short, broken, k, e) = c.requires in
     known-length short broken a.t a.s.now a.at.0 k e (sym c.width_of-w.ensures.0 ∙ c.if-w-eq0.true)
@@ -13,7 +13,7 @@ be32-n-requires c =
 pub returns-then-w-eq0 : goal.returns-then-w-eq0
 returns-then-w-eq0 c =
     let a = c.args in
-    λ short broken k e. rw c.be32-n.ensures.0 (known-string short broken a.t a.s.now a.at.0 k e (sym c.width_of-w.ensures.0 ∙ c.if-w-eq0.true))
+    λ short broken k e. rw c.be-n.ensures.value (known-string short broken a.t a.s.now a.at.0 k e (sym c.width_of-w.ensures.0 ∙ c.if-w-eq0.true))
 
 pub returns : goal.returns
 returns c =
