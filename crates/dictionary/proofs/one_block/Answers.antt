@@ -11,8 +11,8 @@ use Rattle.dictionary.proofs.one_block.Goals.{After-struct_known-1}
 pub known_end-to-requires : goal.known_end-to-requires
 known_end-to-requires c = (c.requires.3.0, c.requires.3.1)
 
-pub be-offset-requires-there : goal.be-offset-requires-there
-be-offset-requires-there c = listed_end c.args.t c.args.body.now c.args.listing.0 c.known_end-to.result.0 c.known_end-to.ensures c.requires.3
+pub be-offset-requires-clause-there : goal.be-offset-requires-clause-there
+be-offset-requires-clause-there c = listed_end c.args.t c.args.body.now c.args.listing.0 c.known_end-to.result.0 c.known_end-to.ensures c.requires.3
 
 -- the block's listing
 here : (c : After-struct_known-1) (d : Listing) (ds : List Listing) → let a = c.args in ListingsFrom a.t (drop a.listing.0 a.body.now) (d ∷ ds)

@@ -59,8 +59,8 @@ offset_at-requires c = omega (arith, inside (goal.at.offset_at-requires c).Else-
 pub overflow_add-e : goal.overflow_add-e
 overflow_add-e c = omega (arith, inside (goal.at.overflow_add-e c).Else-body-e-lt-TWO_WORDS)
 
-pub be-requires-there : goal.be-requires-there
-be-requires-there c = omega (arith, inside (goal.at.be-requires-there c).Else-body-e-lt-TWO_WORDS)
+pub be-requires-clause-there : goal.be-requires-clause-there
+be-requires-clause-there c = omega (arith, inside (goal.at.be-requires-clause-there c).Else-body-e-lt-TWO_WORDS)
 
 pub returns-then-same : goal.returns-then-same
 returns-then-same c =

@@ -4,8 +4,8 @@ use native.Mathlib.Omega.{arith}
 use Rattle.stored_value.proofs.Steps.{known-number, known-length, known-string}
 use Rattle.stored_value.proofs.known_size.Goals as goal
 
-pub be-n-requires-there : goal.be-n-requires-there
-be-n-requires-there c =
+pub be-n-requires-clause-there : goal.be-n-requires-clause-there
+be-n-requires-clause-there c =
     let a = c.args in
     let (short, broken, k, e) = c.requires in
     known-length short broken a.t a.s.now a.at.0 k e (sym c.width_of-w.ensures.0 ∙ c.if-w-eq0.true)
