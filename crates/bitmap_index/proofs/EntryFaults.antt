@@ -22,8 +22,7 @@ use Rattle.row_field.proofs.Laws.{tick}
 use Rattle.row_field.proofs.Counts.{tick-le}
 use Rattle.row_field.proofs.Marks.{member, length-mark_all, bit-mark_all, mark_all-append}
 use Rattle.roaring.specs.Faults.{Broken}
-use Rattle.roaring.specs.declared.Measured.TheVariants.{Unsound}
-use Rattle.roaring.specs.Reading.{Fault, unsound, Parsed, measured, end_of, measured_by}
+use Rattle.roaring.specs.Reading.{Fault, unsound, Parsed, measured, end_of, measured_by, broken_at}
 use Rattle.roaring.proofs.RowsRising.{bitmap_rising}
 use Rattle.roaring.proofs.Theorems.{names_the_broken}
 use Rattle.roaring.proofs.Measuring.{not_sound, end_below, below_end}
@@ -121,7 +120,7 @@ entry_rising : (region rows : List ℕ) (e : Entry) → EntryRows region rows e 
 entry_rising region rows e (single r q h o x) = rw q (omega arith, omega arith, tt)
 entry_rising region rows e (bitmap before bytes behind q m o x) = bitmap_rising m
 
-is_named : (m : Result Parsed Fault) (i : ℕ) → m ≡ Err (unsound i) → measured_by m ≡ Unsound i
+is_named : (m : Result Parsed Fault) (i : ℕ) → m ≡ Err (unsound i) → measured_by m ≡ Err (broken_at i)
 unfolding measured_by
 is_named m i e = rw e
 

@@ -1,21 +1,21 @@
 -- How many rows null has: those that stand in the field once its entry was placed there are those of IS NULL.
 use Prim.Native.Nat.{ℕ, ◌-◌, ◌+◌}
 use mathlib.Core.Path.{◌≡◌, refl, ap, ◌∙◌}
-use mathlib.Core.Bool.{Bool, true, false}
+use mathlib.Core.Bool.{Bool}
 use mathlib.Core.List.{List, [], ◌∷◌, ◌++◌, append-nil}
 use native.Mathlib.Omega.{arith}
 use lib.ListN.{drop}
 use Rattle.numbers.specs.Meaning.{Bytes, signed32}
 use Rattle.numbers.proofs.ByteLists.{bytes_drop}
-use Rattle.std.specs.Prelude.{Ok}
+use Rattle.std.specs.Prelude.{Ok, Option, Some, None}
+use Rattle.dictionary.specs.declared.NullEntry.{NullEntry}
 use Rattle.refusal.proofs.Laws.{then_ok}
 use Rattle.row_field.specs.Meaning.{count}
 use Rattle.dictionary.specs.declared.Summary.{Summary}
 use Rattle.dictionary.specs.Layout.{Entry}
-use Rattle.dictionary.specs.Promises.{opening, left_in, tail, EntriesFrom, nulls, nulls_of, dictionary_of, Summarizes}
+use Rattle.dictionary.specs.Promises.{is_two, opening, left_in, tail, EntriesFrom, nulls, nulls_of, dictionary_of, Summarizes}
 use Rattle.bitmap_index.specs.Meaning.{chosen, null_question}
 use Rattle.bitmap_index.specs.Reading.{entry_number, next_number, place_entry, place_entries, chosen_of, rows_at, mark_entries, marked_for, matched_for}
-use Rattle.bitmap_index.specs.declared.Placing.TheVariants.{Placed}
 use Rattle.bitmap_index.specs.Promises.{PlacesNull}
 use Rattle.bitmap_index.proofs.PlacedRows.{placed_at}
 use Rattle.bitmap_index.proofs.Marking.{chosen-append}
@@ -34,11 +34,11 @@ module _ (n : ℕ) (region : List ℕ) (b : Bytes region) where
 -- IS NULL chooses null's entry, if there is one, and no value's
 null-chosen : (h : Summary) → chosen_of null_question [] (nulls_of h) ≡ nulls_of h
 unfolding chosen_of chosen
-null-chosen h = go h.has_null
+null-chosen h = go h.null
   where
-    go : (has : Bool) → chosen_of null_question [] (nulls has h.null_offset h.null_extent) ≡ nulls has h.null_offset h.null_extent
-    go true = refl
-    go false = refl
+    go : (entry : Option NullEntry) → chosen_of null_question [] (nulls entry) ≡ nulls entry
+    go (Some n) = refl
+    go None = refl
 
 no_value_chosen : (t : ℕ) (version2 : Bool) (left : ℕ) (s : List ℕ) (es : List Entry) → EntriesFrom t version2 left s es → chosen_of null_question [] es ≡ []
 unfolding EntriesFrom chosen_of chosen
@@ -50,10 +50,10 @@ no_value_chosen t version2 left s (e ∷ es) w =
 chosen-nulls : (t : ℕ) (s : List ℕ) (h : Summary) (es : List Entry) → Summarizes t s h es → chosen_of null_question [] (nulls_of h ++ es) ≡ nulls_of h
 chosen-nulls t s h es w =
     chosen-append null_question [] (nulls_of h) es
-    ∙ rw (null-chosen h, no_value_chosen t h.version2 h.first.left (drop h.first.at.0 s) es w.stand) (append-nil (nulls_of h))
+    ∙ rw (null-chosen h, no_value_chosen t (is_two h.version) h.first.left (drop h.first.at.0 s) es w.stand) (append-nil (nulls_of h))
 
 pub nulls_counted : (t : ℕ) (s : List ℕ) (h : Summary) (es : List Entry) → Bytes s → Summarizes t s h es → (f : List ℕ) → count f h.rows ≡ 0 → {mid : List ℕ} {k : ℕ}
-    → PlacesNull s h f mid (Placed k) → k ≡ matched_for null_question [] (dictionary_of s h es) f
+    → PlacesNull s h f mid (Ok k) → k ≡ matched_for null_question [] (dictionary_of s h es) f
 unfolding matched_for marked_for
 nulls_counted t s h es b w f z {mid} {k} p =
     let region : List ℕ = drop h.region.0 s in

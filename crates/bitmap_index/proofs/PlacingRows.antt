@@ -5,15 +5,15 @@ use mathlib.Core.Bool.{Bool, true, false}
 use mathlib.Core.List.{List, []}
 use native.Mathlib.Omega.{arith}
 use lib.Dec.{leb}
-use lib.IntN.{ℤ, pos, negsuc, ◌-ℤ◌, nat_abs}
+use lib.IntN.{ℤ, pos, negsuc}
 use lib.ListN.{length, take, drop, length-drop, drop_of_length-le}
 use lib.Seq.{take_all, take-nil}
-use lib.Signed.{lt_z}
 use mir.Syntax.{w32}
 use mir.Val.{SFits, to_z, of_z}
 use borrow.Author.Tests.{lt-ltb, le-ltb, le-leb, lt-leb, eq-eqb, ne_eqb}
 use Rattle.numbers.specs.Meaning.{Bytes, number, minus_one_32}
 use Rattle.numbers.proofs.ByteLists.{bytes_drop}
+use Rattle.refusal.specs.declared.Refusal.{Refusal}
 use Rattle.refusal.specs.declared.Refusal.TheVariants.{Bitmap, Range, Twice}
 use Rattle.std.specs.Prelude.{Result, Err, Ok}
 use Rattle.refusal.specs.Reading.{check, and_then, refused_as}
@@ -24,30 +24,33 @@ use Rattle.row_field.proofs.Counts.{count-mark}
 use Rattle.row_field.proofs.Fronts.{cleared-mark, cleared_marks}
 use Rattle.roaring.specs.declared.Extent.{Extent}
 use Rattle.roaring.specs.declared.Extent.TheVariants.{AsLong, Exactly}
-use Rattle.roaring.specs.declared.Measured.{Measured}
+use Rattle.roaring.specs.declared.Broken.{Broken}
+use Rattle.roaring.specs.declared.Shape.{Shape}
 use Rattle.roaring.specs.Reading.{Fault, unsound, Parsed, read, measured, end_of, rows_read}
 use Rattle.roaring.specs.Promises.{MeasurePromise, SoundBelow}
 use Rattle.roaring.proofs.Measuring.{not_sound, is_sound, rows-measured, measured-sound}
 use Rattle.bitmap_index.specs.Reading.{extent_said, bitmap_placed, entry_placed}
-use Rattle.bitmap_index.specs.declared.Placing.{Placing}
-use Rattle.bitmap_index.specs.declared.Placing.TheVariants.{Placed}
-use Rattle.bitmap_index.specs.Promises.{Places}
-use Rattle.bitmap_index.proofs.Offsets.{of, row_is, at, place_is}
+use Rattle.bitmap_index.specs.Promises.{Places, place_of}
+use Rattle.numbers.specs.declared.Position.{Position}
+use Rattle.numbers.specs.declared.Row.{Row}
+use Rattle.bitmap_index.specs.declared.Place.{Place}
+use Rattle.bitmap_index.specs.declared.Place.TheVariants.{Single}
+use Rattle.bitmap_index.proofs.Offsets.{is_single, is_bitmap}
 use Rattle.bitmap_index.proofs.PlacedRows.{count_besides, measured_rise}
 
 -- ---- a single row
 
 module _ (entry r n : ℕ) (f : List ℕ) where
-  pub row_range : n ≤ r → Places n (entry_placed entry (negsuc r) 0 n []) f f (Placing.Refused (Range entry))
+  pub row_range : n ≤ r → Places n (entry_placed entry (negsuc r) 0 n []) f f (Err (Range entry))
   unfolding entry_placed check
   row_range h = record { outcome = rw (le-ltb r n h); behind = refl }
 
   module _ (h : r < n) {was : Bool} {after : List ℕ} (b : was ≡ bit f r) (m : after ≡ mark f r) where
-    pub row_twice : was ≡ true → Places n (entry_placed entry (negsuc r) 0 n []) f after (Placing.Refused (Twice entry))
+    pub row_twice : was ≡ true → Places n (entry_placed entry (negsuc r) 0 n []) f after (Err (Twice entry))
     unfolding entry_placed check
     row_twice t = record { outcome = rw (lt-ltb r n h, ← b, t); behind = rw m (cleared-mark n f r h) }
 
-    pub row_done : size n ≤ length f → was ≡ false → Places n (entry_placed entry (negsuc r) 0 n []) f after (Placed 1)
+    pub row_done : size n ≤ length f → was ≡ false → Places n (entry_placed entry (negsuc r) 0 n []) f after (Ok 1)
     unfolding entry_placed check
     row_done room t =
         let e : bit f r ≡ false = sym b ∙ t in
@@ -78,25 +81,25 @@ none-measured (Exactly w) = rw take-nil (go (leb w 0))
     go false = refl
 
 module _ (entry o e n : ℕ) (region f : List ℕ) where
-  pub behind_region : length region < o → Places n (entry_placed entry (pos o) e n region) f f (Placing.Refused (Bitmap entry 0))
+  pub behind_region : length region < o → Places n (entry_placed entry (pos o) e n region) f f (Err (Bitmap entry 0))
   unfolding entry_placed bitmap_placed refused_as and_then
   behind_region h =
       let none = drop_of_length-le region (let l : length region ≤ o = omega arith in l) in
       record { outcome = rw (none, none-measured (extent_said e)); behind = refl }
 
-  module _ {bytes : List ℕ} {extent : Extent} {m : Measured} (p : bytes ≡ drop o region) (x : extent ≡ extent_said e) (a : MeasurePromise extent bytes m) where
-    pub bitmap-unsound : {i : ℕ} → m ≡ Measured.Unsound i → Places n (entry_placed entry (pos o) e n region) f f (Placing.Refused (Bitmap entry i))
+  module _ {bytes : List ℕ} {extent : Extent} {m : Result Shape Broken} (p : bytes ≡ drop o region) (x : extent ≡ extent_said e) (a : MeasurePromise extent bytes m) where
+    pub bitmap-unsound : (why : Broken) → m ≡ Err why → Places n (entry_placed entry (pos o) e n region) f f (Err (Bitmap entry why.container))
     unfolding entry_placed bitmap_placed refused_as and_then
-    bitmap-unsound t = let u = not_sound (measured extent bytes) (sym t ∙ a.answer) in record { outcome = rw (← p, ← x, u); behind = refl }
+    bitmap-unsound why t = let u = not_sound (measured extent bytes) (sym t ∙ a.answer) in record { outcome = rw (← p, ← x, u); behind = refl }
 
-    module _ {long rows end : ℕ} (t : m ≡ Measured.Sound long rows end) where
-      pub bitmap_range : n < end → Places n (entry_placed entry (pos o) e n region) f f (Placing.Refused (Range entry))
+    module _ {found : Shape} (t : m ≡ Ok found) where
+      pub bitmap_range : n < found.end → Places n (entry_placed entry (pos o) e n region) f f (Err (Range entry))
       unfolding entry_placed bitmap_placed refused_as and_then check
       bitmap_range l =
           let (b, g, many, last, whole) = is_sound (measured extent bytes) (sym t ∙ a.answer) in
           record { outcome = rw (← p, ← x, g, lt-leb (end_of b.rows) n (rw last at l)); behind = refl }
 
-      module _ (bytes-region : Bytes region) (l : end ≤ n) where
+      module _ (bytes-region : Bytes region) (l : found.end ≤ n) where
         known : Bytes bytes
         known = rw p (bytes_drop o region bytes-region)
 
@@ -115,18 +118,18 @@ module _ (entry o e n : ℕ) (region f : List ℕ) where
               let (b, g, many, last, whole) = is_sound (measured extent bytes) (sym t ∙ a.answer) in
               rw marked.marked (cleared_marks n f b.rows (rising_below 0 n b.rows (measured_rise extent bytes b known g n below)))
 
-          pub bitmap_twice : seen ≡ true → Places n (entry_placed entry (pos o) e n region) f after (Placing.Refused (Twice entry))
+          pub bitmap_twice : seen ≡ true → Places n (entry_placed entry (pos o) e n region) f after (Err (Twice entry))
           unfolding entry_placed bitmap_placed refused_as and_then check
           bitmap_twice s =
               let (b, g, many, last, whole) = is_sound (measured extent bytes) (sym t ∙ a.answer) in
               record { outcome = rw (← p, ← x, g, le-leb (end_of b.rows) n below, ← marked.seen, s); behind = kept }
 
-          pub bitmap_done : size n ≤ length f → seen ≡ false → Places n (entry_placed entry (pos o) e n region) f after (Placed rows)
+          pub bitmap_done : size n ≤ length f → seen ≡ false → Places n (entry_placed entry (pos o) e n region) f after (Ok found.rows)
           unfolding entry_placed bitmap_placed refused_as and_then check
           bitmap_done room s =
               let (b, g, many, last, whole) = is_sound (measured extent bytes) (sym t ∙ a.answer) in
               let none : any_set f b.rows ≡ false = sym marked.seen ∙ s in
-              let more : count after n ≡ count f n + rows =
+              let more : count after n ≡ count f n + found.rows =
               ap (λ (y : List ℕ). count y n) marked.marked
               ∙ count_besides f 0 n b.rows (measured_rise extent bytes b known g n below) room none
               ∙ ap (λ (k : ℕ). count f n + k) (sym many) in
@@ -134,15 +137,11 @@ module _ (entry o e n : ℕ) (region f : List ℕ) where
 
 -- ---- an entry's rows
 
-module _ (entry : ℕ) (z : ℤ) (e n : ℕ) (region f : List ℕ) (k : SFits w32 z) {r : Placing} {after : List ℕ} where
-  pub as_row : (t : lt_z (to_z w32 (of_z w32 z)) (pos 0) ≡ true)
-      → Places n (entry_placed entry (negsuc (nat_abs (to_z w32 (of_z w32 (negsuc 0 -ℤ to_z w32 (of_z w32 z)))))) 0 n []) f after r
-      → Places n (entry_placed entry z e n region) f after r
+module _ (entry : ℕ) (z : ℤ) (e n : ℕ) (region f : List ℕ) (k : SFits w32 z) {r : Result ℕ Refusal} {after : List ℕ} where
+  pub as_row : {row : Row} → place_of (to_z w32 (of_z w32 z)) ≡ Single row → Places n (entry_placed entry (negsuc row.0) 0 n []) f after r → Places n (entry_placed entry z e n region) f after r
   unfolding entry_placed
-  as_row t p =
-      let w = rw (row_is z k t) at p in
-      record { outcome = rw (of z k t).so w.outcome; behind = w.behind }
+  as_row h p = record { outcome = rw (is_single z k h) p.outcome; behind = p.behind }
 
-  pub as_place : (t : lt_z (to_z w32 (of_z w32 z)) (pos 0) ≡ false) → Places n (entry_placed entry (pos (nat_abs (to_z w32 (of_z w32 z)))) e n region) f after r
+  pub as_place : {at : Position} → place_of (to_z w32 (of_z w32 z)) ≡ Place.Bitmap at → Places n (entry_placed entry (pos at.0) e n region) f after r
       → Places n (entry_placed entry z e n region) f after r
-  as_place t p = rw (at z k t).so (rw (place_is z k t) at p)
+  as_place h p = rw (is_bitmap z k h) p

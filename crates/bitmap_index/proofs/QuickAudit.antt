@@ -6,15 +6,14 @@ use mathlib.Core.Bool.{Bool, true, false}
 use mathlib.Core.List.{List, [], ◌∷◌}
 use native.Mathlib.Decide.{ℕ_discrete}
 use native.Mathlib.Omega.{arith}
-use lib.IntN.{ℤ, pos, negsuc, ◌-ℤ◌, nat_abs}
+use lib.IntN.{ℤ, pos, negsuc}
 use lib.ListN.{length, drop}
-use lib.Signed.{lt_z}
 use mir.Syntax.{w32}
 use mir.Val.{SFits, to_z, of_z}
 use borrow.Author.Tests.{lt-ltb, le-leb}
 use Rattle.numbers.specs.Meaning.{Bytes}
 use Rattle.numbers.proofs.ByteLists.{bytes_drop}
-use Rattle.std.specs.Prelude.{Result, Ok}
+use Rattle.std.specs.Prelude.{Result, Err, Ok}
 use Rattle.refusal.specs.Reading.{check, and_then, refused_as}
 use Rattle.refusal.specs.declared.Refusal.{Refusal}
 use Rattle.row_field.specs.Meaning.{bit, mark, mark_all, any_set, cleared, size, count, Rising}
@@ -24,7 +23,8 @@ use Rattle.row_field.proofs.Marks.{any_set-mark}
 use Rattle.row_field.proofs.Counts.{tally-none, tally_split, rows-tally, count-mark, count-le, zeroed-again}
 use Rattle.row_field.proofs.Fronts.{cleared-mark, cleared_marks}
 use Rattle.roaring.specs.declared.Extent.{Extent}
-use Rattle.roaring.specs.declared.Measured.{Measured}
+use Rattle.roaring.specs.declared.Broken.{Broken}
+use Rattle.roaring.specs.declared.Shape.{Shape}
 use Rattle.roaring.specs.Reading.{read, measured, end_of, rows_read}
 use Rattle.roaring.specs.Promises.{MeasurePromise}
 use Rattle.roaring.proofs.Measuring.{is_sound, rows-measured}
@@ -33,17 +33,14 @@ use Rattle.dictionary.specs.declared.Cursor.{Cursor}
 use Rattle.dictionary.specs.declared.EntryAt.{EntryAt}
 use Rattle.dictionary.specs.Layout.{Entry}
 use Rattle.dictionary.specs.Reading.{Dictionary}
-use Rattle.dictionary.specs.Promises.{entry_at, NextAt, dictionary_of, Summarizes}
+use Rattle.dictionary.specs.Promises.{is_two, entry_at, NextAt, dictionary_of, Summarizes}
 use Rattle.bitmap_index.specs.Reading.{extent_said, entry_number, next_number, first_number, bitmap_placed, entry_placed, place_entries}
-use Rattle.bitmap_index.specs.declared.BitmapsAudited.{BitmapsAudited}
-use Rattle.bitmap_index.specs.declared.Placing.{Placing}
-use Rattle.bitmap_index.specs.declared.Placing.TheVariants.{Placed}
-use Rattle.bitmap_index.specs.declared.Setting.{Setting}
-use Rattle.bitmap_index.specs.declared.Setting.TheVariants.{Set}
-use Rattle.bitmap_index.specs.declared.Quick.{Quick}
-use Rattle.bitmap_index.specs.declared.Quick.TheVariants.{Unknown}
-use Rattle.bitmap_index.specs.Promises.{Places, place_in, PlacesNull, Sets, SetsValues, AuditsQuick, AuditsField}
-use Rattle.bitmap_index.proofs.Offsets.{of, row_is, at, place_is}
+use Rattle.bitmap_index.specs.Promises.{place_of, Places, place_in, PlacesNull, Sets, SetsValues, AuditsZero, AuditsQuick, AuditsField}
+use Rattle.numbers.specs.declared.Position.{Position}
+use Rattle.numbers.specs.declared.Row.{Row}
+use Rattle.bitmap_index.specs.declared.Place.{Place}
+use Rattle.bitmap_index.specs.declared.Place.TheVariants.{Single}
+use Rattle.bitmap_index.proofs.Offsets.{is_single, is_bitmap}
 use Rattle.bitmap_index.proofs.PlacedRows.{measured_rise}
 use Rattle.bitmap_index.proofs.PlacingEntries.{first-placed}
 use Rattle.bitmap_index.proofs.Walking.{Walk, at_start, at_end, goes_on}
@@ -91,8 +88,12 @@ rows-add f lo n (r ∷ rs) h room =
 
 -- ---- the rows of one entry
 
+-- a refusal says nothing of them
+pub refused-set : {n : ℕ} {step : List ℕ → Result (List ℕ) Refusal} {f after : List ℕ} {why : Refusal} → Places n step f after (Err why) → Sets n step f after (Err why)
+refused-set p = record { outcome = tt; behind = p.behind }
+
 pub row-set : (r n : ℕ) (f : List ℕ) {after : List ℕ} → r < n → size n ≤ length f → after ≡ mark f r → (entry : ℕ)
-    → Sets n (entry_placed entry (negsuc r) 0 n []) f after (Set 1)
+    → Sets n (entry_placed entry (negsuc r) 0 n []) f after (Ok 1)
 unfolding entry_placed check
 row-set r n f h room m entry =
     let (most, free) = row_adds f r n h room in
@@ -101,10 +102,10 @@ row-set r n f h room m entry =
       behind = rw m (cleared-mark n f r h);
     }
 
-module _ (o e n : ℕ) (region f : List ℕ) {bytes : List ℕ} {extent : Extent} {m : Measured} (p : bytes ≡ drop o region) (x : extent ≡ extent_said e)
-    (a : MeasurePromise extent bytes m) {long rows end : ℕ} (t : m ≡ Measured.Sound long rows end) (bytes-region : Bytes region) (l : end ≤ n) where
+module _ (o e n : ℕ) (region f : List ℕ) {bytes : List ℕ} {extent : Extent} {m : Result Shape Broken} (p : bytes ≡ drop o region) (x : extent ≡ extent_said e)
+    (a : MeasurePromise extent bytes m) {found : Shape} (t : m ≡ Ok found) (bytes-region : Bytes region) (l : found.end ≤ n) where
   pub bitmap-set : size n ≤ length f → {after : List ℕ} → after ≡ mark_all f (rows_read (read bytes)) → (entry : ℕ)
-      → Sets n (entry_placed entry (pos o) e n region) f after (Set rows)
+      → Sets n (entry_placed entry (pos o) e n region) f after (Ok found.rows)
   unfolding entry_placed bitmap_placed refused_as and_then check
   bitmap-set room {after} w entry =
       let (b, g, many, last, whole) = is_sound (measured extent bytes) (sym t ∙ a.answer) in
@@ -121,22 +122,18 @@ module _ (o e n : ℕ) (region f : List ℕ) {bytes : List ℕ} {extent : Extent
         behind = rw marked (cleared_marks n f b.rows (rising_below 0 n b.rows rise));
       }
 
-module _ (entry : ℕ) (z : ℤ) (e n : ℕ) (region f : List ℕ) (k : SFits w32 z) {r : Setting} {after : List ℕ} where
-  pub set_as_row : (t : lt_z (to_z w32 (of_z w32 z)) (pos 0) ≡ true)
-      → Sets n (entry_placed entry (negsuc (nat_abs (to_z w32 (of_z w32 (negsuc 0 -ℤ to_z w32 (of_z w32 z)))))) 0 n []) f after r
-      → Sets n (entry_placed entry z e n region) f after r
+module _ (entry : ℕ) (z : ℤ) (e n : ℕ) (region f : List ℕ) (k : SFits w32 z) {r : Result ℕ Refusal} {after : List ℕ} where
+  pub set_as_row : {row : Row} → place_of (to_z w32 (of_z w32 z)) ≡ Single row → Sets n (entry_placed entry (negsuc row.0) 0 n []) f after r → Sets n (entry_placed entry z e n region) f after r
   unfolding entry_placed
-  set_as_row t p =
-      let w = rw (row_is z k t) at p in
-      record { outcome = rw (of z k t).so w.outcome; behind = w.behind }
+  set_as_row h p = record { outcome = rw (is_single z k h) p.outcome; behind = p.behind }
 
-  pub set_as_place : (t : lt_z (to_z w32 (of_z w32 z)) (pos 0) ≡ false) → Sets n (entry_placed entry (pos (nat_abs (to_z w32 (of_z w32 z)))) e n region) f after r
+  pub set_as_place : {at : Position} → place_of (to_z w32 (of_z w32 z)) ≡ Place.Bitmap at → Sets n (entry_placed entry (pos at.0) e n region) f after r
       → Sets n (entry_placed entry z e n region) f after r
-  set_as_place t p = rw (at z k t).so (rw (place_is z k t) at p)
+  set_as_place h p = rw (is_bitmap z k h) p
 
 -- where so many more are set, they are placed
-pub set-placed : {n : ℕ} {step : List ℕ → Result (List ℕ) Refusal} {f after : List ℕ} {k : ℕ} → Sets n step f after (Set k) → count after n ≡ count f n + k
-    → Places n step f after (Placed k)
+pub set-placed : {n : ℕ} {step : List ℕ → Result (List ℕ) Refusal} {f after : List ℕ} {k : ℕ} → Sets n step f after (Ok k) → count after n ≡ count f n + k
+    → Places n step f after (Ok k)
 set-placed s e = record { outcome = (s.outcome.1 e, e); behind = s.behind }
 
 -- ---- the values' entries in turn: no more rows are set than were counted, and where they are as many, what is left of the entries, placed from the field as it
@@ -151,19 +148,19 @@ pub settings_first : (t : ℕ) (s : List ℕ) (h : Summary) (f : List ℕ) → S
 settings_first t s h f = record { walk = at_start t s h _ (λ es d e. refl); most = omega arith; kept = refl }
 
 module _ {t : ℕ} {s : List ℕ} {h : Summary} {before f : List ℕ} {c : Cursor} {i sum : ℕ} (g : Settings t s h before f c i sum) where
-  pub settings_done : h.values ≤ i → SetsValues t s h before f (Set sum)
+  pub settings_done : h.values ≤ i → SetsValues t s h before f (Ok sum)
   unfolding place_entries
   settings_done l es d = record { outcome = (g.most, λ e. sym (at_end g.walk l es d e)); behind = g.kept }
 
-  module _ {r : Setting} {after : List ℕ} (a : EntryAt)
-      (p : (entry : ℕ) → Sets h.rows (entry_placed entry (to_z w32 (entry_at s a).offset) (entry_at s a).extent h.rows (drop h.region.0 s)) f after r) where
-    pub settings_refused : SetsValues t s h before after Setting.Refused
-    settings_refused es d = record { outcome = tt; behind = (p 0).behind ∙ g.kept }
+  module _ {r : Result ℕ Refusal} {after : List ℕ} (a : EntryAt)
+      (p : Sets h.rows (entry_placed (i + first_number) (to_z w32 (entry_at s a).offset) (entry_at s a).extent h.rows (drop h.region.0 s)) f after r) where
+    pub settings_refused : {why : Refusal} → SetsValues t s h before after (Err why)
+    settings_refused es d = record { outcome = tt; behind = p.behind ∙ g.kept }
 
-    pub settings_next : {k : ℕ} → r ≡ Set k → NextAt t h.version2 s c a → i < h.values → Settings t s h before after a.next (i + 1) (sum + k)
+    pub settings_next : {k : ℕ} → r ≡ Ok k → NextAt t (is_two h.version) s c a → i < h.values → Settings t s h before after a.next (i + 1) (sum + k)
     unfolding entry_number next_number
     settings_next {k} e n l =
-        let w = rw e at (p (i + first_number)) in
+        let w = rw e at p in
         let here : count after h.rows ≤ count f h.rows + k = w.outcome.0 in
         let so_far = g.most in
         record {
@@ -175,38 +172,41 @@ module _ {t : ℕ} {s : List ℕ} {h : Summary} {before f : List ℕ} {c : Curso
 
 -- ---- null's rows, then the values', and a look at the whole
 
-module _ (h : Summary) (body f : List ℕ) {r : Placing} {mid : List ℕ} (p : PlacesNull body h f mid r) (es : List Entry) where
+-- what is told is known
+pub placed-known : {d : Dictionary} {zero after : List ℕ} {n : ℕ} → AuditsZero d zero after (Ok n) → AuditsQuick d zero after (Ok n)
+placed-known known = record { outcome = known.outcome; behind = known.behind }
+
+module _ (h : Summary) (body f : List ℕ) {r : Result ℕ Refusal} {mid : List ℕ} (p : PlacesNull body h f mid r) (es : List Entry) where
   abbrev whole : Dictionary
   whole = dictionary_of body h es
 
-  pub nulls_unknown : AuditsQuick whole f mid Unknown
+  pub nulls_unknown : {why : Refusal} → AuditsQuick whole f mid (Err why)
   nulls_unknown = record { outcome = tt; behind = p.behind }
 
-  pub nulls-below : {n : ℕ} → r ≡ Placed n → count f h.rows ≡ 0 → n ≤ h.rows
+  pub nulls-below : {n : ℕ} → r ≡ Ok n → count f h.rows ≡ 0 → n ≤ h.rows
   nulls-below e z =
       let w = rw e at p in
       omega (arith, w.outcome.1, count-le mid h.rows)
 
-  module _ {r' : Setting} {after : List ℕ} (q : Sets h.rows (place_in first_number body h es) mid after r') where
-    pub values_unknown : AuditsQuick whole f after Unknown
+  module _ {r' : Result ℕ Refusal} {after : List ℕ} (q : Sets h.rows (place_in first_number body h es) mid after r') where
+    pub values_unknown : {why : Refusal} → AuditsQuick whole f after (Err why)
     values_unknown = record { outcome = tt; behind = q.behind ∙ p.behind }
 
-    pub whole-known : {n m : ℕ} → r ≡ Placed n → r' ≡ Set m → count f h.rows ≡ 0 → m ≡ h.rows - n → count after h.rows ≡ h.rows
-        → (k : ℕ) → Bytes body → Summarizes k body h es → AuditsQuick whole f after (Quick.Nulls n)
+    pub whole-known : {n m : ℕ} → r ≡ Ok n → r' ≡ Ok m → count f h.rows ≡ 0 → m ≡ h.rows - n → count after h.rows ≡ h.rows
+        → (k : ℕ) → Bytes body → Summarizes k body h es → AuditsQuick whole f after (Ok n)
     whole-known {n} {m} e t z l full k b s =
         let w = rw e at p in
         let so_many : count after h.rows ≡ count mid h.rows + m = omega (arith, w.outcome.1, count-le mid h.rows) in
         let placed = set-placed (rw t at q) so_many in
-        let known = none_missing h body f p es e placed refl z l k b s in
-        record { outcome = known.outcome; behind = known.behind }
+        placed-known (none_missing h body f p es e placed refl z l k b s)
 
 -- ---- the field is clear again: what the whole told is told, and else an audit may begin anew
 
-module _ (d : Dictionary) (f full : List ℕ) {zero after : List ℕ} {r : Quick} (c : zero ≡ cleared d.rows f) (w : AuditsQuick d zero full r)
+module _ (d : Dictionary) (f full : List ℕ) {zero after : List ℕ} {r : Result ℕ Refusal} (c : zero ≡ cleared d.rows f) (w : AuditsQuick d zero full r)
     (z : after ≡ cleared d.rows full) where
-  pub told_quickly : {n : ℕ} → r ≡ Quick.Nulls n → AuditsField d f after (BitmapsAudited.Nulls n)
+  pub told_quickly : {n : ℕ} → r ≡ Ok n → AuditsField d f after (Ok n)
   told_quickly {n} e =
-      let known : AuditsQuick d zero full (Quick.Nulls n) = rw e at w in
+      let known : AuditsQuick d zero full (Ok n) = rw e at w in
       then_zero d f full c (record { outcome = known.outcome; behind = known.behind }) z
 
   pub clear-again : after ≡ cleared d.rows f

@@ -37,7 +37,7 @@ use Rattle.bitmap_index.proofs.CarriesNothing.{well_formed_bare, prepared_bare}
 use Rattle.bitmap_index.proofs.Faults.{refused_exactly, outside-broken}
 use Rattle.bitmap_index.proofs.Versions.{version-audited, version-audited_buffer, version_asked, version_asked_buffer}
 
--- ---- demand 3, from a body to its answers
+-- ---- from a body to its answers
 
 pub column_is_answered : ColumnIsAnswered
 column_is_answered t cells body (version1 nulls es region c k x d n l z) field b h =
@@ -51,7 +51,7 @@ column_is_answered t cells body (version2 nulls bs region c k x r n l m z) field
     answers_as_scan t cells (nulls ++ joined bs) region (body2 (length cells) nulls bs region) field z
     (two_laid t (length cells) nulls bs region c.0 k.null_only x r (all_patterns region cells (nulls ++ joined bs) s k.rows) n l m z) w b h
 
--- ---- demand 2
+-- ---- what Audit accepts
 
 pub accepted_is_a_column : AcceptedIsAColumn
 accepted_is_a_column t body field n b e =

@@ -8,14 +8,14 @@ use lib.ListN.{length}
 use Rattle.dictionary.specs.declared.Summary.{Summary}
 use Rattle.dictionary.specs.declared.Cursor.{Cursor}
 use Rattle.dictionary.specs.declared.EntryAt.{EntryAt}
-use Rattle.dictionary.specs.Promises.{EntriesAt, Summarizes, entry_at, NextAt}
+use Rattle.dictionary.specs.Promises.{is_two, EntriesAt, Summarizes, entry_at, NextAt}
 use Rattle.dictionary.specs.Layout.{Entry}
 
 -- what is left of the entries es after i of them, at a cursor
 pub record Rest (t : ℕ) (s : List ℕ) (h : Summary) (P : List Entry → Type 0) (es : List Entry) (c : Cursor) (i : ℕ) : Type 0 where
   pub rest : List Entry
   pub many : i + length rest ≡ length es
-  pub stand : EntriesAt t h.version2 s c rest
+  pub stand : EntriesAt t (is_two h.version) s c rest
   pub so : P rest
 
 -- the entries that are left begin with the one that the code found, and go on behind it
@@ -55,9 +55,9 @@ module _ {t : ℕ} {s : List ℕ} {h : Summary} {P : List Entry → List Entry �
   pub at_end : h.values ≤ i → (es : List Entry) → Summarizes t s h es → P es []
   at_end l es d = let r = g.so es d in none_left (P es) r.rest (omega (arith, r.many, d.many)) r.so
 
-  module _ (a : EntryAt) (n : NextAt t h.version2 s c a) (l : i < h.values) where
-    pub here : (es : List Entry) (d : Summarizes t s h es) → First t h.version2 s a (g.so es d).rest
-    here es d = let r = g.so es d in first t h.version2 s a c r.rest r.stand (omega (arith, r.many, d.many)) n
+  module _ (a : EntryAt) (n : NextAt t (is_two h.version) s c a) (l : i < h.values) where
+    pub here : (es : List Entry) (d : Summarizes t s h es) → First t (is_two h.version) s a (g.so es d).rest
+    here es d = let r = g.so es d in first t (is_two h.version) s a c r.rest r.stand (omega (arith, r.many, d.many)) n
 
     -- what holds of the entry that the code found and of those behind it
     pub found : (es : List Entry) (d : Summarizes t s h es) → P es (entry_at s a ∷ (here es d).behind)

@@ -22,10 +22,10 @@ use Rattle.bitmap_index.specs.Layout.{EntryRows, ColumnBody}
 use Rattle.bitmap_index.specs.Reading.{prepared, audit, audit_buffer, well_formed, Answer, ask, ask_buffer}
 use Rattle.bitmap_index.specs.Promises.{scan_answer}
 
--- ---- Demand 3, from a body to its answers. A reading that refuses everything does not have it
+-- ---- From a body to its answers. A reading that refuses everything does not have it
 
--- Audit finds all rows and leaves the field zero, and Ask answers every well-formed question, of either edition, as the scan does (02, Ticket 4: "Demands 2 and 3
--- hold for each edition, whose rule the scan then follows")
+-- Audit finds all rows and leaves the field zero, and Ask answers every well-formed question, of either edition, as the scan does, which
+-- follows the rule of that edition
 pub record AnswersAsScan (t : ℕ) (cells : List Cell) (body field : List ℕ) : Type 0 where
   pub audited : audit t body field ≡ Ok (length cells)
   pub audited_buffer : audit_buffer t body field ≡ cleared (length cells) field
@@ -38,7 +38,7 @@ ColumnIsAnswered =
     (t : ℕ) (cells : List Cell) (body : List ℕ) → ColumnBody t cells body → (field : List ℕ) → Bytes field → size (length cells) ≤ length field
     → AnswersAsScan t cells body field
 
--- ---- Demand 2: what Audit accepts is the body of exactly one column, each row of which has exactly one place, and Ask answers as the scan of that column
+-- ---- What Audit accepts is the body of exactly one column, each row of which has exactly one place, and Ask answers as the scan of that column
 
 -- a body of some column, with as many rows as Audit says
 abbrev pub AcceptedIsAColumn : Type 0
@@ -100,7 +100,7 @@ AnsweredAsTheScan =
     (t : ℕ) (q : Question) (literal body field : List ℕ) (a : Answer) → Bytes literal → Bytes body → Bytes field → ask t q literal body field ≡ Ok a
     → AsTheScan t q literal body field a
 
--- ---- 02, Ticket 7: the record of an answer, for any bytes: matched are the ones in the field, null rows are those that IS NULL matches, and nothing is deleted
+-- ---- The record of an answer, for any bytes: matched are the ones in the field, null rows are those that IS NULL matches, and nothing is deleted
 -- yet
 
 pub record SaysItsRows (t : ℕ) (body field : List ℕ) (a : Answer) : Type 0 where
@@ -111,7 +111,7 @@ pub record SaysItsRows (t : ℕ) (body field : List ℕ) (a : Answer) : Type 0 w
 abbrev pub RecordSaysItsRows : Type 0
 RecordSaysItsRows = (t : ℕ) (q : Question) (literal body field : List ℕ) (a : Answer) → ask t q literal body field ≡ Ok a → SaysItsRows t body field a
 
--- ---- 02, Ticket 4: "for every question but IS NULL, which stays, edition 2 is edition 1 without the rows of IS NULL". Said of the scan; demands 2 and 3 carry
+-- ---- "for every question but IS NULL, which stays, edition 2 is edition 1 without the rows of IS NULL". Said of the scan; the two claims above carry
 -- it to Ask
 
 -- of n rows the scan `second` is `first` without the rows of `nulls`: its field is what Subtract leaves of the first's, its count is less by the rows so taken
@@ -167,7 +167,7 @@ AcceptedAreTheColumns =
     (t : ℕ) (body field : List ℕ) → Bytes body → Bytes field → size limit ≤ length field
     → ((n : ℕ) × (audit t body field ≡ Ok n)) ↔ ((cells : List Cell) × ColumnBody t cells body)
 
--- ---- 01, VERSION: "body not 1 or 2". Such a body yields no rows: Audit and Ask answer LIMIT or LITERAL where they come first, else VERSION; the buffer stays
+-- ---- VERSION: "body not 1 or 2". Such a body yields no rows: Audit and Ask answer LIMIT or LITERAL where they come first, else VERSION; the buffer stays
 
 pub record RefusesVersion (t : ℕ) (q : Question) (literal body field : List ℕ) : Type 0 where
   pub audited : audit t body field ≡ check (leb (length body) limit) Limit (check (ltb t types) Literal (Err Version))
@@ -183,7 +183,7 @@ UnknownVersionYieldsNothing =
     (t : ℕ) (q : Question) (v : ℕ) (s literal field : List ℕ) → (v ≡ 1 → ⊥) → (v ≡ 2 → ⊥)
     → ((n : ℕ) → audit t (v ∷ s) field ≡ Ok n → ⊥) × ((a : Answer) → ask t q literal (v ∷ s) field ≡ Ok a → ⊥)
 
--- ---- 02, Ticket 2: which entry is broken. Said of the dictionary that was read, over the layout of entries and bitmaps
+-- ---- Which entry is broken. Said of the dictionary that was read, over the layout of entries and bitmaps
 
 -- a cell is a value's: 1, or null: 0; and how many of the entries are values'
 abbrev pub of_value : Cell → ℕ

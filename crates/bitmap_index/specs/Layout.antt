@@ -1,4 +1,4 @@
--- What a writer may lay out for a column (01, "Bitmap body"). His choices: the version, the order of entries where it is free, the cuts into blocks, a single
+-- What a writer may lay out for a column. His choices: the version, the order of entries where it is free, the cuts into blocks, a single
 -- row by offset (any length beside it) or by bitmap, a bitmap's form and place, its extent or -1, unused bytes, has-null with no null rows, values of no row.
 use Rattle.std.specs.Prelude.{◌≡◌, ◌⊎◌, ℕ, ◌+◌, ◌-◌, ◌≤◌, ◌<◌, true, cond, List, [], ◌∷◌, ◌++◌, length}
 use Rattle.numbers.specs.Meaning.{All, joined, minus_one_32, sign_bit, four_bytes}
@@ -29,7 +29,7 @@ ExactRows region cells es = All (λ (e : Entry). EntryRows region (rows_with e.c
 abbrev pub Covers : List Entry → List Cell → Type 0
 Covers es cells = All (λ (c : Cell). some_has c es ≡ true) cells
 
--- ---- "A body is the column's if, read as its type, it keeps all rules of body and Roaring form and has its row count", within 01's limits. That the region's
+-- ---- "A body is the column's if, read as its type, it keeps all rules of body and Roaring form and has its row count", within the limits. That the region's
 -- numbers are bytes is not asked: a body is a buffer's, and so all bytes
 
 -- "an entry for each of its values, for each entry exactly the rows of that value, and for null the null rows (has-null 0: none)"; null has at most one entry

@@ -1,4 +1,4 @@
--- What a column is, which of its rows a question chooses, and the plain scan that answers it (01, "Questions"; 02, Tickets 4 and 7). Nothing here knows an
+-- What a column is, which of its rows a question chooses, and the plain scan that answers it. Nothing here knows an
 -- index.
 use Rattle.std.specs.Prelude.{◌≡◌, ℕ, ◌+◌, ◌<◌, ◌≤◌, Bool, true, not, ◌||◌, cond, List, [], ◌∷◌, eqb, ltb, length, replicate}
 use Rattle.row_field.specs.Meaning.{size, mark}
@@ -40,7 +40,7 @@ is_not_null = 5
 abbrev pub questions : ℕ
 questions = 6
 
--- 02, Ticket 4: "a question names its edition: 1 is 01's rule, kept for stored dashboards; 2 drops null rows from NOT EQUAL and NOT IN"
+-- "A question names its edition": 1 is the first rule, kept for stored dashboards; "2 drops null rows from NOT EQUAL and NOT IN"
 abbrev pub first_edition : ℕ
 first_edition = 1
 

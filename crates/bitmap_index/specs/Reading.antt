@@ -1,25 +1,22 @@
--- What Audit and Ask answer for any bytes (01, "Bitmap body" and "Questions"; 02, Tickets 2, 4 and 7): their stages in 01's order, each begun only where the
+-- What Audit and Ask answer for any bytes: their stages in their order, each begun only where the
 -- one before passed.
 use Rattle.std.specs.Prelude.{ℕ, ◌+◌, not, ◌&&◌, cond, List, [], ◌∷◌, eqb, ltb, leb, ℤ, pos, negsuc, length, drop, Result, Err, Ok}
 use Rattle.numbers.specs.Meaning.{signed32, minus_one_32, row}
 use Rattle.refusal.specs.declared.Refusal.{Refusal}
-use Rattle.refusal.specs.Meaning.{limit, number_of, no_fault, fault_of}
+use Rattle.refusal.specs.Meaning.{limit}
 use Rattle.refusal.specs.declared.Refusal.TheVariants.{Bitmap, Range, Twice, Missing, Room, Literal, Limit}
 use Rattle.row_field.specs.Meaning.{size, bit, mark, mark_all, any_set, count, first_clear_row, cleared}
+use Rattle.subtract.specs.declared.Answer.{Answer as Said}
 use Rattle.subtract.specs.declared.Record.{Record}
-use Rattle.subtract.specs.Meaning.{numbers_of_record, no_record, keeps}
+use Rattle.subtract.specs.Meaning.{numbers_of_record, no_record, answer_of, said_of}
 use Rattle.roaring.specs.declared.Extent.{Extent}
 use Rattle.roaring.specs.declared.Extent.TheVariants.{AsLong, Exactly}
 use Rattle.roaring.specs.Reading.{container_of, read, measured, end_of, rows_read}
-use Rattle.refusal.specs.Reading.{check, and_then, refused_as}
+use Rattle.refusal.specs.Reading.{check, and_then, refused_as, numbers_of, fault_in}
 use Rattle.stored_value.specs.Meaning.{types, most_literals, Cell, null, value}
 use Rattle.stored_value.specs.Reading.{literals}
 use Rattle.dictionary.specs.Layout.{Entry}
 use Rattle.dictionary.specs.Reading.{Dictionary, dictionary}
-use Rattle.bitmap_index.specs.declared.Audited.{Audited}
-use Rattle.bitmap_index.specs.declared.Audited.TheVariants.{Rows}
-use Rattle.bitmap_index.specs.declared.Answered.{Answered}
-use Rattle.bitmap_index.specs.declared.Answered.TheVariants.{Skip, Keep}
 use Rattle.bitmap_index.specs.declared.Question.{Question}
 use Rattle.bitmap_index.specs.Meaning.{questions, is_known_edition, chosen, takes, null_question}
 
@@ -30,7 +27,7 @@ use Rattle.bitmap_index.specs.Meaning.{questions, is_known_edition, chosen, take
 unfoldable pub extent_said : ℕ → Extent
 extent_said extent = cond (eqb extent minus_one_32) AsLong (Exactly extent)
 
--- 02, Ticket 2: "the entry's number (0 for null, then 1 onward in stored order)". Values are numbered from 1 also where null has no entry; `next` is the number of
+-- "The entry's number (0 for null, then 1 onward in stored order)". Values are numbered from 1 also where null has no entry; `next` is the number of
 -- the next value's entry
 abbrev pub null_number : ℕ
 null_number = 0
@@ -127,7 +124,7 @@ pub record Answer : Type 0 where
   pub buffer : List ℕ
   pub said : Record
 
--- 02, Ticket 7: "The answer record gains row count, null rows and deleted rows besides matched rows. Deleted is 0 until deletions are subtracted". Null rows are the
+-- "The answer record gains row count, null rows and deleted rows besides matched rows. Deleted is 0 until deletions are subtracted". Null rows are the
 -- rows of null's entry, whatever is asked
 unfoldable pub answered : Question → List (List ℕ) → Dictionary → List ℕ → Answer
 answered q ls d zero =
@@ -158,41 +155,35 @@ unfoldable pub ask_buffer : ℕ → Question → List ℕ → List ℕ → List 
 ask_buffer t q literal body field =
     answer_buffer (ask t q literal body field) (zeroed_from (and_then (well_formed t q literal body) (λ ls. prepared t body field)) field)
 
--- ---- the calls' answers, and their numbers: the answer's, 0 for accepted and else the refusal's in 01's table; then Audit's row count, or the four of Ask's
+-- ---- the calls' answers, and their numbers: the answer's, 0 for accepted and else the refusal's in the table of refusals; then Audit's row count, or the four of Ask's
 -- record, all 0 with a refusal. What the numbers are is said by refusal's `numbers_of` of the reading, `audit_numbers` and `ask_numbers` being those of what was
 -- accepted
 
--- Audit: a refusal, or the row count
-unfoldable pub audited_by : Result ℕ Refusal → Audited
-audited_by (Err r) = Audited.Refused r
-audited_by (Ok n) = Rows n
-
-unfoldable pub audit_out : Audited → ℕ × ℕ
-audit_out (Audited.Refused r) = (number_of r, 0)
-audit_out (Rows n) = (0, n)
-
+-- Audit's: a refusal, or the row count
 abbrev pub audit_numbers : ℕ → ℕ × ℕ
 audit_numbers n = (0, n)
 
--- where the answer's fault is, in three numbers: refusal's `fault_in` of the reading
-unfoldable pub audit_fault : Audited → List ℕ
-audit_fault (Audited.Refused r) = fault_of r
-audit_fault (Rows n) = no_fault
+unfoldable pub audit_out : Result ℕ Refusal → ℕ × ℕ
+audit_out r = numbers_of 0 audit_numbers r
 
--- Ask: a refusal, or the record: skip where no row matches, else keep; both have the number 0, and matched 0 is skip
-unfoldable pub answered_by : Result Answer Refusal → Answered
-answered_by (Err r) = Answered.Refused r
-answered_by (Ok a) = cond (keeps a.said.matched) (Keep a.said) (Skip a.said)
+-- where the answer's fault is, in three numbers
+unfoldable pub audit_fault : Result ℕ Refusal → List ℕ
+audit_fault r = fault_in r
 
-unfoldable pub ask_out : Answered → ℕ × List ℕ
-ask_out (Answered.Refused r) = (number_of r, no_record)
-ask_out (Skip said) = (0, numbers_of_record said)
-ask_out (Keep said) = (0, numbers_of_record said)
+-- Ask's: a refusal, or skip or keep with the record
+unfoldable pub answered_by : Result Answer Refusal → Result Said Refusal
+answered_by (Err r) = Err r
+answered_by (Ok a) = Ok (answer_of a.said)
 
+-- the numbers of an accepted answer, of the reading and of the code: both have the number 0, and matched 0 is skip
 abbrev pub ask_numbers : Answer → ℕ × List ℕ
 ask_numbers a = (0, numbers_of_record a.said)
 
-unfoldable pub ask_fault : Answered → List ℕ
-ask_fault (Answered.Refused r) = fault_of r
-ask_fault (Skip said) = no_fault
-ask_fault (Keep said) = no_fault
+abbrev pub said_numbers : Said → ℕ × List ℕ
+said_numbers a = (0, numbers_of_record (said_of a))
+
+unfoldable pub ask_out : Result Said Refusal → ℕ × List ℕ
+ask_out r = numbers_of no_record said_numbers r
+
+unfoldable pub ask_fault : Result Said Refusal → List ℕ
+ask_fault r = fault_in r

@@ -1,43 +1,47 @@
-// The bitmap body of one column (document 01, "Bitmap body" and "Questions"; document 02, Tickets 2, 4 and 7): Audit and Ask.
+// The bitmap body of one column: Audit, which tests every rule of it, and Ask, which answers a question about the column.
 #![tactic(auto)]
 
-ghost use Rattle.std.specs.Prelude.{◌≡◌, List, [], ◌∷◌, ◌++◌, ℕ, ◌≤◌, pos, negsuc, length};
+ghost use Rattle.std.specs.Prelude.{◌≡◌, IsTrue, List, [], ◌∷◌, ◌++◌, ℕ, ◌≤◌, pos, negsuc, length};
 ghost use Rattle.row_field.specs.Meaning.{size, count, mark_all};
 ghost use Rattle.stored_value.specs.Meaning.{null, value};
 ghost use Rattle.dictionary.specs.Promises.{nulls_of, entry_at};
 ghost use Rattle.bitmap_index.specs.Meaning as meaning;
+ghost use Rattle.bitmap_index.specs.Names.{name_code, question_of};
 ghost use Rattle.bitmap_index.specs.Reading.{extent_said, entry_placed, rows_for};
-ghost use Rattle.bitmap_index.specs.Promises.{AuditPromise, AskPromise, ForEntries, ForDictionary, Prepares, Ready, Asked, TestsQuestion};
+ghost use Rattle.bitmap_index.specs.Promises.{AuditPromise, AskPromise, ForEntries, ForDictionary, Prepares, Ready, Asked, TestsQuestion, TypesQuestion};
 ghost use Rattle.bitmap_index.specs.Promises.{Places, PlacesNull, PlacesValues, Sets, SetsValues, AuditsZero, AuditsQuick, AuditsField};
 ghost use Rattle.bitmap_index.specs.Promises.{SoundAt, SoundEntryAt, SoundNull, AllSound, MarksChosen, MarksAsked};
-ghost use Rattle.bitmap_index.specs.Promises.{SomeListing, FindsListed, SomeLookup, ForLookup};
-ghost use Rattle.bitmap_index.specs.Promises.{AuditAccepts, AnswersZero, AnswersField};
+ghost use Rattle.bitmap_index.specs.Promises.{FindsListed, SomeLookup, ForLookup};
+ghost use Rattle.bitmap_index.specs.Promises.{AuditAccepts, AnswersZero};
 
-use dictionary::{Checked, EntryAt, Summary};
+use dictionary::{EntryAt, Summary};
 use numbers::{Position, Row};
 use refusal::Refusal;
-use roaring::{Extent, Measured};
-use stored_value::Counted;
-use subtract::Record;
+use roaring::Extent;
+use subtract::{Answer, Record};
 
-// The names of questions, by number, and how many there are (document 01, "Questions").
+/// The name of the question which rows have the one literal.
 pub const EQUAL: u32 = 0;
 
+/// Which have another value.
 pub const NOT_EQUAL: u32 = 1;
 
+/// Which have one of the literals, of which there may be any number.
 pub const IN: u32 = 2;
 
+/// Which have none of them.
 pub const NOT_IN: u32 = 3;
 
+/// Which are null. It takes no literals.
 pub const IS_NULL: u32 = 4;
 
+/// Which have a value. It takes no literals.
 pub const IS_NOT_NULL: u32 = 5;
 
-const QUESTIONS: u32 = 6;
-
-// The editions of questions (document 02, Ticket 4): in the first NOT EQUAL and NOT IN choose null rows, in the second they don't.
+/// The edition in which NOT EQUAL and NOT IN choose null rows too.
 pub const FIRST_EDITION: u32 = 1;
 
+/// The edition in which they don't.
 pub const SECOND_EDITION: u32 = 2;
 
 // The numbers of a hash table with room for as many literals as there may be.
@@ -52,87 +56,155 @@ const FEW_VALUES: u64 = 4;
 // So they do with up to so many values, whatever the literals: entering these takes longer than comparing each value with them.
 const VERY_FEW_VALUES: u64 = 2;
 
-// The number of null's entry, and that of the first value's (document 02, Ticket 2).
+// The number of null's entry, and that of the first value's.
 const NULL_NUMBER: u64 = 0;
 
 const FIRST_NUMBER: u64 = 1;
 
-// Whether null's rows are counted as ones when they are placed. Ask answers how many they are, and counts what it answers (document 01); Audit doesn't, and the
-// sum of cardinalities is enough for it.
+/// Null's rows are counted as ones in the field when they are placed: Ask answers how many they are, and counts what it answers.
 pub const COUNT_NULLS: bool = true;
 
+/// Null's rows are those that its bitmap says it has: Audit doesn't answer how many they are.
 pub const SUM_NULLS: bool = false;
 
-// What is asked, by the numbers of the edition and of the name. The literals are lent beside it.
-#[derive(Clone, Copy)]
+/// What is asked, by the numbers of the edition and of the name. The literals are lent beside it.
+#[derive(Clone, Copy, Debug, PartialEq, Eq)]
 pub struct Question {
     pub edition: u32,
     pub name: u32,
 }
 
-// What Audit answers: a refusal, or the row count.
-#[derive(Clone, Copy)]
-pub enum Audited {
-    Refused(Refusal),
-    Rows(u64),
+// The editions of questions, by number.
+#[derive(Clone, Copy, Debug, PartialEq, Eq)]
+enum Edition {
+    First,
+    Second,
 }
 
-// What Ask answers: a refusal; or the record of its answer: skip where no row is chosen, else keep.
-#[derive(Clone, Copy)]
-pub enum Answered {
-    Refused(Refusal),
-    Skip(Record),
-    Keep(Record),
+impl TryFrom<u32> for Edition {
+    type Error = Refusal;
+
+    ghost use Rattle.bitmap_index.specs.Names.{DecodesEdition};
+
+    ghost try_from_gives = { DecodesEdition };
+
+    #[tactic(auto, unfolding(crate::specs::Meaning::is_known_edition))]
+    fn try_from(number: u32) -> Result<Self, Refusal> {
+        match number {
+            FIRST_EDITION => Ok(Edition::First),
+            SECOND_EDITION => Ok(Edition::Second),
+            _ => Err(Refusal::Literal),
+        }
+    }
 }
 
-// What a step comes to that has nothing to hand on.
-#[derive(Clone, Copy)]
-pub enum Outcome {
-    Refused(Refusal),
-    Done,
+// The names of questions, by number.
+#[derive(Clone, Copy, Debug, PartialEq, Eq)]
+enum Name {
+    Equal,
+    NotEqual,
+    In,
+    NotIn,
+    IsNull,
+    IsNotNull,
 }
 
-// What placing rows comes to: a refusal, or how many were placed.
-#[derive(Clone, Copy)]
-pub enum Placing {
-    Refused(Refusal),
-    Placed(u64),
+impl TryFrom<u32> for Name {
+    type Error = Refusal;
+
+    ghost use Rattle.bitmap_index.specs.Names.{DecodesName};
+
+    ghost try_from_gives = { DecodesName };
+
+    fn try_from(number: u32) -> Result<Self, Refusal> {
+        match number {
+            EQUAL => Ok(Name::Equal),
+            NOT_EQUAL => Ok(Name::NotEqual),
+            IN => Ok(Name::In),
+            NOT_IN => Ok(Name::NotIn),
+            IS_NULL => Ok(Name::IsNull),
+            IS_NOT_NULL => Ok(Name::IsNotNull),
+            _ => Err(Refusal::Literal),
+        }
+    }
 }
 
-// What an audit of the bitmaps comes to: a refusal, or how many rows null has.
-#[derive(Clone, Copy)]
-pub enum BitmapsAudited {
-    Refused(Refusal),
-    Nulls(u64),
+impl Name {
+    // Whether a question of this name takes so many literals.
+    #[tactic(auto, unfolding(crate::specs::Meaning::takes))]
+    fn takes(self, count: u64) -> bool
+        ensures { result ≡ meaning.takes (name_code self) count }
+    {
+        match self {
+            Name::Equal | Name::NotEqual => count == 1,
+            Name::In | Name::NotIn => true,
+            Name::IsNull | Name::IsNotNull => count == 0,
+        }
+    }
 }
 
-// What setting rows without a test of each comes to: nothing that an audit can accept, or how many they are, those set already among them.
-#[derive(Clone, Copy)]
-pub enum Setting {
-    Refused,
-    Set(u64),
+// A question whose numbers are an edition's and a name's.
+#[derive(Clone, Copy, Debug, PartialEq, Eq)]
+struct TypedQuestion {
+    edition: Edition,
+    name: Name,
 }
 
-// What an audit that looks only at the whole comes to: nothing is known, or how many rows null has in a body that is sound.
-#[derive(Clone, Copy)]
-pub enum Quick {
-    Unknown,
-    Nulls(u64),
+impl TypedQuestion {
+    // Whether the question chooses null: IS NULL does, NOT EQUAL and NOT IN do in the first edition alone.
+    #[tactic(auto, unfolding(crate::specs::Meaning::chosen))]
+    fn chooses_null(self) -> bool
+        ensures { (ls : List (List ℕ)) → result ≡ meaning.chosen (question_of self) ls null }
+    {
+        match self.name {
+            Name::NotEqual | Name::NotIn => self.edition == Edition::First,
+            Name::IsNull => true,
+            _ => false,
+        }
+    }
 }
 
-// Places the single row of an entry in a field for `rows` rows: RANGE, TWICE.
-fn place_row(field: &mut [u8], row: Row, rows: u64, entry: u64) -> Placing
+// Where an entry says its rows are: a single row, or a bitmap at a position of the region of bitmaps.
+#[derive(Clone, Copy, Debug, PartialEq, Eq)]
+enum Place {
+    Single(Row),
+    Bitmap(Position),
+}
+
+impl From<i32> for Place {
+    ghost use Rattle.bitmap_index.specs.Promises.{place_of};
+
+    ghost from_gives = { λ offset place. place ≡ place_of offset };
+
+    // A negative offset stands for the single row -1 - offset.
+    #[inline]
+    fn from(offset: i32) -> Self {
+        if offset < 0 {
+            return Place::Single(Row((-1 - offset) as u64));
+        }
+        Place::Bitmap(Position(offset as usize))
+    }
+}
+
+// Places the single row of an entry in a field for `rows` rows: RANGE and, with `TELL`, TWICE.
+fn place_row<const TELL: bool>(
+    field: &mut [u8],
+    row: Row,
+    rows: u64,
+    entry: u64,
+) -> Result<u64, Refusal>
     requires { size rows ≤ length field.old }
-    ensures { Places rows (entry_placed entry (negsuc row.0) 0 rows []) field.old field.new result }
+    ensures placed { IsTrue TELL → Places rows (entry_placed entry (negsuc row.0) 0 rows []) field.old field.new result }
+    ensures set { Sets rows (entry_placed entry (negsuc row.0) 0 rows []) field.old field.new result }
 {
-    let number = row.0;
-    if rows <= number {
-        return Placing::Refused(Refusal::Range { entry });
+    if rows <= row.0 {
+        return Err(Refusal::Range { entry });
     }
-    if row_field::mark(field, row) {
-        return Placing::Refused(Refusal::Twice { entry });
+    let seen = row_field::mark(field, row);
+    if TELL && seen {
+        return Err(Refusal::Twice { entry });
     }
-    Placing::Placed(1)
+    Ok(1)
 }
 
 // How long a bitmap must be: -1 says as long as it is.
@@ -145,415 +217,278 @@ fn extent_of(extent: u64) -> Extent
     Extent::Exactly(extent as usize)
 }
 
-// Places the rows of an entry's bitmap, at a position of the region of bitmaps: BITMAP, RANGE, TWICE. The field is not touched before the bitmap is measured.
-// A place behind the region is the fault of container 0.
-fn place_bitmap(
+// Places the rows of an entry's bitmap, at a position of the region of bitmaps: BITMAP, RANGE and, with `TELL`, TWICE. The field is not touched before the
+// bitmap is measured. A place behind the region is the fault of container 0.
+fn place_bitmap<const TELL: bool>(
     field: &mut [u8],
     region: &[u8],
     at: Position,
     extent: u64,
     rows: u64,
     entry: u64,
-) -> Placing
+) -> Result<u64, Refusal>
     requires { size rows ≤ length field.old }
-    ensures { Places rows (entry_placed entry (pos at.0) extent rows region.now) field.old field.new result }
+    ensures placed { IsTrue TELL → Places rows (entry_placed entry (pos at.0) extent rows region.now) field.old field.new result }
+    ensures set { Sets rows (entry_placed entry (pos at.0) extent rows region.now) field.old field.new result }
 {
-    let offset = at.0;
-    if region.len() < offset {
-        return Placing::Refused(Refusal::Bitmap {
+    if region.len() < at.0 {
+        return Err(Refusal::Bitmap {
             entry,
             container: 0,
         });
     }
-    let measured = roaring::measure(&region[offset..], extent_of(extent));
-    match measured {
-        Measured::Unsound(container) => Placing::Refused(Refusal::Bitmap { entry, container }),
-        Measured::Sound {
-            length: _,
-            rows: many,
-            end,
-        } => {
-            if rows < end {
-                return Placing::Refused(Refusal::Range { entry });
-            }
-            if roaring_mark::mark(field, &region[offset..], rows) {
-                return Placing::Refused(Refusal::Twice { entry });
-            }
-            Placing::Placed(many)
-        }
+    let bytes = &region[at.0..];
+    let shape = roaring::measure(bytes, extent_of(extent)).map_err(|broken| Refusal::Bitmap {
+        entry,
+        container: broken.container,
+    })?;
+    if rows < shape.end {
+        return Err(Refusal::Range { entry });
     }
+    if !TELL {
+        roaring_mark::set(field, bytes, rows);
+        return Ok(shape.rows);
+    }
+    if roaring_mark::mark(field, bytes, rows) {
+        return Err(Refusal::Twice { entry });
+    }
+    Ok(shape.rows)
 }
 
-// Places an entry's rows. A negative offset stands for the single row -1 - offset, and its extent isn't looked at.
-pub fn place_at(
+/// Places an entry's rows in a field for `rows` rows, and says how many they are: BITMAP, RANGE and, with `TELL`, TWICE. Without, a row that was set already is
+/// counted again. The extent of a single row isn't looked at.
+pub fn place_at<const TELL: bool>(
     field: &mut [u8],
     region: &[u8],
     offset: i32,
     extent: u64,
     rows: u64,
     entry: u64,
-) -> Placing
+) -> Result<u64, Refusal>
     requires { size rows ≤ length field.old }
-    ensures { Places rows (entry_placed entry offset extent rows region.now) field.old field.new result }
+    ensures placed { IsTrue TELL → Places rows (entry_placed entry offset extent rows region.now) field.old field.new result }
+    ensures set { Sets rows (entry_placed entry offset extent rows region.now) field.old field.new result }
 {
-    if offset < 0 {
-        return place_row(field, Row((-1 - offset) as u64), rows, entry);
+    match Place::from(offset) {
+        Place::Single(row) => place_row::<TELL>(field, row, rows, entry),
+        Place::Bitmap(at) => place_bitmap::<TELL>(field, region, at, extent, rows, entry),
     }
-    place_bitmap(
-        field,
-        region,
-        Position(offset as usize),
-        extent,
-        rows,
-        entry,
-    )
 }
 
-// Places null's rows, if it has an entry, in a field that is clear, and says how many they are.
-pub fn place_null(field: &mut [u8], body: &[u8], summary: Summary, counted: bool) -> Placing
+/// Places null's rows, if it has an entry, in a field that is clear, and says how many they are: with `COUNTED` by the ones in the field, else by what the bitmap
+/// says of itself.
+pub fn place_null<const COUNTED: bool>(
+    field: &mut [u8],
+    body: &[u8],
+    summary: Summary,
+) -> Result<u64, Refusal>
     requires { (summary.region.0 ≤ length body.now) × (size summary.rows ≤ length field.old) × (count field.old summary.rows ≡ 0) }
     ensures { PlacesNull body.now summary field.old field.new result }
 {
-    if !summary.has_null {
-        return Placing::Placed(0);
-    }
+    let Some(null) = summary.null else {
+        return Ok(0);
+    };
     let region = summary.region.0;
-    let placing = place_at(
+    let placed = place_at::<true>(
         field,
         &body[region..],
-        summary.null_offset,
-        summary.null_extent,
+        null.offset,
+        null.extent,
         summary.rows,
         NULL_NUMBER,
-    );
-    if !counted {
-        return placing;
+    )?;
+    if !COUNTED {
+        return Ok(placed);
     }
-    match placing {
-        Placing::Refused(r) => Placing::Refused(r),
-        Placing::Placed(_) => Placing::Placed(row_field::count(field, summary.rows)),
-    }
+    Ok(row_field::count(field, summary.rows))
 }
 
-// Places the rows of the values' entries, in their order, and adds up how many they are. They are numbered from 1, with and without a null.
-fn place_values(field: &mut [u8], body: &[u8], summary: Summary, t: u32) -> Placing
+// Here and below `body`, `summary` and `t` stay three parameters: that the summary is the body's names its entries and so is no proposition, which a ghost field of
+// a struct must be (tried), and without it the struct would only make each clause name its parts.
+
+// Places the rows of the values' entries, in their order, and adds up how many they are. They are numbered from 1, with and without a null. Where they are more
+// than there are rows, one is among them twice.
+fn place_values<const TELL: bool>(
+    field: &mut [u8],
+    body: &[u8],
+    summary: Summary,
+    t: u32,
+) -> Result<u64, Refusal>
     requires { Ready t body.now summary field.old }
-    ensures { PlacesValues t body.now summary field.old field.new result }
+    ensures placed { IsTrue TELL → PlacesValues t body.now summary field.old field.new result }
+    ensures set { SetsValues t body.now summary field.old field.new result }
 {
     let region = summary.region.0;
     let mut cursor = summary.first;
-    let mut i: u64 = 0;
     let mut sum: u64 = 0;
-    while i < summary.values {
-        let entry = dictionary::next(body, t, summary.version2, cursor);
-        let placing = place_at(
+    for i in 0..summary.values {
+        let next = dictionary::next(body, t, summary.version, cursor);
+        let entry = i + FIRST_NUMBER;
+        let placed = place_at::<TELL>(
             field,
             &body[region..],
-            entry.offset,
-            entry.extent,
+            next.offset,
+            next.extent,
             summary.rows,
-            i + FIRST_NUMBER,
-        );
-        match placing {
-            Placing::Refused(r) => return Placing::Refused(r),
-            Placing::Placed(n) => {
-                sum += n;
-                cursor = entry.next;
-                i += 1;
-            }
+            entry,
+        )?;
+        if summary.rows - sum < placed {
+            return Err(Refusal::Twice { entry });
         }
+        sum += placed;
+        cursor = next.next;
     }
-    Placing::Placed(sum)
+    Ok(sum)
 }
 
-// Places the rows of all entries in a field that is clear: null's first, then the values' in their order. None is placed twice, so none is
-// missing exactly if the values have as many rows as null leaves.
-fn audit_zero(
+// Audits the bitmaps of a dictionary in a field that is clear, and says how many rows null has: null's rows are placed, then the values' in their order. With
+// `TELL` none is placed twice, so none is missing exactly if the values have as many rows as null leaves. Without, nothing is known where it refuses; where the
+// rows are as many as there are, and all rows are set then, none was set twice and none is missing.
+fn audit_clear<const TELL: bool, const COUNTED: bool>(
     field: &mut [u8],
     body: &[u8],
     summary: Summary,
     t: u32,
-    counted: bool,
-) -> BitmapsAudited
+) -> Result<u64, Refusal>
     requires { Ready t body.now summary field.old × (count field.old summary.rows ≡ 0) }
-    ensures { ForDictionary t body.now summary (λ d. AuditsZero d field.old field.new result) }
+    ensures told { IsTrue TELL → ForDictionary t body.now summary (λ d. AuditsZero d field.old field.new result) }
+    ensures quick { ForDictionary t body.now summary (λ d. AuditsQuick d field.old field.new result) }
 {
-    let nulls = place_null(field, body, summary, counted);
-    match nulls {
-        Placing::Refused(r) => BitmapsAudited::Refused(r),
-        Placing::Placed(n) => {
-            let values = place_values(field, body, summary, t);
-            match values {
-                Placing::Refused(r) => BitmapsAudited::Refused(r),
-                Placing::Placed(m) => {
-                    if m != summary.rows - n {
-                        return BitmapsAudited::Refused(Refusal::Missing {
-                            row: row_field::first_clear(field, summary.rows),
-                        });
-                    }
-                    BitmapsAudited::Nulls(n)
-                }
-            }
-        }
+    let rows = summary.rows;
+    let nulls = place_null::<COUNTED>(field, body, summary)?;
+    let others = place_values::<TELL>(field, body, summary, t)?;
+    if others != rows - nulls || (!TELL && !row_field::all_set(field, rows)) {
+        return Err(Refusal::Missing {
+            row: row_field::first_clear(field, rows),
+        });
     }
+    Ok(nulls)
 }
 
-// Sets the single row of an entry in a field for `rows` rows, if it is one of them.
-fn set_row(field: &mut [u8], row: Row, rows: u64) -> Setting
-    requires { size rows ≤ length field.old }
-    ensures { (entry : ℕ) → Sets rows (entry_placed entry (negsuc row.0) 0 rows []) field.old field.new result }
-{
-    if rows <= row.0 {
-        return Setting::Refused;
-    }
-    let _ = row_field::mark(field, row);
-    Setting::Set(1)
-}
-
-// Sets the rows of an entry's bitmap, at a position of the region of bitmaps, if it is sound and they are in range.
-fn set_bitmap(field: &mut [u8], region: &[u8], at: Position, extent: u64, rows: u64) -> Setting
-    requires { size rows ≤ length field.old }
-    ensures { (entry : ℕ) → Sets rows (entry_placed entry (pos at.0) extent rows region.now) field.old field.new result }
-{
-    let start = at.0;
-    if region.len() < start {
-        return Setting::Refused;
-    }
-    let measured = roaring::measure(&region[start..], extent_of(extent));
-    match measured {
-        Measured::Unsound(_) => Setting::Refused,
-        Measured::Sound {
-            length: _,
-            rows: many,
-            end: last,
-        } => {
-            if rows < last {
-                return Setting::Refused;
-            }
-            roaring_mark::set(field, &region[start..], rows);
-            Setting::Set(many)
-        }
-    }
-}
-
-// Sets an entry's rows, as `place_at` places them, but for the test whether one was set already.
-fn set_at(field: &mut [u8], region: &[u8], offset: i32, extent: u64, rows: u64) -> Setting
-    requires { size rows ≤ length field.old }
-    ensures { (entry : ℕ) → Sets rows (entry_placed entry offset extent rows region.now) field.old field.new result }
-{
-    if offset < 0 {
-        return set_row(field, Row((-1 - offset) as u64), rows);
-    }
-    set_bitmap(field, region, Position(offset as usize), extent, rows)
-}
-
-// Sets the rows of the values' entries, and adds up how many they are. Where they are more than there are rows, one is among them twice.
-fn set_values(field: &mut [u8], body: &[u8], summary: Summary, t: u32) -> Setting
-    requires { Ready t body.now summary field.old }
-    ensures { SetsValues t body.now summary field.old field.new result }
-{
-    let region = summary.region.0;
-    let mut cursor = summary.first;
-    let mut i: u64 = 0;
-    let mut sum: u64 = 0;
-    while i < summary.values {
-        let at = dictionary::next(body, t, summary.version2, cursor);
-        let setting = set_at(field, &body[region..], at.offset, at.extent, summary.rows);
-        match setting {
-            Setting::Refused => return Setting::Refused,
-            Setting::Set(n) => {
-                if summary.rows - sum < n {
-                    return Setting::Refused;
-                }
-                sum += n;
-                cursor = at.next;
-                i += 1;
-            }
-        }
-    }
-    Setting::Set(sum)
-}
-
-// An audit that looks at the whole, in a field that is clear: null's rows are placed and all others set. Where they are as many as there are rows, and all rows
-// are set then, none was set twice and none is missing.
-fn audit_quick(field: &mut [u8], body: &[u8], summary: Summary, t: u32, counted: bool) -> Quick
-    requires { Ready t body.now summary field.old × (count field.old summary.rows ≡ 0) }
-    ensures { ForDictionary t body.now summary (λ d. AuditsQuick d field.old field.new result) }
-{
-    let nulls = place_null(field, body, summary, counted);
-    match nulls {
-        Placing::Refused(_) => Quick::Unknown,
-        Placing::Placed(n) => {
-            let values = set_values(field, body, summary, t);
-            match values {
-                Setting::Refused => Quick::Unknown,
-                Setting::Set(others) => {
-                    if others != summary.rows - n {
-                        return Quick::Unknown;
-                    }
-                    if !row_field::all_set(field, summary.rows) {
-                        return Quick::Unknown;
-                    }
-                    Quick::Nulls(n)
-                }
-            }
-        }
-    }
-}
-
-// Audits the bitmaps of a dictionary in a field that has room, and leaves the field zero. Most bodies are sound, and the whole tells it; only where it doesn't,
-// every row is tested, to find the refusal.
-pub fn audit_field(
+/// Audits the bitmaps of a dictionary in a field that has room, leaves the field zero, and says how many rows null has, by `place_null`. Most bodies are sound,
+/// and the whole tells it; only where it doesn't, every row is tested, to find the refusal.
+pub fn audit_field<const COUNTED: bool>(
     field: &mut [u8],
     body: &[u8],
     summary: Summary,
     t: u32,
-    counted: bool,
-) -> BitmapsAudited
+) -> Result<u64, Refusal>
     requires { Ready t body.now summary field.old }
     ensures { ForDictionary t body.now summary (λ d. AuditsField d field.old field.new result) }
 {
     let rows = summary.rows;
     row_field::clear(field, rows);
-    let quick = audit_quick(field, body, summary, t, counted);
+    let quick = audit_clear::<false, COUNTED>(field, body, summary, t);
     row_field::clear(field, rows);
-    match quick {
-        Quick::Nulls(n) => BitmapsAudited::Nulls(n),
-        Quick::Unknown => {
-            let answer = audit_zero(field, body, summary, t, counted);
-            row_field::clear(field, rows);
-            answer
-        }
+    if let Ok(nulls) = quick {
+        return Ok(nulls);
     }
+    let told = audit_clear::<true, COUNTED>(field, body, summary, t);
+    row_field::clear(field, rows);
+    told
 }
 
-// The limit, the dictionary, which tests the type first, and ROOM: all that comes before a byte of the field is written.
-pub fn prepare(body: &[u8], t: u32, field: &[u8]) -> Checked
+/// The limit, the dictionary, which tests the type first, and ROOM: all that comes before a byte of the field is written.
+pub fn prepare(body: &[u8], t: u32, field: &[u8]) -> Result<Summary, Refusal>
     ensures { Prepares t body.now field.now result }
 {
     if refusal::LIMIT < body.len() as u64 {
-        return Checked::Refused(Refusal::Limit);
+        return Err(Refusal::Limit);
     }
-    let checked = dictionary::read(body, t);
-    match checked {
-        Checked::Refused(r) => Checked::Refused(r),
-        Checked::Found(summary) => {
-            if !row_field::has_room(field, summary.rows) {
-                return Checked::Refused(Refusal::Room);
-            }
-            Checked::Found(summary)
-        }
+    let summary = dictionary::read(body, t)?;
+    if !row_field::has_room(field, summary.rows) {
+        return Err(Refusal::Room);
     }
+    Ok(summary)
 }
 
-// Audit (document 01): every rule of the body as a column of type t, in a field with room for its rows. A refusal up to and at ROOM leaves the buffer as it
-// was, and any other answer the field zero.
-pub fn audit(body: &[u8], t: u32, field: &mut [u8]) -> Audited
+/// Audit: every rule of the body as a column of type t, in a field with room for its rows; the row count. A refusal up to and at ROOM leaves the buffer as it
+/// was, and any other answer the field zero.
+pub fn audit(body: &[u8], t: u32, field: &mut [u8]) -> Result<u64, Refusal>
     ensures { AuditPromise t body.now field.old field.new result }
 {
-    let prepared = prepare(body, t, field);
-    match prepared {
-        Checked::Refused(r) => Audited::Refused(r),
-        Checked::Found(summary) => {
-            let audit = audit_field(field, body, summary, t, SUM_NULLS);
-            match audit {
-                BitmapsAudited::Refused(r) => Audited::Refused(r),
-                BitmapsAudited::Nulls(_) => Audited::Rows(summary.rows),
-            }
-        }
-    }
-}
-
-// Whether there is an edition of this number.
-fn known_edition(edition: u32) -> bool
-    ensures { result ≡ meaning.is_known_edition edition }
-{
-    if edition < FIRST_EDITION {
-        return false;
-    }
-    edition <= SECOND_EDITION
-}
-
-// Whether a question of this name takes so many literals.
-fn takes(name: u32, count: u64) -> bool
-    ensures { result ≡ meaning.takes name count }
-{
-    if name < IN {
-        return count == 1;
-    }
-    if name < IS_NULL {
-        return true;
-    }
-    count == 0
+    let summary = prepare(body, t, field)?;
+    audit_field::<SUM_NULLS>(field, body, summary, t)?;
+    Ok(summary.rows)
 }
 
 // The limits, the type, the edition and the name, then the literals and their number.
-pub fn test_question(body: &[u8], t: u32, question: Question, literals: &[u8]) -> Outcome
-    ensures { TestsQuestion t question literals.now body.now result }
+#[tactic(auto, unfolding(crate::specs::Reading::well_formed, refusal::specs::Reading::check, refusal::specs::Reading::and_then))]
+fn typed_question(
+    body: &[u8],
+    t: u32,
+    question: Question,
+    literals: &[u8],
+) -> Result<TypedQuestion, Refusal>
+    ensures { TypesQuestion t question literals.now body.now result }
 {
     if refusal::LIMIT < body.len() as u64 {
-        return Outcome::Refused(Refusal::Limit);
+        return Err(Refusal::Limit);
     }
     if refusal::LIMIT < literals.len() as u64 {
-        return Outcome::Refused(Refusal::Limit);
+        return Err(Refusal::Limit);
     }
     if stored_value::TYPES <= t {
-        return Outcome::Refused(Refusal::Literal);
+        return Err(Refusal::Literal);
     }
-    if !known_edition(question.edition) {
-        return Outcome::Refused(Refusal::Literal);
+    let edition = Edition::try_from(question.edition)?;
+    let name = Name::try_from(question.name)?;
+    let count = stored_value::literals(literals, t)?;
+    if !name.takes(count) {
+        return Err(Refusal::Literal);
     }
-    if QUESTIONS <= question.name {
-        return Outcome::Refused(Refusal::Literal);
-    }
-    let counted = stored_value::literals(literals, t);
-    match counted {
-        Counted::Refused(r) => Outcome::Refused(r),
-        Counted::Count(n) => {
-            if !takes(question.name, n) {
-                return Outcome::Refused(Refusal::Literal);
-            }
-            Outcome::Done
+    Ok(TypedQuestion { edition, name })
+}
+
+/// The tests of a question: the limits, the type, the edition and the name, then the literals and their number.
+pub fn test_question(
+    body: &[u8],
+    t: u32,
+    question: Question,
+    literals: &[u8],
+) -> Result<(), Refusal>
+    ensures { TestsQuestion t question literals.now body.now result }
+{
+    typed_question(body, t, question, literals)?;
+    Ok(())
+}
+
+// What values are looked up by: a question, its literals of type t, and a table that holds these, or none to compare each.
+#[derive(Clone, Copy)]
+struct Sought<'l, 't> {
+    question: TypedQuestion,
+    t: u32,
+    literals: &'l [u8],
+    table: Option<&'t [u32]>,
+}
+
+impl Sought<'_, '_> {
+    // Whether a value is one of the literals.
+    #[inline]
+    fn lists(&self, v: &[u8]) -> bool
+        requires { SomeLookup self.now }
+        ensures { FindsListed self.now v.now result }
+    {
+        match self.table {
+            Some(table) => hash_table::find(self.literals, table, v),
+            None => stored_value::listed(self.literals, self.t, v),
         }
     }
-}
 
-// Whether v is one of the literals of type t: found in the table that holds them, or compared with each where the table is too short to be one.
-fn is_listed(v: &[u8], t: u32, literals: &[u8], table: &[u32]) -> bool
-    requires { SomeListing t literals.now table.now }
-    ensures { FindsListed t literals.now table.now v.now result }
-{
-    if table.len() < hash_table::CHAINS {
-        return stored_value::listed(literals, t, v);
-    }
-    hash_table::find(literals, table, v)
-}
-
-// Whether the question chooses the value v, which is the same in both editions. The one literal of EQUAL and NOT EQUAL is all of `literals`.
-fn chosen(question: Question, v: &[u8], t: u32, literals: &[u8], table: &[u32]) -> bool
-    requires { SomeLookup t question literals.now table.now }
-    ensures { ForLookup t question literals.now table.now (λ ls. result ≡ meaning.chosen question ls (value v.now)) }
-{
-    let name = question.name;
-    match name {
-        EQUAL => numbers::same(v, literals),
-        NOT_EQUAL => !numbers::same(v, literals),
-        IN => is_listed(v, t, literals, table),
-        NOT_IN => !is_listed(v, t, literals, table),
-        _ => name == IS_NOT_NULL,
-    }
-}
-
-// Whether the question chooses null: IS NULL does, NOT EQUAL and NOT IN do in the first edition alone.
-fn chosen_null(question: Question) -> bool
-    ensures { (ls : List (List ℕ)) → result ≡ meaning.chosen question ls null }
-{
-    let name = question.name;
-    let first = question.edition == FIRST_EDITION;
-    match name {
-        NOT_EQUAL | NOT_IN => first,
-        IS_NULL => true,
-        _ => false,
+    // Whether the question chooses a value, which is the same in both editions. The one literal of EQUAL and NOT EQUAL is all of the literals' bytes.
+    #[inline]
+    fn chooses(&self, v: &[u8]) -> bool
+        requires { SomeLookup self.now }
+        ensures { ForLookup self.now (λ ls. result ≡ meaning.chosen (question_of self.now.question) ls (value v.now)) }
+    {
+        match self.question.name {
+            Name::Equal => numbers::same(v, self.literals),
+            Name::NotEqual => !numbers::same(v, self.literals),
+            Name::In => self.lists(v),
+            Name::NotIn => !self.lists(v),
+            Name::IsNull => false,
+            Name::IsNotNull => true,
+        }
     }
 }
 
@@ -562,12 +497,12 @@ fn mark_at(field: &mut [u8], region: &[u8], offset: i32, rows: u64)
     requires { SoundAt rows region.now offset }
     ensures { field.new ≡ mark_all field.old (rows_for offset region.now) }
 {
-    if offset < 0 {
-        let _ = row_field::mark(field, Row((-1 - offset) as u64));
-        return;
+    match Place::from(offset) {
+        Place::Single(row) => {
+            let _ = row_field::mark(field, row);
+        }
+        Place::Bitmap(at) => roaring_mark::set(field, &region[at.0..], rows),
     }
-    let start = offset as usize;
-    roaring_mark::set(field, &region[start..], rows);
 }
 
 // Marks the rows of an entry, if the question chooses its value.
@@ -576,18 +511,14 @@ fn mark_entry(
     body: &[u8],
     summary: Summary,
     entry: EntryAt,
-    t: u32,
-    question: Question,
-    literals: &[u8],
-    table: &[u32],
+    sought: &Sought<'_, '_>,
 )
-    requires { SoundEntryAt body.now summary entry × SomeLookup t question literals.now table.now }
-    ensures { ForLookup t question literals.now table.now
-        (λ ls. MarksChosen body.now summary question ls (entry_at body.now entry ∷ []) field.old field.new) }
+    requires { SoundEntryAt body.now summary entry × SomeLookup sought.now }
+    ensures { ForLookup sought.now (λ ls. MarksChosen body.now summary (question_of sought.now.question) ls (entry_at body.now entry ∷ []) field.old field.new) }
 {
     let start = entry.start.0;
     let end = entry.end.0;
-    if !chosen(question, &body[start..end], t, literals, table) {
+    if !sought.chooses(&body[start..end]) {
         return;
     }
     let region = summary.region.0;
@@ -595,61 +526,43 @@ fn mark_entry(
 }
 
 // Marks null's rows, if it has an entry and the question chooses it.
-fn mark_null(field: &mut [u8], body: &[u8], summary: Summary, question: Question)
+fn mark_null(field: &mut [u8], body: &[u8], summary: Summary, question: TypedQuestion)
     requires { SoundNull body.now summary }
     ensures { (ls : List (List ℕ))
-        → MarksChosen body.now summary question ls (nulls_of summary) field.old field.new }
+        → MarksChosen body.now summary (question_of question) ls (nulls_of summary) field.old field.new }
 {
-    if !summary.has_null {
+    let Some(null) = summary.null else {
         return;
-    }
-    if !chosen_null(question) {
+    };
+    if !question.chooses_null() {
         return;
     }
     let region = summary.region.0;
-    mark_at(field, &body[region..], summary.null_offset, summary.rows);
+    mark_at(field, &body[region..], null.offset, summary.rows);
 }
 
 // Marks the rows of the chosen values' entries, in their order.
-fn mark_values(
-    field: &mut [u8],
-    body: &[u8],
-    summary: Summary,
-    t: u32,
-    question: Question,
-    literals: &[u8],
-    table: &[u32],
-)
-    requires { AllSound t body.now summary × SomeLookup t question literals.now table.now }
-    ensures { ForEntries t body.now summary (λ es. ForLookup t question literals.now table.now
-        (λ ls. MarksChosen body.now summary question ls es field.old field.new)) }
+fn mark_values(field: &mut [u8], body: &[u8], summary: Summary, sought: &Sought<'_, '_>)
+    requires { AllSound sought.now.t body.now summary × SomeLookup sought.now }
+    ensures { ForEntries sought.now.t body.now summary (λ es. ForLookup sought.now
+        (λ ls. MarksChosen body.now summary (question_of sought.now.question) ls es field.old field.new)) }
 {
     let mut cursor = summary.first;
-    let mut i: u64 = 0;
-    while i < summary.values {
-        let entry = dictionary::next(body, t, summary.version2, cursor);
-        mark_entry(field, body, summary, entry, t, question, literals, table);
+    for _ in 0..summary.values {
+        let entry = dictionary::next(body, sought.t, summary.version, cursor);
+        mark_entry(field, body, summary, entry, sought);
         cursor = entry.next;
-        i += 1;
     }
 }
 
 // Marks the rows of the chosen entries: null's, then the values'.
-fn mark_chosen(
-    field: &mut [u8],
-    body: &[u8],
-    summary: Summary,
-    t: u32,
-    question: Question,
-    literals: &[u8],
-    table: &[u32],
-)
-    requires { AllSound t body.now summary × SomeLookup t question literals.now table.now }
-    ensures { ForEntries t body.now summary (λ es. ForLookup t question literals.now table.now
-        (λ ls. MarksChosen body.now summary question ls (nulls_of summary ++ es) field.old field.new)) }
+fn mark_chosen(field: &mut [u8], body: &[u8], summary: Summary, sought: &Sought<'_, '_>)
+    requires { AllSound sought.now.t body.now summary × SomeLookup sought.now }
+    ensures { ForEntries sought.now.t body.now summary (λ es. ForLookup sought.now
+        (λ ls. MarksChosen body.now summary (question_of sought.now.question) ls (nulls_of summary ++ es) field.old field.new)) }
 {
-    mark_null(field, body, summary, question);
-    mark_values(field, body, summary, t, question, literals, table);
+    mark_null(field, body, summary, sought.question);
+    mark_values(field, body, summary, sought);
 }
 
 // The same by a hash table: the literals are entered there once, and each value is looked up.
@@ -658,15 +571,22 @@ fn mark_listed(
     body: &[u8],
     summary: Summary,
     t: u32,
-    question: Question,
+    question: TypedQuestion,
     literals: &[u8],
 )
-    requires { AllSound t body.now summary × Asked t question literals.now body.now }
-    ensures { MarksAsked t body.now summary question literals.now field.old field.new }
+    requires { AllSound t body.now summary × Asked t (question_of question) literals.now body.now }
+    ensures { MarksAsked t body.now summary (question_of question) literals.now field.old field.new }
 {
     let mut table = [0u32; TABLE];
     stored_value::enter(literals, t, &mut table);
-    mark_chosen(field, body, summary, t, question, literals, &table);
+    let table = Some(&table[..]);
+    let sought = Sought {
+        question,
+        t,
+        literals,
+        table,
+    };
+    mark_chosen(field, body, summary, &sought);
 }
 
 // Whether values are very few, or both values and literals few.
@@ -681,10 +601,9 @@ fn few(summary: Summary, literals: &[u8]) -> bool {
 }
 
 // Whether the question is worth a table: IN and NOT IN are, unless it is about `few`. The answer is the same with and without one.
-fn worth_table(summary: Summary, question: Question, literals: &[u8]) -> bool {
-    let name = question.name;
+fn worth_table(summary: Summary, name: Name, literals: &[u8]) -> bool {
     match name {
-        IN | NOT_IN => !few(summary, literals),
+        Name::In | Name::NotIn => !few(summary, literals),
         _ => false,
     }
 }
@@ -695,18 +614,23 @@ fn mark_asked(
     body: &[u8],
     summary: Summary,
     t: u32,
-    question: Question,
+    question: TypedQuestion,
     literals: &[u8],
 )
-    requires { AllSound t body.now summary × Asked t question literals.now body.now }
-    ensures { MarksAsked t body.now summary question literals.now field.old field.new }
+    requires { AllSound t body.now summary × Asked t (question_of question) literals.now body.now }
+    ensures { MarksAsked t body.now summary (question_of question) literals.now field.old field.new }
 {
-    if worth_table(summary, question, literals) {
+    if worth_table(summary, question.name, literals) {
         mark_listed(field, body, summary, t, question, literals);
         return;
     }
-    let none = [0u32; 1];
-    mark_chosen(field, body, summary, t, question, literals, &none);
+    let sought = Sought {
+        question,
+        t,
+        literals,
+        table: None,
+    };
+    mark_chosen(field, body, summary, &sought);
 }
 
 // Marks the rows of each chosen entry in a field that is clear and was audited in, and counts them. The audit has counted null's.
@@ -715,63 +639,38 @@ fn answer_zero(
     body: &[u8],
     summary: Summary,
     t: u32,
-    question: Question,
+    question: TypedQuestion,
     literals: &[u8],
     nulls: u64,
-) -> Answered
-    requires { AuditAccepts t body.now summary field.old nulls × Asked t question literals.now body.now }
+) -> Answer
+    requires { AuditAccepts t body.now summary field.old nulls × Asked t (question_of question) literals.now body.now }
     ensures { ForDictionary t body.now summary
-        (λ d. AnswersZero t question literals.now body.now d field.old field.new result) }
+        (λ d. AnswersZero t (question_of question) literals.now body.now d field.old field.new result) }
 {
     mark_asked(field, body, summary, t, question, literals);
     let rows = summary.rows;
     let matched = row_field::count(field, rows);
-    let record = Record {
+    Answer::of(Record {
         rows,
         nulls,
         deleted: 0,
         matched,
-    };
-    if matched == 0 {
-        return Answered::Skip(record);
-    }
-    Answered::Keep(record)
+    })
 }
 
-// Audits the bitmaps of a dictionary in a field that has room, then answers the question.
-fn ask_field(
-    field: &mut [u8],
+/// Ask: tests the question and its literals, audits the whole body, then says skip where no row is chosen, and else keep, with the record of its answer. The rows
+/// are then set in the field, and no others; a refusal leaves the buffer as Audit's does.
+pub fn ask(
     body: &[u8],
-    summary: Summary,
     t: u32,
     question: Question,
     literals: &[u8],
-) -> Answered
-    requires { Ready t body.now summary field.old × Asked t question literals.now body.now }
-    ensures { ForDictionary t body.now summary
-        (λ d. AnswersField t question literals.now body.now d field.old field.new result) }
-{
-    let audit = audit_field(field, body, summary, t, COUNT_NULLS);
-    match audit {
-        BitmapsAudited::Refused(r) => Answered::Refused(r),
-        BitmapsAudited::Nulls(nulls) => {
-            answer_zero(field, body, summary, t, question, literals, nulls)
-        }
-    }
-}
-
-// Ask (document 01): tests the question and its literals, audits the whole body, then says skip where no row is chosen, and else keep, with the record of its
-// answer. The rows are then set in the field, and no others; a refusal leaves the buffer as Audit's does.
-pub fn ask(body: &[u8], t: u32, question: Question, literals: &[u8], field: &mut [u8]) -> Answered
+    field: &mut [u8],
+) -> Result<Answer, Refusal>
     ensures { AskPromise t question literals.now body.now field.old field.new result }
 {
-    let tested = test_question(body, t, question, literals);
-    if let Outcome::Refused(r) = tested {
-        return Answered::Refused(r);
-    }
-    let prepared = prepare(body, t, field);
-    match prepared {
-        Checked::Refused(r) => Answered::Refused(r),
-        Checked::Found(summary) => ask_field(field, body, summary, t, question, literals),
-    }
+    let question = typed_question(body, t, question, literals)?;
+    let summary = prepare(body, t, field)?;
+    let nulls = audit_field::<COUNT_NULLS>(field, body, summary, t)?;
+    Ok(answer_zero(field, body, summary, t, question, literals, nulls))
 }

@@ -1,2 +1,3 @@
 -- Laws of lines, words and numbers.
 pub mod Words
+pub mod Laying

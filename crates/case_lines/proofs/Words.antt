@@ -1,59 +1,99 @@
--- Laws of lines, words and numbers, as the loops over them go.
-use Rattle.std.proofs.Common.{◌≡◌, ℕ, zero, suc, ◌+◌, ◌-◌, ◌*◌, ◌%◌, ◌^◌, ◌<◌, ◌≤◌, Bool, true, false, cond, eqb, List, [], ◌∷◌, length, get_or, take, drop, sym, refl, ap, add-one, arith, length-drop, drop_of_length-le, length-take, take_all, drop-cons, eq-eqb, ne_eqb}
-use Rattle.case_lines.specs.Promises.{until, beyond, line_from_word, tenth, decimal_from}
+-- Laws of lines, words and numbers.
+use Rattle.std.proofs.Common.{◌≡◌, ℕ, zero, suc, ◌+◌, ◌-◌, ◌*◌, ◌%◌, ◌^◌, ◌<◌, ◌≤◌, Bool, true, false, cond, not, nat_lt, eqb, Option, Some, None, List, [], ◌∷◌, ◌==◌, length, get_or, take, drop, sym, refl, ap, ◌∙◌, add-one, arith, length-drop, take_all, drop_of_length-le, drop-cons, position}
+use Rattle.std.specs.List.{position_or_len}
+use Rattle.std.proofs.lemmas.Bool.Decides.{nat_tests}
+use Rattle.case_lines.specs.Promises.{until, beyond, begun, lines_of, line_from_word}
 
--- as many bytes as stand before the first `stop` are those, and are no more than all
-pub take-until : (stop : ℕ) (s : List ℕ) → take (length (until stop s)) s ≡ until stop s
-unfolding until
-take-until stop [] = refl
-take-until stop (b ∷ s) = at (eqb b stop) (take-until stop s)
+-- all that stands behind the first i
+part-behind : (s : List ℕ) (i : ℕ) → take (length s - i) (drop i s) ≡ drop i s
+part-behind s i = take_all (length s - i) (drop i s) (simp length-drop (omega arith))
+
+-- what stands before and behind the first `stop`, by its place
+module _ (stop : ℕ) where
+  abbrev place : List ℕ → ℕ
+  place s = position_or_len (λ b. b == stop) s
+
+  until_is : (s : List ℕ) → until stop s ≡ take (place s) s
+  unfolding until
+  until_is [] = refl
+  until_is (b ∷ s) = at (b == stop) (until_is s)
+    where
+      at : (t : Bool) → until stop s ≡ take (place s) s → cond t [] (b ∷ until stop s) ≡ take (cond (not t) (1 + place s) 0) (b ∷ s)
+      at true h = refl
+      at false h = let e : 1 + place s ≡ suc (place s) = omega arith in rw e (ap (λ (l : List ℕ). b ∷ l) h)
+
+  beyond_is : (s : List ℕ) → beyond stop s ≡ drop (place s + 1) s
+  unfolding beyond
+  beyond_is [] = refl
+  beyond_is (b ∷ s) = rw add-one (at (b == stop) (beyond_is s))
+    where
+      at : (t : Bool) → beyond stop s ≡ drop (place s + 1) s → cond t s (beyond stop s) ≡ drop (cond (not t) (1 + place s) 0) s
+      at true h = refl
+      at false h = let e : 1 + place s ≡ place s + 1 = omega arith in rw e h
+
+  place-within : (s : List ℕ) → place s ≤ length s
+  place-within [] = omega arith
+  place-within (b ∷ s) = at (b == stop) (place-within s)
+    where
+      at : (t : Bool) → place s ≤ length s → cond (not t) (1 + place s) 0 ≤ suc (length s)
+      at true h = omega arith
+      at false h = omega (arith, h)
+
+  pub record Found (s : List ℕ) (at : ℕ) : Type 0 where
+    pub within : at < length s
+    pub before : take at s ≡ until stop s
+    pub behind : take (length s - (at + 1)) (drop (at + 1) s) ≡ beyond stop s
+
+  pub found : (s : List ℕ) (at : ℕ) → position (λ b. b == stop) s ≡ Some at → Found s at
+  found s at = which (nat_lt (place s) (length s)) refl
+    where
+      which : (t : Bool) → nat_lt (place s) (length s) ≡ t → cond t (Some (place s)) None ≡ Some at → Found s at
+      which true e h =
+          let i : place s ≡ at = cc in
+          let w : place s < length s = grind (arith, nat_tests) in
+          let before : take (place s) s ≡ until stop s = sym (until_is s) in
+          let behind : drop (place s + 1) s ≡ beyond stop s = sym (beyond_is s) in
+          record { within = omega arith; before = rw i at before; behind = part-behind s (at + 1) ∙ (rw i at behind) }
+      which false e h = grind arith
+
+  pub missing : (s : List ℕ) → position (λ b. b == stop) s ≡ None → (s ≡ until stop s) × ([] ≡ beyond stop s)
+  missing s = which (nat_lt (place s) (length s)) refl
+    where
+      which : (t : Bool) → nat_lt (place s) (length s) ≡ t → cond t (Some (place s)) None ≡ None → (s ≡ until stop s) × ([] ≡ beyond stop s)
+      which true e h = grind arith
+      which false e h =
+          let w : length s ≤ place s = grind (arith, nat_tests) in
+          (sym (take_all (place s) s w) ∙ sym (until_is s), sym (drop_of_length-le s (omega arith)) ∙ sym (beyond_is s))
+
+-- the first line, and those behind it
+pub lines_next : (b : ℕ) (s : List ℕ) → lines_of (b ∷ s) ≡ until 10 (b ∷ s) ∷ lines_of (beyond 10 (b ∷ s))
+unfolding lines_of until beyond begun
+lines_next b [] = at (b == 10)
   where
-    at : (t : Bool) → take (length (until stop s)) s ≡ until stop s → take (length (cond t [] (b ∷ until stop s))) (b ∷ s) ≡ cond t [] (b ∷ until stop s)
+    at : (t : Bool) → cond t ([] ∷ []) ((b ∷ []) ∷ []) ≡ cond t [] (b ∷ []) ∷ lines_of (cond t [] [])
+    at true = refl
+    at false = refl
+lines_next b (d ∷ s) = at (b == 10) (lines_next d s)
+  where
+    rest : List ℕ
+    rest = d ∷ s
+
+    at : (t : Bool) → lines_of rest ≡ until 10 rest ∷ lines_of (beyond 10 rest) → cond t ([] ∷ lines_of rest) (begun b (lines_of rest)) ≡ cond t [] (b ∷ until 10 rest) ∷ lines_of (cond t rest (beyond 10 rest))
     at true h = refl
-    at false h = ap (λ (l : List ℕ). b ∷ l) h
+    at false h = rw h refl
 
-pub length-until : (stop : ℕ) (s : List ℕ) → length (until stop s) ≤ length s
-length-until stop s = omega (arith, ap length (take-until stop s), simp length-take at (ap length (take-until stop s)))
+pub lines_of_some : (s : List ℕ) → 0 < length s → lines_of s ≡ until 10 s ∷ lines_of (beyond 10 s)
+lines_of_some [] h = absurd (omega arith)
+lines_of_some (b ∷ s) h = lines_next b s
 
-from_word-none : (k : ℕ) → line_from_word k [] ≡ []
-unfolding line_from_word beyond
-from_word-none zero = refl
-from_word-none (suc k) = from_word-none k
+pub lines_of_none : (s : List ℕ) → length s ≡ 0 → lines_of s ≡ []
+unfolding lines_of
+lines_of_none [] h = refl
+lines_of_none (b ∷ s) h = absurd (omega (arith, h))
 
-module _ (s : List ℕ) (i : ℕ) where
-  -- all that stands behind the first i
-  pub part-behind : take (length s - i) (drop i s) ≡ drop i s
-  part-behind = take_all (length s - i) (drop i s) (simp length-drop (omega arith))
+pub length_beyond : (stop : ℕ) (s : List ℕ) → length (beyond stop s) ≤ length s
+length_beyond stop s = omega (arith, ap length (beyond_is stop s), simp length-drop at (ap length (beyond_is stop s)))
 
-  pub until_ends : (stop : ℕ) → i < length s → get_or s i 0 ≡ stop → length (until stop (drop i s)) ≡ 0
-  unfolding until
-  until_ends stop h e = rw (drop-cons s i 0 h, eq-eqb _ _ e) refl
-
-  pub until-next : (stop : ℕ) → i < length s → (get_or s i 0 ≡ stop → ⊥) → length (until stop (drop i s)) ≡ 1 + length (until stop (drop (i + 1) s))
-  unfolding until
-  until-next stop h e = rw (add-one, drop-cons s i 0 h, ne_eqb _ _ e) (omega arith)
-
-  pub until_done : (stop : ℕ) → length s ≤ i → length (until stop (drop i s)) ≡ 0
-  unfolding until
-  until_done stop h = rw (drop_of_length-le s h) refl
-
-  pub from_word_space : (k : ℕ) → i < length s → get_or s i 0 ≡ 32 → 0 < k → line_from_word (k - 1) (drop (i + 1) s) ≡ line_from_word k (drop i s)
-  unfolding line_from_word beyond
-  from_word_space zero h e p = absurd (omega arith)
-  from_word_space (suc k) h e p = let o : suc k - 1 ≡ k = omega arith in rw (o, add-one, drop-cons s i 0 h, eq-eqb _ _ e) refl
-
-  pub from_word-next : (k : ℕ) → i < length s → (get_or s i 0 ≡ 32 → ⊥) → 0 < k → line_from_word k (drop (i + 1) s) ≡ line_from_word k (drop i s)
-  unfolding line_from_word beyond
-  from_word-next zero h e p = absurd (omega arith)
-  from_word-next (suc k) h e p = rw (add-one, drop-cons s i 0 h, ne_eqb _ _ e) refl
-
-  pub from_word_done : (k : ℕ) → length s ≤ i → drop i s ≡ line_from_word k (drop i s)
-  from_word_done k h = rw (drop_of_length-le s h) (sym (from_word-none k))
-
-  pub decimal_next : (n : ℕ) → i < length s → decimal_from ((n % tenth * 10 + get_or s i 0 % 16) % 2 ^ 64) (drop (i + 1) s) ≡ decimal_from n (drop i s)
-  unfolding decimal_from
-  decimal_next n h = rw (add-one, drop-cons s i 0 h) refl
-
-  pub decimal_done : (n : ℕ) → length s ≤ i → n ≡ decimal_from n (drop i s)
-  unfolding decimal_from
-  decimal_done n h = rw (drop_of_length-le s h) refl
+pub word_next : (n k : ℕ) (s : List ℕ) → n ≡ k + 1 → line_from_word n s ≡ line_from_word k (beyond 32 s)
+unfolding line_from_word
+word_next n k s e = let f : n ≡ suc k = omega arith in rw f refl

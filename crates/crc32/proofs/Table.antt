@@ -1,22 +1,20 @@
 -- The rule of CRC-32's table: each entry is eight steps of its place.
 use Prim.Native.Nat.{ℕ, ◌%◌}
-use mathlib.Core.Path.{◌≡◌}
-use mathlib.Core.Bool.{Bool, true}
-use mathlib.Core.List.{List}
+use mathlib.Core.Path.{◌≡◌, refl}
+use mathlib.Core.Bool.{Bool}
 use native.Mathlib.Omega.{arith}
 use lib.Dec.{eqb}
-use lib.ListN.{length, get_or}
+use lib.ListN.{get_or}
 use borrow.Author.Tests.{eqb-true}
-use Rattle.numbers.proofs.Tables.{every, at_place}
-use Rattle.crc32.specs.Meaning.{steps}
-
-unfoldable pub Entries : List ℕ → Type 0
-Entries xs = (x : ℕ) → get_or xs (x % 256) 0 ≡ steps 8 (x % 256)
+use Rattle.numbers.proofs.Tables.{at_place}
+use Rattle.crc32.specs.Meaning.{after_bit, shifted, steps}
+use Rattle.crc32.specs.declared.TheConstants.{TABLE}
 
 -- the rule as a test of one entry
-unfoldable pub right : ℕ → ℕ → Bool
+unfoldable right : ℕ → ℕ → Bool
 right i x = eqb x (steps 8 i)
 
-pub entries : (xs : List ℕ) → every right 0 xs ≡ true → length xs ≡ 256 → Entries xs
-unfolding Entries right
-entries xs t e x = eqb-true (get_or xs (x % 256) 0) (steps 8 (x % 256)) (at_place right xs t (x % 256) (omega arith))
+-- which antt computes at all 256
+pub table_entry : (x : ℕ) → get_or TABLE (x % 256) 0 ≡ steps 8 (x % 256)
+unfolding right steps shifted after_bit
+table_entry x = eqb-true (get_or TABLE (x % 256) 0) (steps 8 (x % 256)) (at_place right TABLE refl (x % 256) (omega arith))

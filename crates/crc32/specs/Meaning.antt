@@ -1,4 +1,4 @@
--- CRC-32 as java.util.zip.CRC32 computes it, a bit at a time (01, Deletion file: "The checksum is Java's CRC-32 of the bin").
+-- CRC-32 as java.util.zip.CRC32 computes it, a bit at a time.
 use Rattle.std.specs.Prelude.{ℕ, zero, suc, ◌/◌, ◌%◌, List, [], ◌∷◌}
 use Rattle.std.specs.Int.Bits.{bit_xor}
 

@@ -2,10 +2,10 @@
 #![tactic(auto)]
 
 ghost use Rattle.std.specs.Prelude.{◌≡◌};
-ghost use Rattle.crc32.specs.Meaning.{checksum};
+ghost use Rattle.crc32.specs.Meaning.{with_byte, checksum};
 
-// What eight steps make of each byte.
-const TABLE: [u32; 256] = [
+// What eight steps make of each byte. It is read where it stands.
+static TABLE: [u32; 256] = [
     0x00000000, 0x77073096, 0xEE0E612C, 0x990951BA, 0x076DC419, 0x706AF48F, 0xE963A535, 0x9E6495A3,
     0x0EDB8832, 0x79DCB8A4, 0xE0D5E91E, 0x97D2D988, 0x09B64C2B, 0x7EB17CBD, 0xE7B82D07, 0x90BF1D91,
     0x1DB71064, 0x6AB020F2, 0xF3B97148, 0x84BE41DE, 0x1ADAD47D, 0x6DDDE4EB, 0xF4D4B551, 0x83D385C7,
@@ -40,18 +40,22 @@ const TABLE: [u32; 256] = [
     0xB3667A2E, 0xC4614AB8, 0x5D681B02, 0x2A6F2B94, 0xB40BBE37, 0xC30C8EA1, 0x5A05DF1B, 0x2D02EF8D,
 ];
 
-// The CRC-32 of `bytes`.
+// The register after one byte more.
+#[inline]
+fn after_byte(register: u32, byte: u8) -> u32
+    ensures { result ≡ with_byte register byte }
+{
+    let low = (register ^ u32::from(byte)) % 256;
+    TABLE[low as usize] ^ (register >> 8)
+}
+
+/// The CRC-32 of `bytes`.
 pub fn checksum(bytes: &[u8]) -> u32
     ensures { result ≡ checksum bytes.now }
 {
-    // The table is copied once, and not for each byte.
-    let table = TABLE;
-    let mut register: u32 = 0xFFFFFFFF;
-    let mut i = 0;
-    while i < bytes.len() {
-        let low = (register ^ (bytes[i] as u32)) % 256;
-        register = table[low as usize] ^ (register >> 8);
-        i += 1;
+    let mut register = 0xFFFFFFFF;
+    for byte in bytes {
+        register = after_byte(register, *byte);
     }
     register ^ 0xFFFFFFFF
 }

@@ -8,17 +8,6 @@ fn show(rt: &impl Print, name: &str, bytes: &[u8]) -> io::Result<()> {
     println!(rt; "{name} {sum:08x}")
 }
 
-// The bytes 0 to 255.
-fn rising() -> [u8; 256] {
-    let mut bytes = [0u8; 256];
-    let mut b = 0u8;
-    while b < 255 {
-        b += 1;
-        bytes[b as usize] = b;
-    }
-    bytes
-}
-
 // The value that the contract gives for the digits is the value of the run.
 fn digits() {
     prove!(crc32::checksum(b"123456789") == 0xCBF4_3926);
@@ -26,9 +15,10 @@ fn digits() {
 
 fn main(rt: HostRuntime) -> io::Result<()> {
     digits();
+    let rising: Vec<u8> = (0..=u8::MAX).collect(rt.alloc())?;
     show(&rt, "empty", b"")?;
     show(&rt, "a", b"a")?;
     show(&rt, "123456789", b"123456789")?;
-    show(&rt, "0..255", &rising())?;
+    show(&rt, "0..255", &rising)?;
     show(&rt, "1000 zeros", &[0u8; 1000])
 }

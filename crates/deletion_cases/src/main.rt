@@ -6,137 +6,137 @@
 //   ends    BIN ROWS ROOM FIRST: reads it so in each proper prefix of the file
 #![tactic(auto)]
 
-use deletion_file::Deletions;
-use numbers::{Position, Row};
-use std::io;
+use case_lines::{Laid, Line};
+use numbers::Row;
+use refusal::Refusal;
+use std::{fmt, io};
 
-fn say_answer(rt: &impl Print, answer: Deletions) -> io::Result<()> {
-    match answer {
-        Deletions::Refused(why) => case_lines::say_refused(rt, why),
-        Deletions::Deleted(rows) => case_lines::say_number(rt, b": deleted ", rows),
-    }
+/// The most bytes that a file, a bin and a buffer have.
+const MOST: usize = 16384;
+
+/// What a line asks for, by its first letter.
+#[derive(Clone, Copy, Debug, PartialEq, Eq)]
+enum Command {
+    Append,
+    Read,
+    Cuts,
+    Through,
+    Ends,
+    LayOut,
 }
 
-fn read(rt: &impl Print, buffer: &mut [u8], file: &[u8], bin: u64, rows: u64) -> io::Result<()> {
-    case_lines::fill(buffer, 0xAA);
-    say_answer(rt, deletion_file::read_deletions(file, bin, rows, buffer))?;
-    case_lines::say_field(rt, buffer, rows, 0xAA)
-}
-
-fn cuts(rt: &impl Print, buffer: &mut [u8], file: &[u8], bin: u64, rows: u64) -> io::Result<()> {
-    for n in 0..file.len() {
-        case_lines::say_number(rt, b"cut ", n as u64)?;
-        read(rt, buffer, &file[0..n], bin, rows)?;
-    }
-    Ok(())
-}
-
-fn read_window(
-    rt: &impl Print,
-    buffer: &mut [u8],
-    file: &[u8],
-    bin: u64,
-    first: u64,
-    rows: u64,
-) -> io::Result<()> {
-    case_lines::fill(buffer, 0xAA);
-    say_answer(
-        rt,
-        deletion_window::read_window(file, bin, Row(first), rows, buffer),
-    )?;
-    case_lines::say_field(rt, buffer, rows, 0xAA)
-}
-
-fn ends(
-    rt: &impl Print,
-    buffer: &mut [u8],
-    file: &[u8],
-    bin: u64,
-    first: u64,
-    rows: u64,
-) -> io::Result<()> {
-    for n in 0..file.len() {
-        case_lines::say_number(rt, b"cut ", n as u64)?;
-        read_window(rt, buffer, &file[0..n], bin, first, rows)?;
-    }
-    Ok(())
-}
-
-// Does the call that a line says.
-fn call(rt: &impl Print, buffer: &mut [u8], file: &[u8], line: &[u8]) -> io::Result<()> {
-    let bin = case_lines::number(line, 1);
-    let rows = case_lines::number(line, 2);
-    let first = case_lines::number(line, 4);
-    match case_lines::letter(line) {
-        b'r' => {
-            case_lines::say(rt, line)?;
-            read(rt, buffer, file, bin, rows)
+impl From<u8> for Command {
+    fn from(letter: u8) -> Command {
+        match letter {
+            b'a' => Command::Append,
+            b'r' => Command::Read,
+            b'c' => Command::Cuts,
+            b't' => Command::Through,
+            b'e' => Command::Ends,
+            _ => Command::LayOut,
         }
-        b'c' => cuts(rt, buffer, file, bin, rows),
-        b't' => {
-            case_lines::say(rt, line)?;
-            read_window(rt, buffer, file, bin, first, rows)
-        }
-        b'e' => ends(rt, buffer, file, bin, first, rows),
-        _ => Ok(()),
     }
 }
 
-// The same, with as much of the buffer as the line says.
-fn call_in_room(rt: &impl Print, buffer: &mut [u8], file: &[u8], line: &[u8]) -> io::Result<()> {
-    let room = case_lines::number(line, 3) as usize;
-    if buffer.len() < room {
+/// The rows of a bin that a line asks for, and the room of the buffer for them.
+#[derive(Clone, Copy, Debug)]
+struct Asked {
+    bin: u64,
+    rows: u64,
+    room: usize,
+    first: Row,
+}
+
+impl From<Line<'_>> for Asked {
+    fn from(line: Line<'_>) -> Asked {
+        Asked {
+            bin: line.number(1),
+            rows: line.number(2),
+            room: line.number(3) as usize,
+            first: Row(line.number(4)),
+        }
+    }
+}
+
+/// How many rows are deleted.
+#[derive(Clone, Copy, Debug)]
+struct Deleted(u64);
+
+impl fmt::Display for Deleted {
+    fn fmt<W: fmt::Write>(&self, f: &mut fmt::Formatter<W>) -> fmt::Result {
+        let rows = self.0;
+        write!(f, "deleted {rows}")
+    }
+}
+
+fn read(rt: &(impl Print + AllocGlobal), file: &[u8], asked: Asked) -> io::Result<()> {
+    let Asked {
+        bin,
+        rows,
+        room,
+        ..
+    } = asked;
+    case_lines::say_call(rt, room, 0xAA, rows, |buffer| {
+        deletion_file::read_deletions(file, bin, rows, buffer).map(Deleted)
+    })
+}
+
+fn read_window(rt: &(impl Print + AllocGlobal), file: &[u8], asked: Asked) -> io::Result<()> {
+    let Asked {
+        bin,
+        rows,
+        room,
+        first,
+    } = asked;
+    case_lines::say_call(rt, room, 0xAA, rows, |buffer| {
+        deletion_window::read_window(file, bin, first, rows, buffer).map(Deleted)
+    })
+}
+
+// Appends a bin to the file.
+fn append(file: &mut Laid, bin: &[u8], turned: u32) {
+    file.append_number((bin.len() % 4_294_967_296) as u32);
+    file.append(bin);
+    file.append_number(crc32::checksum(bin) ^ turned);
+}
+
+// Does the call that a line says, unless the buffer that it asks for is too large.
+fn call(
+    rt: &(impl Print + AllocGlobal),
+    file: &[u8],
+    command: Command,
+    line: Line<'_>,
+) -> io::Result<()> {
+    let asked = Asked::from(line);
+    if MOST < asked.room {
         return Ok(());
     }
-    call(rt, &mut buffer[0..room], file, line)
-}
-
-fn wide(x: u32) -> u64 {
-    x as u64
-}
-
-// What a line makes of the file's n bytes: answers how many there are then.
-fn build(rt: &impl Print, file: &mut [u8], n: usize, bin: &[u8], line: &[u8]) -> io::Result<usize> {
-    if case_lines::letter(line) != b'a' {
-        return case_lines::lay_out(rt, file, n, line);
+    match command {
+        Command::Read => {
+            case_lines::say(rt, line.text)?;
+            read(rt, file, asked)
+        }
+        Command::Cuts => case_lines::cuts(rt, file, |prefix| read(rt, prefix, asked)),
+        Command::Through => {
+            case_lines::say(rt, line.text)?;
+            read_window(rt, file, asked)
+        }
+        Command::Ends => case_lines::cuts(rt, file, |prefix| read_window(rt, prefix, asked)),
+        Command::Append | Command::LayOut => Ok(()),
     }
-    let sum = wide(crc32::checksum(bin) ^ case_lines::number32(line, 1));
-    let a = case_lines::push_number(file, n, bin.len() as u64);
-    let b = case_lines::push_all(file, a, bin);
-    Ok(case_lines::push_number(file, b, sum))
-}
-
-fn lines(
-    rt: &impl Print,
-    text: &[u8],
-    buffer: &mut [u8],
-    file: &mut [u8],
-    bin: &mut [u8],
-) -> io::Result<()> {
-    let mut n = 0;
-    let mut m = 0;
-    let mut at = 0;
-    while at < text.len() {
-        let line = case_lines::line_at(text, Position(at));
-        m = case_lines::give(bin, m, line);
-        n = build(rt, file, n, case_lines::first(bin, m), line)?;
-        call_in_room(rt, buffer, case_lines::first(file, n), line)?;
-        at += line.len() + 1;
-    }
-    Ok(())
 }
 
 fn main(rt: HostRuntime) -> io::Result<()> {
-    let mut text = [0u8; 65536];
-    let n = case_lines::read(&rt, b"cases", &mut text)?;
-    let mut buffer = [0u8; 16384];
-    let mut file = [0u8; 16384];
-    let mut bin = [0u8; 16384];
-    lines(
-        &rt,
-        case_lines::first(&text, n),
-        &mut buffer,
-        &mut file,
-        &mut bin,
-    )
+    let text = case_lines::read(&rt, b"cases", 65536)?;
+    let mut file = Laid::new(rt.alloc(), MOST)?;
+    let mut bin = Laid::new(rt.alloc(), MOST)?;
+    for line in case_lines::lines_of(&text) {
+        bin.give(line);
+        match Command::from(line.letter()) {
+            Command::Append => append(&mut file, &bin.bytes, line.number32(1)),
+            Command::LayOut => file.lay_out(&rt, line)?,
+            command => call(&rt, &file.bytes, command, line)?,
+        }
+    }
+    Ok(())
 }

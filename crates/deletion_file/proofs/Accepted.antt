@@ -1,6 +1,6 @@
 -- What is accepted was laid out: the steps to it, from the answer back to the bytes.
 use Prim.Native.Nat.{ℕ, zero, suc, ◌≤◌}
-use mathlib.Core.Path.{◌≡◌, refl, sym, ap, ◌∙◌}
+use mathlib.Core.Path.{◌≡◌, sym, ap, ◌∙◌}
 use mathlib.Core.List.{List, [], ◌∷◌, ◌++◌, append-nil}
 use native.Mathlib.Omega.{arith}
 use lib.Dec.{eqb, leb}
@@ -20,11 +20,10 @@ use Rattle.roaring.specs.Layout.{Bitmap}
 use Rattle.roaring.specs.Reading.{container_of, measured, end_of}
 use Rattle.roaring.proofs.Measuring.{measured_back, end_below}
 use Rattle.roaring.proofs.RowsRising.{bitmap_rising}
-use Rattle.deletion_file.specs.declared.Deletions.TheVariants.{Deleted}
 use Rattle.deletion_file.specs.Layout.{Bin, bin_bytes, bin_of, frames, Framed, HoldsBytes, holds_bytes}
-use Rattle.std.specs.Prelude.{Result, Err, Ok}
+use Rattle.std.specs.Prelude.{Result, Ok}
 use Rattle.refusal.specs.Reading.{refused_as}
-use Rattle.deletion_file.specs.Reading.{bins, bin_numbered, bin_in, bin_asked_for, after_magic, bitmap_in, bin_entry, bitmap_marked, deletions_ready, deletions_by}
+use Rattle.deletion_file.specs.Reading.{bins, bin_numbered, bin_in, bin_asked_for, after_magic, bitmap_in, bin_entry, bitmap_marked, deletions_ready, counted}
 use Rattle.refusal.proofs.Laws.{not-ok, ok_same, check-ok, then_ok, refused_as-ok}
 use Rattle.deletion_file.proofs.BinSteps.{magic_back}
 use Rattle.deletion_file.proofs.Frames.{Between, between_first, between_next, nothing, walk_passed}
@@ -181,7 +180,6 @@ ready_back file n buffer clear e =
       is_cleared = sym (ok_same _ _ o.1);
     }
 
-pub deleted_back : (n : ℕ) (o : Result (List ℕ) Refusal) {k : ℕ} → deletions_by n o ≡ Deleted k → (after : List ℕ) × (o ≡ Ok after)
-unfolding deletions_by
-deleted_back n (Err r) e = let z : ◌≡◌ {A = ℕ} 0 1 = cc in absurd (omega arith)
-deleted_back n (Ok after) e = (after, refl)
+pub deleted_back : (n : ℕ) (o : Result (List ℕ) Refusal) {k : ℕ} → counted n o ≡ Ok k → (after : List ℕ) × (o ≡ Ok after)
+unfolding counted
+deleted_back n o e = let t = then_ok o _ _ e in (t.0, t.1)

@@ -1,126 +1,80 @@
--- Measuring and marking a bin's bitmap, and the stages before: roaring's promises put into the reading.
+-- Measuring and marking a bin's bitmap: roaring's promises put into the reading. And what a call's answer stands for in numbers.
 use Prim.Native.Nat.{ℕ, ◌<◌, ◌≤◌}
-use mathlib.Core.Path.{◌≡◌, refl, sym, ap, ◌∙◌}
-use mathlib.Core.Bool.{Bool, true, false}
+use mathlib.Core.Path.{◌≡◌, refl, sym, ap}
 use mathlib.Core.List.{List}
+use borrow.Author.Tests.{le-leb, lt-leb}
 use lib.ListN.{length}
 use Rattle.numbers.specs.Meaning.{Bytes}
-use borrow.Author.Tests.{le-leb, lt-leb}
-use Rattle.refusal.specs.Meaning.{limit}
-use Rattle.refusal.specs.declared.Refusal.{Refusal}
-use Rattle.refusal.specs.declared.Refusal.TheVariants.{Bitmap, Range, Room, Limit}
-use Rattle.row_field.specs.Meaning.{count, cleared}
-use Rattle.row_field.specs.Promises.{MarkedRows}
-use Rattle.roaring.specs.declared.Extent.TheVariants.{Exactly}
-use Rattle.roaring.specs.declared.Measured.{Measured}
-use Rattle.roaring.specs.Reading.{read, measured, end_of, rows_read}
-use Rattle.roaring.specs.Promises.{MeasurePromise, SoundBelow}
-use Rattle.roaring.proofs.Measuring.{not_sound, is_sound, rows-measured, measured-sound}
-use Rattle.deletion_file.specs.declared.Deletions.TheVariants.{Deleted}
-use Rattle.deletion_file.specs.declared.Deletions.{Deletions}
-use Rattle.deletion_file.specs.declared.Prepared.{Prepared}
 use Rattle.std.specs.Prelude.{Result, Err, Ok}
+use Rattle.refusal.specs.declared.Refusal.{Refusal}
+use Rattle.refusal.specs.declared.Refusal.TheVariants.{Bitmap, Range}
 use Rattle.refusal.specs.Reading.{check, and_then, refused_as, numbers_of, fault_in}
-use Rattle.deletion_file.specs.Reading.{bitmap_in, bin_entry, bitmap_marked, bin_marked, deletions_ready, deletions, left_by, deletions_buffer, deletions_by, deletions_out, deletions_fault, deletions_numbers}
-use Rattle.deletion_file.specs.Promises.{MarksRows, ClearsIfRoom, Prepares, DeletionsPromise}
+use Rattle.refusal.proofs.Laws.{not-ok, refused_as-ok}
+use Rattle.row_field.specs.Meaning.{mark_all}
+use Rattle.roaring.specs.declared.Extent.TheVariants.{Exactly}
+use Rattle.roaring.specs.declared.Shape.{Shape}
+use Rattle.roaring.specs.Reading.{Fault, unsound, Parsed, read, measured, measured_by, end_of, rows_read}
+use Rattle.roaring.specs.Promises.{SoundBelow}
+use Rattle.roaring.proofs.Measuring.{is_sound, rows-measured, measured-sound}
+use Rattle.deletion_file.specs.Reading.{bin_entry, bitmap_marked, counted, deletions_out, deletions_fault, deletions_numbers}
+use Rattle.deletion_file.specs.Promises.{bitmap_shape}
 
 -- ---- measured, compared, marked
 
-module _ (n : ℕ) (field bytes : List ℕ) {m : Measured} (p : MeasurePromise (Exactly (length bytes)) bytes m) where
-  pub unsound_so : {i : ℕ} → m ≡ Measured.Unsound i → MarksRows n (bitmap_marked bytes n) field field (Deletions.Refused (Bitmap bin_entry i))
-  unfolding bitmap_marked and_then refused_as deletions_by left_by
-  unsound_so e =
-      let u = not_sound (measured (Exactly (length bytes)) bytes) (sym e ∙ p.answer) in
-      record { answer = rw u; field = rw u }
+-- what was read of bytes that have a shape
+pub is_parsed : (bytes : List ℕ) {found : Shape} → Ok found ≡ bitmap_shape bytes
+    → (p : Parsed) × (measured (Exactly (length bytes)) bytes ≡ Ok p) × (found.end ≡ end_of p.rows)
+unfolding bitmap_shape
+is_parsed bytes e =
+    let (p, is, rows, end, long) = is_sound (measured (Exactly (length bytes)) bytes) (sym (refused_as-ok _ _ _ (sym e))) in
+    (p, is, end)
 
-  module _ {long rows end : ℕ} (e : m ≡ Measured.Sound long rows end) where
-    pub beyond_so : n < end → MarksRows n (bitmap_marked bytes n) field field (Deletions.Refused (Range bin_entry))
-    unfolding bitmap_marked and_then refused_as check deletions_by left_by
+-- what was read of bytes that have none
+pub is_broken : (bytes : List ℕ) {r : Refusal} → Err r ≡ bitmap_shape bytes
+    → (i : ℕ) × (measured (Exactly (length bytes)) bytes ≡ Err (unsound i)) × (r ≡ Bitmap bin_entry i)
+unfolding bitmap_shape measured_by refused_as
+is_broken bytes {r} e = go (measured (Exactly (length bytes)) bytes) refl e
+  where
+    go : (o : Result Parsed Fault) → measured (Exactly (length bytes)) bytes ≡ o → Err r ≡ refused_as (λ why. Bitmap bin_entry why.container) (measured_by o)
+        → (i : ℕ) × (measured (Exactly (length bytes)) bytes ≡ Err (unsound i)) × (r ≡ Bitmap bin_entry i)
+    go (Err (unsound i)) m e = (i, m, cc)
+    go (Ok p) m e = absurd (not-ok e)
+
+module _ (n : ℕ) (field bytes : List ℕ) where
+  pub not_marked : {r : Refusal} → Err r ≡ bitmap_shape bytes → bitmap_marked bytes n field ≡ Err r
+  unfolding bitmap_marked and_then refused_as
+  not_marked e = let (i, is, same) = is_broken bytes e in rw is (ap Err (sym same))
+
+  module _ {found : Shape} (e : Ok found ≡ bitmap_shape bytes) where
+    pub beyond_so : n < found.end → bitmap_marked bytes n field ≡ Err (Range bin_entry)
+    unfolding bitmap_marked and_then refused_as check
     beyond_so h =
-        let q = is_sound (measured (Exactly (length bytes)) bytes) (sym e ∙ p.answer) in
-        let t = lt-leb (end_of q.0.rows) n (rw q.3 at h) in
-        record { answer = rw (q.1, t); field = rw (q.1, t) }
+        let (p, is, end) = is_parsed bytes e in
+        let t = lt-leb (end_of p.rows) n (rw end at h) in
+        rw (is, t)
 
-    module _ (h : end ≤ n) (b : Bytes bytes) where
+    module _ (h : found.end ≤ n) (b : Bytes bytes) where
       pub sound-below : SoundBelow n bytes
       sound-below =
-          let q = is_sound (measured (Exactly (length bytes)) bytes) (sym e ∙ p.answer) in
-          measured-sound (Exactly (length bytes)) bytes q.0 b q.1 n (rw q.3 at h)
+          let (p, is, end) = is_parsed bytes e in
+          measured-sound (Exactly (length bytes)) bytes p b is n (rw end at h)
 
-      pub marked_so : {after : List ℕ} {seen : Bool} {ones : ℕ} → MarkedRows field after (rows_read (read bytes)) seen → ones ≡ count after n
-          → MarksRows n (bitmap_marked bytes n) field after (Deleted ones)
-      unfolding bitmap_marked and_then refused_as check deletions_by left_by
-      marked_so k o =
-          let q = is_sound (measured (Exactly (length bytes)) bytes) (sym e ∙ p.answer) in
-          let t = le-leb (end_of q.0.rows) n (rw q.3 at h) in
-          let f = rw (rows-measured (Exactly (length bytes)) bytes q.0 b q.1) at k.marked in
-          record { answer = rw (q.1, t) (ap Deleted o ∙ ap (λ (g : List ℕ). Deleted (count g n)) f); field = rw (q.1, t) f }
+      pub marked_so : bitmap_marked bytes n field ≡ Ok (mark_all field (rows_read (read bytes)))
+      unfolding bitmap_marked and_then refused_as check
+      marked_so =
+          let (p, is, end) = is_parsed bytes e in
+          let t = le-leb (end_of p.rows) n (rw end at h) in
+          rw (is, t, rows-measured (Exactly (length bytes)) bytes p b is)
 
--- ---- the stages
+-- ---- in numbers
 
-module _ (file : List ℕ) (b n : ℕ) (field : List ℕ) where
-  pub bin_refused : {r : Refusal} → bitmap_in b file ≡ Err r → MarksRows n (bin_marked file b n) field field (Deletions.Refused r)
-  unfolding bin_marked and_then deletions_by left_by
-  bin_refused e = record { answer = rw e; field = rw e }
-
-  pub bin_marked_lem : {bytes after : List ℕ} {answer : Deletions} → bitmap_in b file ≡ Ok bytes → MarksRows n (bitmap_marked bytes n) field after answer
-      → MarksRows n (bin_marked file b n) field after answer
-  unfolding bin_marked and_then
-  bin_marked_lem e m = record { answer = m.answer ∙ rw e; field = m.field ∙ rw e }
-
-  pub numbers_so : (o : Result (List ℕ) Refusal) → deletions_out (deletions_by n o) ≡ numbers_of 0 (deletions_numbers n) o
-  unfolding deletions_by deletions_out deletions_numbers numbers_of
+module _ (n : ℕ) where
+  pub numbers_so : (o : Result (List ℕ) Refusal) → deletions_out (counted n o) ≡ numbers_of 0 (deletions_numbers n) o
+  unfolding counted deletions_numbers and_then numbers_of
   numbers_so (Err r) = refl
   numbers_so (Ok marked) = refl
 
-  pub fault_so : (o : Result (List ℕ) Refusal) → deletions_fault (deletions_by n o) ≡ fault_in o
-  unfolding deletions_by deletions_fault fault_in
+  pub fault_so : (o : Result (List ℕ) Refusal) → deletions_fault (counted n o) ≡ fault_in o
+  unfolding counted and_then fault_in
   fault_so (Err r) = refl
   fault_so (Ok marked) = refl
-
-  -- what the call comes to by the two readings
-  said : {answer : Deletions} {after : List ℕ} (o ready : Result (List ℕ) Refusal) → deletions_ready file n field ≡ ready → deletions file b n field ≡ o
-      → answer ≡ deletions_by n o → after ≡ left_by o (left_by ready field) → DeletionsPromise file b n field after answer
-  unfolding deletions_buffer
-  said o ready i e a f =
-      record {
-        answer = rw e a;
-        numbers = rw e (ap deletions_out a ∙ numbers_so o);
-        fault = rw e (ap deletions_fault a ∙ fault_so o);
-        buffer = rw (e, i) f;
-      }
-
-  refused : {r : Refusal} → deletions_ready file n field ≡ Err r → DeletionsPromise file b n field field (Deletions.Refused r)
-  unfolding deletions and_then deletions_by left_by
-  refused {r} i = said (Err r) (Err r) i (rw i) refl refl
-
-  pub not-prepared : {after : List ℕ} {r : Refusal} → Prepares file n field after (Prepared.Refused r) → DeletionsPromise file b n field after (Deletions.Refused r)
-  not-prepared p = rw p.1 (refused p.0)
-
-  pub when_prepared : {clear after : List ℕ} {answer : Deletions} → Prepares file n field clear Prepared.Cleared → MarksRows n (bin_marked file b n) clear after answer
-      → DeletionsPromise file b n field after answer
-  unfolding deletions and_then left_by
-  when_prepared {clear} p m = said (bin_marked file b n clear) (Ok clear) p.0 (rw p.0) m.answer m.field
-
--- ---- what comes before a byte is written
-
-module _ (file : List ℕ) (n : ℕ) (field : List ℕ) where
-  pub long_file : limit < length file → Prepares file n field field (Prepared.Refused Limit)
-  unfolding deletions_ready check
-  long_file h = (rw (lt-leb (length file) limit h), refl)
-
-  pub many-rows : length file ≤ limit → limit < n → Prepares file n field field (Prepared.Refused Limit)
-  unfolding deletions_ready check
-  many-rows h k = (rw (le-leb (length file) limit h, lt-leb n limit k), refl)
-
-  -- whether there was room, and what the field was then
-  module _ (h : length file ≤ limit) (k : n ≤ limit) {room : Bool} {clear : List ℕ} (e : ClearsIfRoom n field clear room) where
-    pub no_room : room ≡ false → Prepares file n field clear (Prepared.Refused Room)
-    unfolding deletions_ready check
-    no_room t = (rw (le-leb (length file) limit h, le-leb n limit k, ← e.room, t), e.field ∙ rw t)
-
-    pub with_room : room ≡ true → Prepares file n field clear Prepared.Cleared
-    unfolding deletions_ready check
-    with_room t =
-        let c : clear ≡ cleared n field = e.field ∙ rw t in
-        (rw (le-leb (length file) limit h, le-leb n limit k, ← e.room, t) (ap Ok (sym c)), c)

@@ -18,8 +18,7 @@ use Rattle.row_field.proofs.Fronts.{marked_field, marked_count}
 use Rattle.roaring.specs.Layout.{Bitmap}
 use Rattle.roaring.proofs.RowsRising.{bitmap_rising}
 use Rattle.roaring.proofs.Theorems.{names_the_broken}
-use Rattle.deletion_file.specs.declared.Deletions.TheVariants.{Deleted}
-use Rattle.deletion_file.specs.Reading.{bin_asked_for, after_magic, bitmap_in, bitmap_marked, bin_marked, deletions_ready, deletions, left_by, deletions_buffer, deletions_by}
+use Rattle.deletion_file.specs.Reading.{bin_asked_for, after_magic, bitmap_in, bitmap_marked, bin_marked, deletions_ready, deletions, left_by, deletions_buffer, counted}
 use Rattle.deletion_file.specs.Claims.{Allowed, AnswersRows, BinIsRead, LaidOutIsRead, AcceptedWasLaidOut, OtherVersion, RowsHaveVersion1, NamesTheFault, LooksAtHeldBytes, NothingBeforeBitmap}
 use Rattle.deletion_file.proofs.CarriesNothing.{ready_bare, bitmap_bare}
 use Rattle.deletion_file.proofs.Frames.{file-has-bin}
@@ -36,8 +35,8 @@ rows_counted n buffer {rows} h m b = marked_count n buffer rows h (rising_within
 -- where the rows were marked in the cleared field, they are the answer
 answers : (file : List ℕ) (b n : ℕ) (buffer rows : List ℕ) {after : List ℕ} → Allowed file n buffer rows → count after n ≡ length rows
     → after ≡ mark_all (cleared n buffer) rows → deletions file b n buffer ≡ Ok after → AnswersRows file b n buffer rows
-unfolding deletions_buffer deletions_by left_by
-answers file b n buffer rows l c f e = record { answer = rw e (ap Deleted c); field = rw e (f ∙ marked_field n buffer rows l.room l.below) }
+unfolding deletions_buffer counted and_then left_by
+answers file b n buffer rows l c f e = record { answer = rw e (ap Ok c); field = rw e (f ∙ marked_field n buffer rows l.room l.below) }
 
 pub bin_is_read : BinIsRead
 unfolding deletions_ready deletions bin_marked check and_then

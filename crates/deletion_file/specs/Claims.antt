@@ -10,9 +10,8 @@ use Rattle.row_field.specs.Meaning.{size, field_of, Below}
 use Rattle.roaring.specs.declared.Extent.TheVariants.{Exactly}
 use Rattle.roaring.specs.Layout as roaring
 use Rattle.roaring.specs.Faults.{Broken}
-use Rattle.deletion_file.specs.declared.Deletions.TheVariants.{Deleted}
 use Rattle.deletion_file.specs.Layout.{DeletionFile, HoldsBytes, HasBin}
-use Rattle.deletion_file.specs.Reading.{bitmap_in, deletions_ready, deletions, deletions_buffer, deletions_by}
+use Rattle.deletion_file.specs.Reading.{bitmap_in, deletions_ready, deletions, deletions_buffer, counted}
 
 -- within the limits, with room, and with every row below the row count
 pub record Allowed (file : List ℕ) (n : ℕ) (buffer rows : List ℕ) : Type 0 where
@@ -21,10 +20,10 @@ pub record Allowed (file : List ℕ) (n : ℕ) (buffer rows : List ℕ) : Type 0
   pub room : size n ≤ length buffer
   pub below : Below n rows
 
--- Read deletions answers exactly these rows: how many they are, and, as 01 says what a row field is, exactly they are set in the field for n rows, spare
+-- Read deletions answers exactly these rows: how many they are, and, as a row field is, exactly they are set in the field for n rows, spare
 -- bits are 0, and the bytes behind it stay
 pub record AnswersRows (file : List ℕ) (b n : ℕ) (buffer rows : List ℕ) : Type 0 where
-  pub answer : deletions_by n (deletions file b n buffer) ≡ Deleted (length rows)
+  pub answer : counted n (deletions file b n buffer) ≡ Ok (length rows)
   pub field : deletions_buffer file b n buffer ≡ field_of n rows ++ drop (size n) buffer
 
 -- 1. A bin that is laid out is read, whatever the other bins hold.
@@ -48,7 +47,7 @@ pub record Accepted (file : List ℕ) (b n : ℕ) (buffer : List ℕ) : Type 0 w
 
 abbrev pub AcceptedWasLaidOut : Type 0
 AcceptedWasLaidOut =
-    (file : List ℕ) (b n : ℕ) (buffer : List ℕ) (k : ℕ) → Bytes file → deletions_by n (deletions file b n buffer) ≡ Deleted k → Accepted file b n buffer
+    (file : List ℕ) (b n : ℕ) (buffer : List ℕ) (k : ℕ) → Bytes file → counted n (deletions file b n buffer) ≡ Ok k → Accepted file b n buffer
 
 -- 3. A file whose first byte is not 1 is VERSION, unless LIMIT, ROOM or SHORT comes first: it yields no rows.
 abbrev pub OtherVersion : Type 0
@@ -57,9 +56,9 @@ OtherVersion =
     → deletions file b n buffer ≡ and_then (deletions_ready file n buffer) (λ _. check (leb 1 (length file)) Short (Err Version))
 
 abbrev pub RowsHaveVersion1 : Type 0
-RowsHaveVersion1 = (file : List ℕ) (b n : ℕ) (buffer : List ℕ) (k : ℕ) → deletions_by n (deletions file b n buffer) ≡ Deleted k → get_or file 0 0 ≡ 1
+RowsHaveVersion1 = (file : List ℕ) (b n : ℕ) (buffer : List ℕ) (k : ℕ) → counted n (deletions file b n buffer) ≡ Ok k → get_or file 0 0 ≡ 1
 
--- 4. Where a bin is broken (02, Ticket 2): within the limits and with room, a bin with magic and checksum is refused exactly for what is wrong with the bytes behind
+-- 4. Where a bin is broken: within the limits and with room, a bin with magic and checksum is refused exactly for what is wrong with the bytes behind
 -- the magic. BITMAP names the container that is broken, and RANGE says that they are a bitmap with a row at or above the row count. "A deletion bin's entry number
 -- is 0", and no other refusal comes there.
 pub record BitmapOutside (n : ℕ) (bytes : List ℕ) : Type 0 where

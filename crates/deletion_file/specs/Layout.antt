@@ -1,4 +1,4 @@
--- What a writer may lay out for a list of row sets (01, "Deletion file"). His choice is each bitmap's form. Last, what a file must be
+-- What a writer may lay out for a list of row sets ("Deletion file"). His choice is each bitmap's form. Last, what a file must be
 -- for one bin alone to be read.
 use Rattle.std.specs.Prelude.{ℕ, ◌^◌, ◌<◌, ◌≤◌, List, [], ◌∷◌, ◌++◌, length}
 use Rattle.numbers.specs.Meaning.{be, All}

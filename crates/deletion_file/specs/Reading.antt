@@ -1,17 +1,15 @@
--- What Read deletions answers for any bytes, and what the buffer holds then (01, "Deletion file"). The stages stand in 01's order: "LIMIT, ROOM, SHORT for
+-- What Read deletions answers for any bytes, and what the buffer holds then ("Deletion file"). The stages stand in this order: "LIMIT, ROOM, SHORT for
 -- an empty file, VERSION, the walk over all sizes (SHORT, also for a size below 4), NOBIN, MAGIC, CHECKSUM, BITMAP, RANGE".
 use Rattle.std.specs.Prelude.{ℕ, zero, suc, ◌+◌, Bool, cond, List, [], ◌∷◌, eqb, leb, length, take, drop, get_or, Result, Err, Ok}
 use Rattle.numbers.specs.Meaning.{be_at, big, number}
-use Rattle.refusal.specs.Meaning.{limit, number_of, no_fault, fault_of}
-use Rattle.refusal.specs.Reading.{check, and_then, refused_as}
+use Rattle.refusal.specs.Meaning.{limit}
+use Rattle.refusal.specs.Reading.{check, and_then, refused_as, numbers_of, fault_in}
 use Rattle.refusal.specs.declared.Refusal.{Refusal}
 use Rattle.refusal.specs.declared.Refusal.TheVariants.{Short, Magic, Version, Bitmap, Range, Room, Limit, Checksum, NoBin}
 use Rattle.crc32.specs.Meaning.{checksum}
 use Rattle.row_field.specs.Meaning.{size, mark_all, count, cleared}
 use Rattle.roaring.specs.declared.Extent.TheVariants.{Exactly}
 use Rattle.roaring.specs.Reading.{container_of, measured, end_of}
-use Rattle.deletion_file.specs.declared.Deletions.{Deletions}
-use Rattle.deletion_file.specs.declared.Deletions.TheVariants.{Deleted}
 use Rattle.deletion_file.specs.Layout.{Bin, number_size, magic}
 
 -- ---- the file
@@ -81,7 +79,7 @@ bitmap_in b file = and_then (bin_asked_for b file) after_magic
 
 -- ---- the rows
 
--- 02, Ticket 2: "A deletion bin's entry number is 0"
+-- "A deletion bin's entry number is 0"
 abbrev pub bin_entry : ℕ
 bin_entry = 0
 
@@ -119,19 +117,16 @@ unfoldable pub deletions_buffer : List ℕ → ℕ → ℕ → List ℕ → List
 deletions_buffer file b n buffer = left_by (deletions file b n buffer) (left_by (deletions_ready file n buffer) buffer)
 
 -- the answer: a refusal, or how many rows are deleted, a count of ones below n
-unfoldable pub deletions_by : ℕ → Result (List ℕ) Refusal → Deletions
-deletions_by n (Err r) = Deletions.Refused r
-deletions_by n (Ok marked) = Deleted (count marked n)
+unfoldable pub counted : ℕ → Result (List ℕ) Refusal → Result ℕ Refusal
+counted n marked = and_then marked (λ field. Ok (count field n))
 
--- the answer's number, 0 for accepted and else the refusal's in 01's table, and how many rows are deleted, 0 with a refusal
-unfoldable pub deletions_out : Deletions → ℕ × ℕ
-deletions_out (Deletions.Refused r) = (number_of r, 0)
-deletions_out (Deleted n) = (0, n)
+-- the answer's number, 0 for accepted and else the refusal's, and how many rows are deleted, 0 with a refusal
+abbrev pub deletions_out : Result ℕ Refusal → ℕ × ℕ
+deletions_out r = numbers_of 0 (λ n. (0, n)) r
 
 -- where the answer's fault is, in three numbers
-unfoldable pub deletions_fault : Deletions → List ℕ
-deletions_fault (Deletions.Refused r) = fault_of r
-deletions_fault (Deleted n) = no_fault
+abbrev pub deletions_fault : Result ℕ Refusal → List ℕ
+deletions_fault r = fault_in r
 
 -- what an accepted reading stands for in numbers
 unfoldable pub deletions_numbers : ℕ → List ℕ → ℕ × ℕ

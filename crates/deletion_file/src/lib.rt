@@ -1,14 +1,18 @@
-// Deletion files (document 01, "Deletion file"): the walk over the bins, and Read deletions.
-#![tactic(auto)]
+// Deletion files: the walk over the bins, and Read deletions. A file is a version, 1, and then bins to its end.
+#![tactic(auto, unfolding(refusal::specs::Reading::check, refusal::specs::Reading::and_then, refusal::specs::Reading::refused_as, crate::specs::Promises::bitmap_shape, crate::specs::Reading::counted, crate::specs::Reading::left_by, crate::specs::Reading::begins_with_magic, crate::specs::Reading::is_true_checksum, crate::specs::Reading::after_magic, crate::specs::Reading::bin_asked_for, crate::specs::Reading::bitmap_in, crate::specs::Reading::bin_marked, crate::specs::Reading::deletions_ready, crate::specs::Reading::deletions, crate::specs::Reading::deletions_buffer))]
 
 ghost use Rattle.std.specs.Prelude.{◌≤◌, ◌≡◌, length};
+ghost use Rattle.row_field.specs.Meaning.{cleared};
 ghost use Rattle.deletion_file.specs.Layout.{number_size};
-ghost use Rattle.deletion_file.specs.Reading.{begins_with_magic, is_true_checksum, bitmap_marked, bin_marked};
-ghost use Rattle.deletion_file.specs.Promises.{BinFits, FindsNext, FindsBin, AsksBin, OpensBin, FindsBitmap, MarksRows, ClearsIfRoom, Prepares, DeletionsPromise};
+ghost use Rattle.deletion_file.specs.Reading.{begins_with_magic, is_true_checksum, after_magic, bitmap_in, bin_in, bin_asked_for, bitmap_marked, bin_marked, deletions_ready, deletions, deletions_buffer, left_by, counted};
+ghost use Rattle.deletion_file.specs.Promises.{FindsNext, BinIs, BytesAre, Prepares, plain_of, bitmap_shape};
 
+mod bins;
+
+pub use bins::Bin;
 use numbers::Position;
 use refusal::{LIMIT, Refusal};
-use roaring::{Extent, Measured};
+use roaring::{Extent, Shape};
 
 // The bytes of the version, behind which the bins stand.
 const VERSION_SIZE: usize = 1;
@@ -16,96 +20,55 @@ const VERSION_SIZE: usize = 1;
 // The number that a bin begins with.
 const MAGIC: u64 = 1_581_511_376;
 
-// The bytes of each of the file's numbers: a size, a magic, a checksum.
+/// The bytes of each of the file's numbers: a size, a magic, a checksum.
 pub const NUMBER_SIZE: usize = 4;
 
-// What a bin takes besides its own bytes: its size in front and its checksum behind.
-const FRAME_SIZE: usize = 2 * NUMBER_SIZE;
-
-// The entry's number in a bin's refusals (document 02, Ticket 2).
+/// The entry's number in a bin's refusals.
 pub const BIN_ENTRY: u64 = 0;
 
-// What Read deletions answers: a refusal, or how many rows are deleted.
-#[derive(Clone, Copy)]
-pub enum Deletions {
-    Refused(Refusal),
-    Deleted(u64),
-}
-
-// What stands at a position of the file where a bin's size is due: the end of the file; a bin, from `start` to `end`, with its checksum right behind it; or
-// bytes that are too short for one. What follows a bin stands behind its checksum.
-#[derive(Clone, Copy)]
-enum NextBin {
-    Short,
-    End,
-    Bin { start: Position, end: Position },
-}
-
-// A part of the file: from `start` to `end`.
-#[derive(Clone, Copy)]
-pub enum Place {
-    Refused(Refusal),
-    At { start: Position, end: Position },
-}
-
-// What comes before a byte of the field is written: a refusal, or the field is cleared.
-#[derive(Clone, Copy)]
-pub enum Prepared {
-    Refused(Refusal),
-    Cleared,
-}
-
-// One step of the walk over the bins.
-fn next_bin(file: &[u8], at: Position) -> NextBin
-    ensures { FindsNext at.0 file.now result }
+// One step of the walk over the bins: the bin at the front of the bytes that are left, and what stands behind its checksum; none at their end. A bin's size counts
+// its bytes alone.
+#[tactic(auto, using(std::proofs::lemmas::Grind::common_steps, crate::proofs::WalkSteps::rest_of), unfolding(refusal::specs::Reading::check, numbers::specs::Meaning::number, crate::specs::Reading::step_to_next_bin))]
+fn next_bin<'a>(left: &'a [u8]) -> Result<Option<(Bin<'a>, &'a [u8])>, Refusal>
+    ensures { FindsNext left.now result }
 {
-    let size_at = at.0;
-    if file.len() <= size_at {
-        return NextBin::End;
+    if left.is_empty() {
+        return Ok(None);
     }
-    let left = file.len() - size_at;
-    if left < NUMBER_SIZE {
-        return NextBin::Short;
+    if left.len() < NUMBER_SIZE {
+        return Err(Refusal::Short);
     }
-    let size = numbers::be::<4>(file, Position(size_at)) as usize;
-    if size < NUMBER_SIZE {
-        return NextBin::Short;
+    let size = numbers::be::<4>(left, Position(0)) as usize;
+    let left = &left[NUMBER_SIZE..];
+    if size < NUMBER_SIZE || left.len() < size + NUMBER_SIZE {
+        return Err(Refusal::Short);
     }
-    if left < size + FRAME_SIZE {
-        return NextBin::Short;
-    }
-    let start = size_at + NUMBER_SIZE;
-    NextBin::Bin {
-        start: Position(start),
-        end: Position(start + size),
-    }
+    let bin = Bin {
+        bytes: &left[..size],
+        sum: numbers::be::<4>(left, Position(size)),
+    };
+    Ok(Some((bin, &left[size + NUMBER_SIZE..])))
 }
 
-// Where the asked bin stands. Every size to the end of the file is walked first.
-fn find_bin(file: &[u8], bin: u64) -> Place
+// The bin of this number, from 0. Every size to the end of the file is walked first.
+fn find_bin<'a>(file: &'a [u8], bin: u64) -> Result<Bin<'a>, Refusal>
     requires { 1 ≤ length file.now }
-    ensures { FindsBin bin file.now result }
+    ensures { BinIs (bin_in bin file.now) result }
 {
-    let mut next: usize = VERSION_SIZE;
-    let mut passed: u64 = 0;
-    let mut found = Place::Refused(Refusal::NoBin);
-    loop {
-        let step = next_bin(file, Position(next));
-        match step {
-            NextBin::Short => return Place::Refused(Refusal::Short),
-            NextBin::End => return found,
-            NextBin::Bin { start, end } => {
-                if passed == bin {
-                    found = Place::At { start, end };
-                }
-                next = end.0 + NUMBER_SIZE;
-                passed = passed + 1;
-            }
+    let mut left = &file[VERSION_SIZE..];
+    let mut number: u64 = 0;
+    let mut found = None;
+    while let Some((next, behind)) = next_bin(left)? {
+        if number == bin {
+            found = Some(next);
         }
+        left = behind;
+        number += 1;
     }
+    found.ok_or(Refusal::NoBin)
 }
 
-// Whether a bin begins with the magic.
+/// Whether a bin begins with the magic.
 pub fn has_magic(bin: &[u8]) -> bool
     requires { number_size ≤ length bin.now }
     ensures { result ≡ begins_with_magic bin.now }
@@ -113,132 +76,101 @@ pub fn has_magic(bin: &[u8]) -> bool
     numbers::be::<4>(bin, Position(0)) == MAGIC
 }
 
-// Whether the stored checksum is that of the whole bin.
+/// Whether the stored checksum is that of the whole bin, its magic too.
 pub fn checksum_holds(bin: &[u8], stored: u64) -> bool
     ensures { result ≡ is_true_checksum bin.now stored }
 {
-    crc32::checksum(bin) as u64 == stored
+    u64::from(crc32::checksum(bin)) == stored
 }
 
-// Where the bytes behind a bin's magic stand, if magic and checksum are right.
-fn open_bin(file: &[u8], start: Position, end: Position) -> Place
-    requires { BinFits start.0 end.0 (length file.now) }
-    ensures { OpensBin start.0 end.0 file.now result }
+// The bytes behind a bin's magic, if magic and checksum are right.
+fn behind_magic<'a>(bin: Bin<'a>) -> Result<&'a [u8], Refusal>
+    ensures { BytesAre (after_magic (plain_of bin.entry)) result }
 {
-    let from = start.0;
-    let to = end.0;
-    let bitmap = from + NUMBER_SIZE;
-    if !has_magic(&file[from..to]) {
-        return Place::Refused(Refusal::Magic);
+    if !has_magic(bin.bytes) {
+        return Err(Refusal::Magic);
     }
-    if !checksum_holds(&file[from..to], numbers::be::<4>(file, Position(to))) {
-        return Place::Refused(Refusal::Checksum);
+    if !checksum_holds(bin.bytes, bin.sum) {
+        return Err(Refusal::Checksum);
     }
-    Place::At {
-        start: Position(bitmap),
-        end,
-    }
+    Ok(&bin.bytes[NUMBER_SIZE..])
 }
 
-// Where the asked bin stands, if the file isn't empty and has version 1.
-pub fn asked_bin(file: &[u8], bin: u64) -> Place
-    ensures { AsksBin bin file.now result }
+/// The bin of this number, from 0, of a file that isn't empty and has version 1. What the bin holds is not looked at.
+pub fn asked_bin<'a>(file: &'a [u8], bin: u64) -> Result<Bin<'a>, Refusal>
+    ensures { BinIs (bin_asked_for bin file.now) result }
 {
-    if file.len() == 0 {
-        return Place::Refused(Refusal::Short);
+    if file.is_empty() {
+        return Err(Refusal::Short);
     }
     if numbers::byte(file, Position(0)) != 1 {
-        return Place::Refused(Refusal::Version);
+        return Err(Refusal::Version);
     }
     find_bin(file, bin)
 }
 
-// Where the bytes stand that are to be the bitmap of the asked bin.
-fn find_bitmap(file: &[u8], bin: u64) -> Place
-    ensures { FindsBitmap bin file.now result }
+// The bytes that are to be the bitmap of the asked bin.
+fn find_bitmap<'a>(file: &'a [u8], bin: u64) -> Result<&'a [u8], Refusal>
+    ensures { BytesAre (bitmap_in bin file.now) result }
 {
-    let place = asked_bin(file, bin);
-    match place {
-        Place::Refused(r) => Place::Refused(r),
-        Place::At { start, end } => open_bin(file, start, end),
-    }
+    let bin = asked_bin(file, bin)?;
+    behind_magic(bin)
+}
+
+/// Measures the bitmap that fills the bytes behind a bin's magic.
+pub fn measure_bitmap(bitmap: &[u8]) -> Result<Shape, Refusal>
+    ensures { result ≡ bitmap_shape bitmap.now }
+{
+    roaring::measure(bitmap, Extent::Exactly(bitmap.len())).map_err(|broken| Refusal::Bitmap {
+        entry: BIN_ENTRY,
+        container: broken.container,
+    })
 }
 
 // Marks the rows of the bitmap that fills the given bytes in a field for `rows` rows that is clear, and counts them. The field is not touched before the bitmap
 // is measured.
-fn mark_bitmap(bitmap: &[u8], rows: u64, field: &mut [u8]) -> Deletions
-    ensures { MarksRows rows (bitmap_marked bitmap.now rows) field.old field.new result }
+fn mark_bitmap(bitmap: &[u8], rows: u64, field: &mut [u8]) -> Result<u64, Refusal>
+    ensures answer { result ≡ counted rows (bitmap_marked bitmap.now rows field.old) }
+    ensures field { field.new ≡ left_by (bitmap_marked bitmap.now rows field.old) field.old }
 {
-    let measured = roaring::measure(bitmap, Extent::Exactly(bitmap.len()));
-    match measured {
-        Measured::Unsound(container) => Deletions::Refused(Refusal::Bitmap {
-            entry: BIN_ENTRY,
-            container,
-        }),
-        Measured::Sound {
-            length: _,
-            rows: _,
-            end,
-        } => {
-            if rows < end {
-                return Deletions::Refused(Refusal::Range { entry: BIN_ENTRY });
-            }
-            roaring_mark::mark(field, bitmap, rows);
-            Deletions::Deleted(row_field::count(field, rows))
-        }
+    let shape = measure_bitmap(bitmap)?;
+    if rows < shape.end {
+        return Err(Refusal::Range { entry: BIN_ENTRY });
     }
+    roaring_mark::mark(field, bitmap, rows);
+    Ok(row_field::count(field, rows))
 }
 
 // Marks the rows of the asked bin in a field for `rows` rows that is clear, and counts them.
-fn mark_bin(file: &[u8], bin: u64, rows: u64, field: &mut [u8]) -> Deletions
-    ensures { MarksRows rows (bin_marked file.now bin rows) field.old field.new result }
+fn mark_bin(file: &[u8], bin: u64, rows: u64, field: &mut [u8]) -> Result<u64, Refusal>
+    ensures answer { result ≡ counted rows (bin_marked file.now bin rows field.old) }
+    ensures field { field.new ≡ left_by (bin_marked file.now bin rows field.old) field.old }
 {
-    let place = find_bitmap(file, bin);
-    match place {
-        Place::Refused(r) => Deletions::Refused(r),
-        Place::At { start, end } => {
-            let from = start.0;
-            let to = end.0;
-            mark_bitmap(&file[from..to], rows, field)
-        }
-    }
+    let bitmap = find_bitmap(file, bin)?;
+    mark_bitmap(bitmap, rows, field)
 }
 
-// Zeroes the field for `rows` rows if the buffer has room for it, and answers whether it has. Without room the buffer stays as it was.
-fn clear_if_room(field: &mut [u8], rows: u64) -> bool
-    ensures { ClearsIfRoom rows field.old field.new result }
-{
-    let room = row_field::has_room(field, rows);
-    if room {
-        row_field::clear(field, rows);
-        return true;
-    }
-    false
-}
-
-// LIMIT of the file's length and of the row count, and ROOM; then the field is cleared.
-pub fn prepare(file: &[u8], rows: u64, field: &mut [u8]) -> Prepared
+/// What comes before a byte of the field is written: the limit of the file's length and of the row count, and room for the rows. Then the field for `rows` rows is
+/// cleared; a refusal leaves the buffer as it was.
+pub fn prepare(file: &[u8], rows: u64, field: &mut [u8]) -> Result<(), Refusal>
     ensures { Prepares file.now rows field.old field.new result }
 {
-    if LIMIT < file.len() as u64 {
-        return Prepared::Refused(Refusal::Limit);
+    if LIMIT < file.len() as u64 || LIMIT < rows {
+        return Err(Refusal::Limit);
     }
-    if LIMIT < rows {
-        return Prepared::Refused(Refusal::Limit);
+    if !row_field::has_room(field, rows) {
+        return Err(Refusal::Room);
     }
-    if !clear_if_room(field, rows) {
-        return Prepared::Refused(Refusal::Room);
-    }
-    Prepared::Cleared
+    row_field::clear(field, rows);
+    Ok(())
 }
 
-// Read deletions: the rows of bin number `bin` of a deletion file are set in the field for `rows` rows, and no others. Bytes behind the field stay.
-pub fn read_deletions(file: &[u8], bin: u64, rows: u64, field: &mut [u8]) -> Deletions
-    ensures { DeletionsPromise file.now bin rows field.old field.new result }
+/// Read deletions: the rows of bin number `bin`, from 0, of a deletion file are set in the field for `rows` rows, and no others; answers how many. Bytes behind the
+/// field stay.
+pub fn read_deletions(file: &[u8], bin: u64, rows: u64, field: &mut [u8]) -> Result<u64, Refusal>
+    ensures answer { result ≡ counted rows (deletions file.now bin rows field.old) }
+    ensures buffer { field.new ≡ deletions_buffer file.now bin rows field.old }
 {
-    let prepared = prepare(file, rows, field);
-    match prepared {
-        Prepared::Refused(r) => Deletions::Refused(r),
-        Prepared::Cleared => mark_bin(file, bin, rows, field),
-    }
+    prepare(file, rows, field)?;
+    mark_bin(file, bin, rows, field)
 }

@@ -30,9 +30,9 @@ use Rattle.deletion_file.specs.Layout.{magic, Bin, bin_bytes}
 use Rattle.deletion_file.specs.Reading.{begins_with_magic, is_true_checksum, after_magic, bin_entry}
 use Rattle.deletion_file.proofs.Accepted.{whole-bitmap}
 use Rattle.deletion_window.specs.declared.Kind.{Kind}
-use Rattle.deletion_window.specs.declared.Kind.TheVariants.{Unknown, Bits32, Bits64}
+use Rattle.deletion_window.specs.declared.Kind.TheVariants.{Bits32, Bits64}
 use Rattle.deletion_window.specs.Layout.{magic64, end_of_all_rows, bin_bytes64, EitherBin, bits_32, bits_64, summed}
-use Rattle.deletion_window.specs.Reading.{rows32, rows64, has_magic64, kind_of, known, rows_behind, rows_of_bin}
+use Rattle.deletion_window.specs.Reading.{rows32, rows64, has_magic64, kind_of, rows_behind, rows_of_bin}
 use Rattle.deletion_window.specs.Claims.{WithMagic}
 use Rattle.refusal.proofs.Only.{Only, check_only, then_only}
 use Rattle.deletion_window.proofs.Bitmaps64.{bitmaps_rise, bytes-bitmaps, bitmaps-read, rows_back, rows_only}
@@ -60,14 +60,14 @@ summed_holds bytes = eq-eqb (checksum bytes) (checksum bytes) refl
 -- behind each magic what lies there is read
 module _ (bytes : List ℕ) where
   pub behind_32 : rows_of_bin (summed (bin_bytes bytes)) ≡ rows32 bytes
-  unfolding rows_of_bin kind_of begins_with_magic known rows_behind check
+  unfolding rows_of_bin kind_of begins_with_magic rows_behind check and_then
   behind_32 = rw (summed_holds (bin_bytes bytes))
 
   pub behind_64 : rows_of_bin (summed (bin_bytes64 bytes)) ≡ rows64 bytes
-  unfolding rows_of_bin kind_of begins_with_magic has_magic64 known rows_behind check
+  unfolding rows_of_bin kind_of begins_with_magic has_magic64 rows_behind check and_then
   behind_64 = rw (summed_holds (bin_bytes64 bytes))
 
-  -- the 64-bit magic is not 01's
+  -- the 64-bit magic is not the 32-bit one
   pub not-magic : (sum : ℕ) → after_magic (record { bytes = bin_bytes64 bytes; sum = sum }) ≡ Err Magic
   unfolding after_magic begins_with_magic check
   not-magic sum = refl
@@ -108,63 +108,68 @@ refused_32 bytes r b = (by (measured (Exactly (length bytes)) bytes) refl, λ w.
     back i e w = rw (not_sound (measured (Exactly (length bytes)) bytes) (sym ((names_the_broken (Exactly (length bytes)) bytes i b).1 w)), e)
 
 -- the kind that two tests say
-kind_32 : (a b : Bool) → cond a Bits32 (cond b Bits64 Unknown) ≡ Bits32 → a ≡ true
+abbrev said : Bool → Bool → Result Kind Refusal
+said a b = cond a (Ok Bits32) (cond b (Ok Bits64) (Err Magic))
+
+kind_32 : (a b : Bool) → said a b ≡ Ok Bits32 → a ≡ true
 kind_32 true b e = refl
 kind_32 false true e = absurd (let z : ◌≡◌ {A = ℕ} 0 1 = cc in omega arith)
 kind_32 false false e = absurd (let z : ◌≡◌ {A = ℕ} 0 1 = cc in omega arith)
 
-kind_64 : (a b : Bool) → cond a Bits32 (cond b Bits64 Unknown) ≡ Bits64 → b ≡ true
+kind_64 : (a b : Bool) → said a b ≡ Ok Bits64 → b ≡ true
 kind_64 true b e = absurd (let z : ◌≡◌ {A = ℕ} 0 1 = cc in omega arith)
 kind_64 false true e = refl
 kind_64 false false e = absurd (let z : ◌≡◌ {A = ℕ} 0 1 = cc in omega arith)
 
 module _ (bytes : List ℕ) (b : Bytes bytes) (h : 4 ≤ length bytes) where
-  begins_32 : kind_of bytes ≡ Bits32 → bytes ≡ bin_bytes (drop 4 bytes)
+  begins_32 : kind_of bytes ≡ Ok Bits32 → bytes ≡ bin_bytes (drop 4 bytes)
   unfolding kind_of begins_with_magic
   begins_32 e =
       number_at_back big 4 bytes b h
       ∙ ap (λ (v : ℕ). be 4 v ++ drop 4 bytes) (eqb-true (be_at 4 bytes 0) magic (kind_32 (begins_with_magic bytes) (has_magic64 bytes) e))
 
-  begins_64 : kind_of bytes ≡ Bits64 → bytes ≡ bin_bytes64 (drop 4 bytes)
+  begins_64 : kind_of bytes ≡ Ok Bits64 → bytes ≡ bin_bytes64 (drop 4 bytes)
   unfolding kind_of has_magic64
   begins_64 e =
       number_at_back little 4 bytes b h
       ∙ ap (λ (v : ℕ). le 4 v ++ drop 4 bytes) (eqb-true (le_at 4 bytes 0) magic64 (kind_64 (begins_with_magic bytes) (has_magic64 bytes) e))
 
-  behind_back : (rows : List ℕ) (k : Kind) → kind_of bytes ≡ k → rows_behind k (drop 4 bytes) ≡ Ok rows → EitherBin rows bytes
+  behind_back : (rows : List ℕ) (k : Kind) → kind_of bytes ≡ Ok k → rows_behind k (drop 4 bytes) ≡ Ok rows → EitherBin rows bytes
   unfolding rows_behind
-  behind_back rows Unknown e f = absurd (not-ok f)
   behind_back rows Bits32 e f = rw (begins_32 e) (bits_32 (bitmap_back (drop 4 bytes) rows (bytes_drop 4 bytes b) f))
   behind_back rows Bits64 e f = rw (begins_64 e) (bits_64 (rows_back (drop 4 bytes) rows (bytes_drop 4 bytes b) f))
 
   -- of neither kind, where no magic stands in front
-  no_kind : (WithMagic bytes → ⊥) → (k : Kind) → kind_of bytes ≡ k → known (kind_of bytes) ≡ false
-  unfolding known
-  no_kind n Unknown e = rw e
-  no_kind n Bits32 e = absurd (n (drop 4 bytes, inl (begins_32 e)))
-  no_kind n Bits64 e = absurd (n (drop 4 bytes, inr (begins_64 e)))
+  no_kind : (WithMagic bytes → ⊥) → kind_of bytes ≡ Err Magic
+  unfolding kind_of
+  no_kind n = go (begins_with_magic bytes) (has_magic64 bytes) refl
+    where
+      go : (a b : Bool) → kind_of bytes ≡ said a b → kind_of bytes ≡ Err Magic
+      go true b e = absurd (n (drop 4 bytes, inl (begins_32 e)))
+      go false true e = absurd (n (drop 4 bytes, inr (begins_64 e)))
+      go false false e = e
 
 pub bin_back : (x : Bin) (rows : List ℕ) → Bytes x.bytes → 4 ≤ length x.bytes → rows_of_bin x ≡ Ok rows → EitherBin rows x.bytes × (x ≡ summed x.bytes)
 unfolding rows_of_bin is_true_checksum
 bin_back x rows b h e =
-    let k = check-ok (known (kind_of x.bytes)) Magic _ _ e in
-    let c = check-ok (is_true_checksum x.bytes x.sum) Checksum _ _ k.1 in
-    (behind_back x.bytes b h rows (kind_of x.bytes) refl c.1, ap (λ (sum : ℕ). record { bytes = x.bytes; sum = sum }) (sym (eqb-true _ _ c.0)))
+    let (kind, is, behind) = then_ok (kind_of x.bytes) _ _ e in
+    let c = check-ok (is_true_checksum x.bytes x.sum) Checksum _ _ behind in
+    (behind_back x.bytes b h rows kind is c.1, ap (λ (sum : ℕ). record { bytes = x.bytes; sum = sum }) (sym (eqb-true _ _ c.0)))
 
 -- ---- the tests of a bin
 
 pub bin-other-magic : (x : Bin) → Bytes x.bytes → 4 ≤ length x.bytes → (WithMagic x.bytes → ⊥) → rows_of_bin x ≡ Err Magic
-unfolding rows_of_bin check
-bin-other-magic x b h n = rw (no_kind x.bytes b h n (kind_of x.bytes) refl)
+unfolding rows_of_bin and_then
+bin-other-magic x b h n = rw (no_kind x.bytes b h n)
 
-with_kind : (bytes rest : List ℕ) → (bytes ≡ bin_bytes rest) ⊎ (bytes ≡ bin_bytes64 rest) → known (kind_of bytes) ≡ true
-unfolding kind_of begins_with_magic has_magic64 known
-with_kind bytes rest (inl e) = rw e
-with_kind bytes rest (inr e) = rw e
+with_kind : (bytes rest : List ℕ) → (bytes ≡ bin_bytes rest) ⊎ (bytes ≡ bin_bytes64 rest) → (k : Kind) × (kind_of bytes ≡ Ok k)
+unfolding kind_of begins_with_magic has_magic64
+with_kind bytes rest (inl e) = (Bits32, rw e)
+with_kind bytes rest (inr e) = (Bits64, rw e)
 
 pub bin-false-checksum : (x : Bin) → WithMagic x.bytes → (checksum x.bytes ≡ x.sum → ⊥) → rows_of_bin x ≡ Err Checksum
-unfolding rows_of_bin is_true_checksum check
-bin-false-checksum x w n = rw (with_kind x.bytes w.0 w.1, ne_eqb (checksum x.bytes) x.sum n)
+unfolding rows_of_bin is_true_checksum check and_then
+bin-false-checksum x w n = let (kind, is) = with_kind x.bytes w.0 w.1 in rw (is, ne_eqb (checksum x.bytes) x.sum n)
 
 -- what holds of MAGIC, of CHECKSUM and of each BITMAP of entry 0 holds of every refusal of a bin
 module _ (P : Refusal → Type 0) (bitmap : (i : ℕ) → P (Refusal.Bitmap 0 i)) where
@@ -180,19 +185,27 @@ module _ (P : Refusal → Type 0) (bitmap : (i : ℕ) → P (Refusal.Bitmap 0 i)
   module _ (magic : P Magic) (checksum : P Checksum) where
     behind_only : (k : Kind) (bytes : List ℕ) → Only P (rows_behind k bytes)
     unfolding rows_behind
-    behind_only Unknown bytes = magic
     behind_only Bits32 bytes = bitmap_only bytes
     behind_only Bits64 bytes = rows_only P (bitmap 0) bytes
 
+    kind_only : (bytes : List ℕ) → Only P (kind_of bytes)
+    unfolding kind_of
+    kind_only bytes = go (begins_with_magic bytes) (has_magic64 bytes)
+      where
+        go : (a b : Bool) → Only P (said a b)
+        go true b = tt
+        go false true = tt
+        go false false = magic
+
     pub bin_only : (x : Bin) → Only P (rows_of_bin x)
     unfolding rows_of_bin
-    bin_only x = search (check_only P, behind_only)
+    bin_only x = search (then_only P, check_only P, kind_only, behind_only)
 
--- ---- 01's reading of a bin
+-- ---- the reading without a window
 
 -- the bytes behind its magic are read alike
 pub magic-or : (x : Bin) (t : Bool) → begins_with_magic x.bytes ≡ t → (after_magic x ≡ Err Magic) ⊎ (rows_of_bin x ≡ and_then (after_magic x) rows32)
-unfolding after_magic rows_of_bin kind_of known rows_behind check and_then
+unfolding after_magic rows_of_bin kind_of rows_behind check and_then
 magic-or x true e = inr (rw e (by (is_true_checksum x.bytes x.sum)))
   where
     by : (c : Bool) → check c Checksum (rows32 (drop 4 x.bytes)) ≡ and_then (check c Checksum (Ok (drop 4 x.bytes))) rows32

@@ -17,8 +17,7 @@ use Rattle.refusal.specs.Claims.{CarriesNothing}
 use Rattle.row_field.specs.Meaning.{size, bit, mark_all, cleared, count}
 use Rattle.row_field.proofs.Marks.{member}
 use Rattle.window.specs.Meaning.{rows_in_window}
-use Rattle.deletion_file.specs.declared.Deletions.TheVariants.{Deleted}
-use Rattle.deletion_file.specs.Reading.{deletions_ready, left_by, deletions_by, bin_asked_for}
+use Rattle.deletion_file.specs.Reading.{deletions_ready, left_by, counted, bin_asked_for}
 use Rattle.deletion_file.proofs.Accepted.{ready_back, deleted_back}
 use Rattle.deletion_file.proofs.CarriesNothing.{asked_bare, ready_bare}
 use Rattle.deletion_window.specs.Layout.{end_of_all_rows, HasRows}
@@ -76,11 +75,11 @@ module _ (file : List ℕ) (b first n : ℕ) (buffer : List ℕ) (a : Allowed fi
 
   -- the rows of a bin that is laid out
   pub answers_so : (rows : List ℕ) → HasRows b rows file → AnswersRows file b first n buffer rows
-  unfolding window_buffer deletions_by left_by
+  unfolding window_buffer counted and_then left_by
   answers_so rows h =
       let e = marked_so rows (laid_rows h) in
       record {
-        answer = rw e (ap Deleted (count_in first n buffer rows a.room end_of_all_rows (bin_rises h.bin)));
+        answer = rw e (ap Ok (count_in first n buffer rows a.room end_of_all_rows (bin_rises h.bin)));
         field = rw e (field_in first n buffer rows a.room);
       }
 
@@ -101,11 +100,11 @@ module _ (file : List ℕ) (b first n : ℕ) (buffer : List ℕ) where
 
   -- the number that is said counts the buffer's rows
   pub deleted_so : {after : List ℕ} → window_deletions file b first n buffer ≡ Ok after
-      → deletions_by n (window_deletions file b first n buffer) ≡ Deleted (count (window_buffer file b first n buffer) n)
-  unfolding window_buffer deletions_by left_by
+      → counted n (window_deletions file b first n buffer) ≡ Ok (count (window_buffer file b first n buffer) n)
+  unfolding window_buffer counted and_then left_by
   deleted_so e = rw e
 
-  pub count_so : {k : ℕ} → deletions_by n (window_deletions file b first n buffer) ≡ Deleted k → count (window_buffer file b first n buffer) n ≡ k
+  pub count_so : {k : ℕ} → counted n (window_deletions file b first n buffer) ≡ Ok k → count (window_buffer file b first n buffer) n ≡ k
   count_so e =
       let (after, is) = deleted_back n (window_deletions file b first n buffer) e in
       let f = deleted_so is in

@@ -1,4 +1,4 @@
--- The files that have a bin of either kind: a bin laid out there is found and read; what is read was laid out; a file for a list of row sets; 01's files.
+-- The files that have a bin of either kind: a bin laid out there is found and read; what is read was laid out; a file for a list of row sets; files and bins of the one kind.
 use Prim.Native.Nat.{ℕ, zero, suc, ◌<◌}
 use mathlib.Core.Path.{◌≡◌, refl, ◌∙◌}
 use mathlib.Core.Logic.{◌⊎◌, inr}
@@ -79,7 +79,7 @@ set-has-rows (version_1 bs) b h =
     let i = set-bin bs b h in
     file-has-rows i.between i.bin (bins_framed bs) refl
 
--- ---- 01's files and bins
+-- ---- files and bins of the one kind
 
 bins-either : {sets : List (List ℕ)} {xs : List Bin} → old.Bins sets xs → EitherBins sets xs
 bins-either old.none = none
@@ -95,7 +95,7 @@ bin-has-rows (old.has-bin earlier later {bitmap = bitmap} m f) =
 pub held_bin : {b : ℕ} {rows bytes f : List ℕ} → old.HoldsBytes b bytes f → Bitmap rows bytes → old.HasBin b rows f
 held_bin (old.holds_bytes earlier later bytes f) m = old.has-bin earlier later m f
 
--- the bytes behind 01's magic are read alike
+-- the bytes behind the 32-bit magic are read alike
 pub as_without : (b : ℕ) (file : List ℕ) → (bitmap_in b file ≡ Err Magic) ⊎ (rows_in b file ≡ and_then (bitmap_in b file) rows32)
 unfolding bitmap_in rows_in and_then
 as_without b file = by (bin_asked_for b file)

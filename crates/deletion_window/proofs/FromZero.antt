@@ -22,7 +22,7 @@ use Rattle.roaring.specs.declared.Extent.TheVariants.{Exactly}
 use Rattle.roaring.specs.Reading.{Parsed, container_of, measured, end_of}
 use Rattle.window.specs.Meaning.{rows_in_window, row_window}
 use Rattle.window.proofs.Windows.{windowed-whole}
-use Rattle.deletion_file.specs.Reading.{bitmap_in, bin_entry, bitmap_marked, bin_marked, deletions_ready, deletions, left_by, deletions_by, deletions_buffer}
+use Rattle.deletion_file.specs.Reading.{bitmap_in, bin_entry, bitmap_marked, bin_marked, deletions_ready, deletions, left_by, counted, deletions_buffer}
 use Rattle.deletion_file.proofs.Accepted.{ready_back}
 use Rattle.deletion_file.specs.Layout.{HasBin}
 use Rattle.deletion_file.proofs.CarriesNothing.{bitmap_bare, ready_bare}
@@ -94,7 +94,7 @@ module _ (file : List ℕ) (b n : ℕ) (buffer : List ℕ) (t : Bytes file) wher
 
   -- rows that are all below n are those of the window
   pub accepted_zero : (marked : List ℕ) → deletions file b n buffer ≡ Ok marked → window_deletions file b 0 n buffer ≡ Ok marked
-  unfolding deletions_buffer deletions_by left_by
+  unfolding deletions_buffer counted and_then left_by
   accepted_zero marked e =
       let c = without.accepted_was_laid_out file b n buffer (count marked n) t (rw e) in
       let rows : List ℕ = c.rows in

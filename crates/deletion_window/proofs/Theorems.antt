@@ -11,15 +11,14 @@ use lib.ListN.{length, get_or}
 use borrow.Author.Tests.{le-leb}
 use Rattle.numbers.specs.Meaning.{be, le}
 use Rattle.refusal.specs.Meaning.{limit}
-use Rattle.std.specs.Prelude.{Err}
+use Rattle.std.specs.Prelude.{Err, Ok}
 use Rattle.refusal.specs.Reading.{check, and_then}
 use Rattle.refusal.specs.declared.Refusal.TheVariants.{Short, Magic, Version, Checksum}
 use Rattle.refusal.proofs.Laws.{then_same}
 use Rattle.row_field.specs.Meaning.{size, bit, count}
 use Rattle.roaring.specs.Layout.{array, Container, GoodContainers, plain, plain-bitmap}
-use Rattle.deletion_file.specs.declared.Deletions.TheVariants.{Deleted}
 use Rattle.deletion_file.specs.Layout.{magic}
-use Rattle.deletion_file.specs.Reading.{bitmap_in, bin_marked, deletions_ready, deletions, deletions_by}
+use Rattle.deletion_file.specs.Reading.{bitmap_in, bin_marked, deletions_ready, deletions, counted}
 use Rattle.deletion_file.proofs.BinSteps.{the_bin}
 use Rattle.deletion_file.proofs.Accepted.{deleted_back, bytes-right}
 use Rattle.deletion_file.proofs.Theorems as without
@@ -136,14 +135,14 @@ module _ (file : List ℕ) (b first n m : ℕ) (whole left right : List ℕ)
       bit_so file b first (n + m) whole a (n + q) (omega arith) ∙ ap (has (rows_in b file)) (sym (add_assoc first n q))
       ∙ sym (bit_so file b (first + n) m right r q h)
 
-  both_counted : (j k : ℕ) → deletions_by n (window_deletions file b first n left) ≡ Deleted j → deletions_by m (window_deletions file b (first + n) m right) ≡ Deleted k
-      → deletions_by (n + m) (window_deletions file b first (n + m) whole) ≡ Deleted (j + k)
+  both_counted : (j k : ℕ) → counted n (window_deletions file b first n left) ≡ Ok j → counted m (window_deletions file b (first + n) m right) ≡ Ok k
+      → counted (n + m) (window_deletions file b first (n + m) whole) ≡ Ok (j + k)
   both_counted j k e f =
       let (after, is) = deleted_back n (window_deletions file b first n left) e in
       let (_, (rows, are)) = accepted_so file b first n left is in
       let c = counts_add (window_buffer file b first (n + m) whole) (window_buffer file b first n left) (window_buffer file b (first + n) m right) n m same_left same-right in
       let d : count (window_buffer file b first (n + m) whole) (n + m) ≡ j + k = omega (arith, c, count_so file b first n left e, count_so file b (first + n) m right f) in
-      deleted_so file b first (n + m) whole (marked_so file b first (n + m) whole a rows are) ∙ ap Deleted d
+      deleted_so file b first (n + m) whole (marked_so file b first (n + m) whole a rows are) ∙ ap Ok d
 
   side_by_side : SideBySide file b first n m whole left right
   side_by_side =

@@ -1,4 +1,4 @@
--- What is claimed of bins of either kind, read through a window (02, Ticket 8). proofs/Theorems proves each.
+-- What is claimed of bins of either kind, read through a window. proofs/Theorems proves each.
 use Rattle.std.specs.Prelude.{ℕ, ◌+◌, ◌<◌, ◌≤◌, ◌≡◌, ◌↔◌, ◌⊎◌, true, List, [], ◌∷◌, ◌++◌, leb, length, drop, get_or, Err, Ok}
 use Rattle.numbers.specs.Meaning.{le, Bytes}
 use Rattle.refusal.specs.Meaning.{limit}
@@ -10,10 +10,9 @@ use Rattle.row_field.specs.Meaning.{size, bit, field_of, Rising}
 use Rattle.window.specs.Meaning.{rows_in_window}
 use Rattle.roaring.specs.declared.Extent.TheVariants.{Exactly}
 use Rattle.roaring.specs.Faults.{Broken}
-use Rattle.deletion_file.specs.declared.Deletions.TheVariants.{Deleted}
 use Rattle.crc32.specs.Meaning.{checksum}
 use Rattle.deletion_file.specs.Layout.{number_size, Bin, DeletionFile, HasBin, bin_bytes}
-use Rattle.deletion_file.specs.Reading.{deletions, deletions_buffer, deletions_by}
+use Rattle.deletion_file.specs.Reading.{deletions, deletions_buffer, counted}
 use Rattle.deletion_window.specs.Layout.{magic64, end_of_all_rows, Bitmaps, bin_bytes64, EitherFile, HasFrame, HasBytes, HasRows}
 use Rattle.deletion_window.specs.Reading.{window_ready, window_deletions, window_buffer}
 
@@ -52,7 +51,7 @@ pub record Allowed (file : List ℕ) (first n : ℕ) (buffer : List ℕ) : Type 
 -- the call answers exactly those of the rows that the window has: how many they are, and exactly they are set in the field for n rows, each counted from the
 -- first; spare bits are 0, and the bytes behind it stay
 pub record AnswersRows (file : List ℕ) (b first n : ℕ) (buffer rows : List ℕ) : Type 0 where
-  pub answer : deletions_by n (window_deletions file b first n buffer) ≡ Deleted (length (rows_in_window first n rows))
+  pub answer : counted n (window_deletions file b first n buffer) ≡ Ok (length (rows_in_window first n rows))
   pub field : window_buffer file b first n buffer ≡ field_of n (rows_in_window first n rows) ++ drop (size n) buffer
 
 -- a bin that is laid out, in either kind, is read through every window, whatever the other bins hold
@@ -66,7 +65,7 @@ LaidOutIsRead =
     (file : List ℕ) (b first n : ℕ) (buffer : List ℕ) (sets : List (List ℕ)) → EitherFile sets file → b < length sets → Allowed file first n buffer
     → AnswersRows file b first n buffer (get_or sets b [])
 
--- every file that 01 lays out is such a file
+-- every file whose bins are all 32-bit ones is such a file
 abbrev pub OldFileIsEither : Type 0
 OldFileIsEither = (file : List ℕ) (sets : List (List ℕ)) → DeletionFile sets file → EitherFile sets file
 
@@ -80,7 +79,7 @@ pub record Accepted (file : List ℕ) (b first n : ℕ) (buffer : List ℕ) : Ty
 
 abbrev pub AcceptedWasLaidOut : Type 0
 AcceptedWasLaidOut =
-    (file : List ℕ) (b first n : ℕ) (buffer : List ℕ) (k : ℕ) → Bytes file → deletions_by n (window_deletions file b first n buffer) ≡ Deleted k
+    (file : List ℕ) (b first n : ℕ) (buffer : List ℕ) (k : ℕ) → Bytes file → counted n (window_deletions file b first n buffer) ≡ Ok k
     → Accepted file b first n buffer
 
 -- a file whose first byte is not 1 is VERSION, unless LIMIT, ROOM or SHORT comes first: it yields no rows
@@ -113,7 +112,7 @@ Faulty64 =
     (file : List ℕ) (b first n : ℕ) (buffer bytes : List ℕ) (r : Refusal) → Bytes file → HasBytes b (bin_bytes64 bytes) file → Allowed file first n buffer
     → (window_deletions file b first n buffer ≡ Err r) ↔ ((r ≡ Bitmap 0 0) × ((rows : List ℕ) → Bitmaps rows bytes → ⊥))
 
--- "A 32-bit bin read through a window follows the same rule, containers by Ticket 2": BITMAP names the container that is broken, and nothing else is refused
+-- "A 32-bit bin read through a window follows the same rule": BITMAP names the container that is broken, and nothing else is refused
 abbrev pub Faulty32 : Type 0
 Faulty32 =
     (file : List ℕ) (b first n : ℕ) (buffer bytes : List ℕ) (r : Refusal) → Bytes file → HasBytes b (bin_bytes bytes) file → Allowed file first n buffer
@@ -144,7 +143,7 @@ pub record AsWithoutWindow (file : List ℕ) (b n : ℕ) (buffer : List ℕ) : T
 abbrev pub FromRowZero : Type 0
 FromRowZero = (file : List ℕ) (b n : ℕ) (buffer : List ℕ) → Bytes file → AsWithoutWindow file b n buffer
 
--- "01's call without a window still refuses a 64-bit bin as MAGIC", also where its checksum or what lies behind the magic is wrong
+-- the call without a window "still refuses a 64-bit bin as MAGIC", also where its checksum or what lies behind the magic is wrong
 abbrev pub WithoutWindowIsMagic : Type 0
 WithoutWindowIsMagic =
     (file : List ℕ) (b n : ℕ) (buffer bytes : List ℕ) (sum : ℕ) → HasFrame b (record { bytes = bin_bytes64 bytes; sum = sum }) file → length file ≤ limit → n ≤ limit
@@ -160,8 +159,8 @@ pub record SideBySide (file : List ℕ) (b first n m : ℕ) (whole left right : 
   pub rows_left : (r : ℕ) → r < n → bit (window_buffer file b first (n + m) whole) r ≡ bit (window_buffer file b first n left) r
   pub rows_right : (r : ℕ) → r < m → bit (window_buffer file b first (n + m) whole) (n + r) ≡ bit (window_buffer file b (first + n) m right) r
   -- and the numbers of rows add up
-  pub counts : (j k : ℕ) → deletions_by n (window_deletions file b first n left) ≡ Deleted j → deletions_by m (window_deletions file b (first + n) m right) ≡ Deleted k
-      → deletions_by (n + m) (window_deletions file b first (n + m) whole) ≡ Deleted (j + k)
+  pub counts : (j k : ℕ) → counted n (window_deletions file b first n left) ≡ Ok j → counted m (window_deletions file b (first + n) m right) ≡ Ok k
+      → counted (n + m) (window_deletions file b first (n + m) whole) ≡ Ok (j + k)
 
 abbrev pub TwoWindows : Type 0
 TwoWindows =

@@ -1,4 +1,4 @@
--- What a writer may lay out for a set of rows below 2 ^ 63 in a 64-bit bin (02, Ticket 8), and for sets of rows in a file whose bins are of either kind. His choices
+-- What a writer may lay out for a set of rows below 2 ^ 63 in a 64-bit bin, and for sets of rows in a file whose bins are of either kind. His choices
 -- are which indexes have a bitmap, besides those that have rows, each bitmap's form, and each bin's kind. Rows are a list; that it rises strictly and is below
 -- 2 ^ 63 follows from the rules (the claim `RowsRise`).
 use Rattle.std.specs.Prelude.{ℕ, ◌+◌, ◌*◌, ◌^◌, ◌<◌, ◌≤◌, List, [], ◌∷◌, ◌++◌, length}
@@ -63,7 +63,7 @@ pub data Bitmaps : List ℕ → List ℕ → Type 0 where
 abbrev pub bin_bytes64 : List ℕ → List ℕ
 bin_bytes64 bytes = le number_size magic64 ++ bytes
 
--- a bin's bytes hold the rows: 01's bin, or a 64-bit one
+-- a bin's bytes hold the rows: a 32-bit bin, or a 64-bit one
 pub data EitherBin : List ℕ → List ℕ → Type 0 where
   bits_32 : {rows bitmap : List ℕ} → Bitmap rows bitmap → EitherBin rows (bin_bytes bitmap)
   bits_64 : {rows bytes : List ℕ} → Bitmaps rows bytes → EitherBin rows (bin_bytes64 bytes)
@@ -78,7 +78,7 @@ pub data EitherBins : List (List ℕ) → List Bin → Type 0 where
   more : {rows bytes : List ℕ} {sets : List (List ℕ)} {xs : List Bin} → EitherBin rows bytes → length bytes < 256 ^ number_size
       → EitherBins sets xs → EitherBins (rows ∷ sets) (summed bytes ∷ xs)
 
--- 01: "Version 1 (one byte), then to the end" the bins
+-- "Version 1 (one byte), then to the end" the bins
 pub data EitherFile : List (List ℕ) → List ℕ → Type 0 where
   version_1 : {sets : List (List ℕ)} {xs : List Bin} → EitherBins sets xs → EitherFile sets (1 ∷ frames xs)
 

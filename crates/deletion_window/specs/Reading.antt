@@ -1,6 +1,6 @@
--- What reading a bin through a window answers for any bytes, and what the buffer holds then (02, Ticket 8). The stages stand in 01's order, without RANGE: LIMIT,
+-- What reading a bin through a window answers for any bytes, and what the buffer holds then ("a first row and a window length n"). The stages stand in the order of Read deletions, without RANGE: LIMIT,
 -- ROOM, SHORT for an empty file, VERSION, the walk over all sizes, NOBIN, MAGIC, CHECKSUM, BITMAP.
-use Rattle.std.specs.Prelude.{ℕ, zero, suc, ◌+◌, ◌*◌, Bool, true, false, cond, List, [], ◌++◌, eqb, leb, ltb, length, drop, Result, Err, Ok}
+use Rattle.std.specs.Prelude.{ℕ, zero, suc, ◌+◌, ◌*◌, Bool, cond, List, [], ◌++◌, eqb, leb, ltb, length, drop, Result, Err, Ok}
 use Rattle.numbers.specs.Meaning.{le_at, little, number}
 use Rattle.refusal.specs.Reading.{check, and_then, refused_as}
 use Rattle.refusal.specs.declared.Refusal.{Refusal}
@@ -12,7 +12,7 @@ use Rattle.roaring.specs.Reading.{container_of, read, measured}
 use Rattle.deletion_file.specs.Layout.{number_size, Bin}
 use Rattle.deletion_file.specs.Reading.{bin_asked_for, begins_with_magic, is_true_checksum, bin_entry, deletions_ready, left_by}
 use Rattle.deletion_window.specs.declared.Kind.{Kind}
-use Rattle.deletion_window.specs.declared.Kind.TheVariants.{Unknown, Bits32, Bits64}
+use Rattle.deletion_window.specs.declared.Kind.TheVariants.{Bits32, Bits64}
 use Rattle.deletion_window.specs.Layout.{magic64, count_size, index_size, index_end, index_rows, end_of_all_rows}
 
 -- ---- the rows behind a 64-bit magic
@@ -45,7 +45,7 @@ rows64 bytes = number little count_size (Err wrong) bytes (λ count s. bitmaps_i
 
 -- ---- the rows of a bin of either kind
 
--- behind 01's magic, "one bitmap filling the rest": BITMAP, "containers by Ticket 2"
+-- behind the 32-bit magic, "one bitmap filling the rest": BITMAP, with the container that is broken
 unfoldable pub rows32 : List ℕ → Result (List ℕ) Refusal
 rows32 bytes =
     and_then (refused_as (λ why. Bitmap bin_entry (container_of why)) (measured (Exactly (length bytes)) bytes)) (λ p. Ok p.rows)
@@ -54,27 +54,21 @@ rows32 bytes =
 unfoldable pub has_magic64 : List ℕ → Bool
 has_magic64 bytes = eqb (le_at number_size bytes 0) magic64
 
--- the kind that a bin's magic says
-unfoldable pub kind_of : List ℕ → Kind
-kind_of bytes = cond (begins_with_magic bytes) Bits32 (cond (has_magic64 bytes) Bits64 Unknown)
-
-unfoldable pub known : Kind → Bool
-known Unknown = false
-known Bits32 = true
-known Bits64 = true
+-- the kind that a bin's magic says: MAGIC, where it is neither
+unfoldable pub kind_of : List ℕ → Result Kind Refusal
+kind_of bytes = cond (begins_with_magic bytes) (Ok Bits32) (cond (has_magic64 bytes) (Ok Bits64) (Err Magic))
 
 -- the rows that the bytes behind a magic list
 unfoldable pub rows_behind : Kind → List ℕ → Result (List ℕ) Refusal
-rows_behind Unknown bytes = Err Magic
 rows_behind Bits32 bytes = rows32 bytes
 rows_behind Bits64 bytes = rows64 bytes
 
--- the rows of a bin: MAGIC, where it is neither; CHECKSUM; BITMAP
+-- the rows of a bin: MAGIC; CHECKSUM; BITMAP
 unfoldable pub rows_of_bin : Bin → Result (List ℕ) Refusal
 rows_of_bin x =
-    check (known (kind_of x.bytes)) Magic
-    (check (is_true_checksum x.bytes x.sum) Checksum
-    (rows_behind (kind_of x.bytes) (drop number_size x.bytes)))
+    and_then (kind_of x.bytes) (λ kind.
+    check (is_true_checksum x.bytes x.sum) Checksum
+    (rows_behind kind (drop number_size x.bytes)))
 
 -- the rows of bin b of a file: SHORT, VERSION, the walk, NOBIN come first
 unfoldable pub rows_in : ℕ → List ℕ → Result (List ℕ) Refusal

@@ -1,38 +1,36 @@
 -- The reading of a dictionary's first fields and of null's entry, by the code's steps.
 use Prim.Native.Nat.{ℕ, zero, suc, ◌+◌, ◌-◌, ◌≤◌, ◌<◌}
-use mathlib.Core.Path.{◌≡◌, refl, sym, ◌∙◌}
-use mathlib.Core.Logic.{◌⊎◌, ⊎_elim}
+use mathlib.Core.Path.{◌≡◌, refl, sym, ap, ◌∙◌}
+use mathlib.Core.Logic.{◌⊎◌, ⊎_elim, inl, inr}
 use mathlib.Core.Bool.{Bool, true, false, ◌||◌, cond}
 use mathlib.Core.List.{List, []}
 use native.Mathlib.Nat.{zero-add, add-zero}
 use native.Mathlib.Omega.{arith}
+use native.Mathlib.Decide.{dec_lt, ℕ_discrete}
 use lib.Dec.{eqb, ltb, leb}
 use lib.IntN.{ℤ}
 use lib.ListN.{length, get_or, drop, length-append}
 use mir.Syntax.{w32}
-use mir.Val.{SFits, to_z, of_z}
-use mir.Facts.{to_z-of_z}
-use borrow.Author.Tests.{le-leb, lt-leb, lt-ltb, le-ltb, ne_eqb}
+use mir.Val.{to_z, of_z}
+use borrow.Author.Tests.{le-leb, lt-leb, lt-ltb, le-ltb, eq-eqb, ne_eqb, eqb-true, eqb-false}
 use Rattle.numbers.specs.Meaning.{big, be_at, number, signed32, sign_bit, minus_one_32}
 use Rattle.stored_value.specs.Meaning.{types}
 use Rattle.refusal.specs.Meaning.{limit}
 use Rattle.refusal.specs.declared.Refusal.{Refusal}
 use Rattle.refusal.specs.declared.Refusal.TheVariants.{Short, Version, Dict, Literal, Limit}
-use Rattle.std.specs.Prelude.{Result, Err}
+use Rattle.std.specs.Prelude.{Result, Err, Ok, Option, Some}
 use Rattle.refusal.specs.Reading.{check, numbers_of}
+use Rattle.refusal.proofs.Laws.{not-ok, ok_same}
 use Rattle.numbers.specs.declared.Position.{Position}
-use Rattle.dictionary.specs.declared.Cursor.{Cursor}
 use Rattle.dictionary.specs.declared.Summary.{Summary}
-use Rattle.dictionary.specs.declared.Checked.{Checked}
-use Rattle.dictionary.specs.declared.Null.{Null}
-use Rattle.dictionary.specs.declared.Fixed.{Fixed}
+use Rattle.dictionary.specs.declared.Version.{Version as Layouts}
+use Rattle.dictionary.specs.declared.Version.TheVariants.{One, Two}
+use Rattle.dictionary.specs.declared.Front.{Front}
+use Rattle.dictionary.specs.declared.NullEntry.{NullEntry}
 use Rattle.dictionary.specs.declared.AllEntries.{AllEntries}
-use Rattle.dictionary.specs.declared.Count.{Count}
-use Rattle.dictionary.specs.declared.Count.TheVariants.{Is}
-use Rattle.dictionary.specs.declared.Fixed.TheVariants.{Fields}
 use Rattle.dictionary.specs.Layout.{most_values1, most_values2}
 use Rattle.dictionary.specs.Reading.{Dictionary, count_at_most, null_of, entries_version_one, blocked, dictionary}
-use Rattle.dictionary.specs.Promises.{AfterEntries, AfterCount, pattern, nulls, nulls_of, IsRead, ReadsDictionary, CountAt, NullAt, entries_of, FixedOf, AllEntriesAt}
+use Rattle.dictionary.specs.Promises.{is_two, version_of, value_limit, AfterEntries, AfterCount, pattern, nulls, nulls_of, IsRead, ReadsDictionary, CountAt, NullAt, entries_of, FixedOf, AllEntriesAt}
 use Rattle.dictionary.proofs.Offsets.{pattern_passed}
 use Rattle.dictionary.proofs.Steps.{word_at, word_short}
 
@@ -62,14 +60,10 @@ module _ (most : ℕ) (s : List ℕ) (p : ℕ) where
 
 -- ---- null's entry
 
--- what is said of a dictionary without null's entry, where there is one
-pub has_one : {has : Bool} {P : Type 0} → has ≡ true → has ≡ false → P
-has_one y n = absurd (let z : ◌≡◌ {A = ℕ} 0 1 = cc in omega arith)
-
 module _ (s : List ℕ) (p : ℕ) (version2 : Bool) {has : Bool} where
-  pub null-none : has ≡ false → (o : ℤ) (x : ℕ) (f : AfterEntries) → null_of version2 has (drop p s) f ≡ f (nulls has o x) (drop p s)
+  pub null-none : has ≡ false → (f : AfterEntries) → null_of version2 has (drop p s) f ≡ f [] (drop p s)
   unfolding null_of
-  null-none n o x f = rw n
+  null-none n f = rw n
 
   module _ (y : has ≡ true) where
     pub null-short : length s - p < 4 → (f : AfterEntries) → null_of version2 has (drop p s) f ≡ Err Short
@@ -84,7 +78,7 @@ module _ (s : List ℕ) (p : ℕ) (version2 : Bool) {has : Bool} where
       e : pattern (to_z w32 (of_z w32 z)) ≡ be_at 4 s p
       e = pattern_passed (be_at 4 s p) o i
 
-      pub null-one : version2 ≡ false → (f : AfterEntries) → null_of version2 has (drop p s) f ≡ f (nulls has (to_z w32 (of_z w32 z)) minus_one_32) (drop (p + 4) s)
+      pub null-one : version2 ≡ false → (f : AfterEntries) → null_of version2 has (drop p s) f ≡ f (nulls (Some (record { offset = to_z w32 (of_z w32 z); extent = minus_one_32 }))) (drop (p + 4) s)
       unfolding null_of
       null-one w f = rw (y, w, e) (word_at 4 s p _ h)
 
@@ -94,7 +88,7 @@ module _ (s : List ℕ) (p : ℕ) (version2 : Bool) {has : Bool} where
         null-cut l f = rw (y, w) (word_at 4 s p _ h ∙ word_short 4 s (p + 4) _ l)
 
         pub null-two : p + 4 + 4 ≤ length s → {m : ℕ} → m ≡ be_at 4 s (p + 4) → (f : AfterEntries)
-            → null_of version2 has (drop p s) f ≡ f (nulls has (to_z w32 (of_z w32 z)) m) (drop (p + 4 + 4) s)
+            → null_of version2 has (drop p s) f ≡ f (nulls (Some (record { offset = to_z w32 (of_z w32 z); extent = m }))) (drop (p + 4 + 4) s)
         unfolding null_of
         null-two l d f = rw (y, w, e, d) (word_at 4 s p _ h ∙ word_at 4 s (p + 4) _ l)
 
@@ -103,17 +97,44 @@ module _ (s : List ℕ) (p : ℕ) (version2 : Bool) {has : Bool} where
 pub byte_at : (s : List ℕ) (p : ℕ) → be_at 1 s p ≡ get_or s p 0
 byte_at s p = simp (zero-add, add-zero)
 
--- what follows a version v
-abbrev opened : ℕ → ℕ → List ℕ → Result Dictionary Refusal
-opened t v s =
-    count_at_most limit s (λ rows s. count_at_most (cond (eqb v 2) most_values2 most_values1) s (λ n s.
-    number big 1 (Err Short) s (λ h s. check (leb h 1) Dict (null_of (eqb v 2) (eqb h 1) s (λ ns s. entries_of (eqb v 2) t rows n ns s)))))
+-- whether there is a first byte, by the code's test
+
+pub none_there : (n : ℕ) {b : Bool} → b ≡ eqb n 0 → b ≡ true → n < 1
+none_there n g h = let z : n ≡ 0 = eqb-true n 0 (sym g ∙ h) in omega arith
+
+pub some_there : (n : ℕ) {b : Bool} → b ≡ eqb n 0 → b ≡ false → 1 ≤ n
+some_there n g h = let z : n ≡ 0 → ⊥ = eqb-false n 0 (sym g ∙ h) in omega arith
+
+-- the version that it says
+
+version_err : (v : ℕ) {r : Refusal} → version_of v ≡ Err r → (Version ≡ r) × ((v < 1) ⊎ (2 < v))
+version_err v {r} h = by (ℕ_discrete v 1) (ℕ_discrete v 2) (dec_lt v 1)
+  where
+    by : Dec (v ≡ 1) → Dec (v ≡ 2) → Dec (v < 1) → (Version ≡ r) × ((v < 1) ⊎ (2 < v))
+    by (yes a) b d = absurd (not-ok (sym (rw (eq-eqb v 1 a) at h)))
+    by (no a) (yes b) d = absurd (not-ok (sym (rw (ne_eqb v 1 a, eq-eqb v 2 b) at h)))
+    by (no a) (no b) (yes l) = let e = rw (ne_eqb v 1 a, ne_eqb v 2 b) at h in (cc e, inl l)
+    by (no a) (no b) (no l) = let e = rw (ne_eqb v 1 a, ne_eqb v 2 b) at h in (cc e, inr (omega arith))
+
+version_ok : (v : ℕ) {w : Layouts} → version_of v ≡ Ok w → (1 ≤ v) × (v ≤ 2) × (eqb v 2 ≡ is_two w)
+version_ok v {w} h = by (ℕ_discrete v 1) (ℕ_discrete v 2)
+  where
+    by : Dec (v ≡ 1) → Dec (v ≡ 2) → (1 ≤ v) × (v ≤ 2) × (eqb v 2 ≡ is_two w)
+    by (yes a) b = let e = ok_same One w (rw (eq-eqb v 1 a) at h) in (omega arith, omega arith, rw (ne_eqb v 2 (λ q. omega arith), ← e))
+    by (no a) (yes b) = let e = ok_same Two w (rw (ne_eqb v 1 a, eq-eqb v 2 b) at h) in (omega arith, omega arith, rw (eq-eqb v 2 b, ← e))
+    by (no a) (no b) = absurd (not-ok (rw (ne_eqb v 1 a, ne_eqb v 2 b) at h))
+
+-- what follows a version
+abbrev opened : ℕ → Bool → List ℕ → Result Dictionary Refusal
+opened t version2 s =
+    count_at_most limit s (λ rows s. count_at_most (value_limit version2) s (λ n s.
+    number big 1 (Err Short) s (λ h s. check (leb h 1) Dict (null_of version2 (eqb h 1) s (λ ns s. entries_of version2 t rows n ns s)))))
 
 known : (t v : ℕ) (s : List ℕ) → 1 ≤ v → v ≤ 2 → check (eqb v 1 || eqb v 2) Version
     (count_at_most limit s (λ rows s. count_at_most (cond (eqb v 1) most_values1 most_values2) s (λ n s.
     number big 1 (Err Short) s (λ has_null_byte s. check (leb has_null_byte 1) Dict
     (null_of (eqb v 2) (eqb has_null_byte 1) s (λ nulls s.
-    cond (eqb v 1) (entries_version_one t rows n nulls [] s) (blocked t rows n nulls s))))))) ≡ opened t v s
+    cond (eqb v 1) (entries_version_one t rows n nulls [] s) (blocked t rows n nulls s))))))) ≡ opened t (eqb v 2) s
 unfolding check
 known t zero s l m = absurd (omega arith)
 known t (suc zero) s l m = refl
@@ -134,77 +155,73 @@ module _ (s : List ℕ) where
     unfolding dictionary check
     versioned t k = let b : be_at 1 s 0 ≡ v = byte_at s 0 ∙ sym e in rw (lt-ltb t types k) (word_at 1 s 0 _ l ∙ simp b)
 
-    pub fixed_version : (v < 1) ⊎ (2 < v) → (t : ℕ) → t < types → dictionary t s ≡ Err Version
+    pub fixed_version : {r : Refusal} → version_of v ≡ Err r → (t : ℕ) → t < types → dictionary t s ≡ Err r
     unfolding check
-    fixed_version h t k = versioned t k ∙ simp (ne_eqb v 1 (λ q. ⊎_elim (λ w. omega arith) (λ w. omega arith) h), ne_eqb v 2 (λ q. ⊎_elim (λ w. omega arith) (λ w. omega arith) h))
+    fixed_version g t k =
+        let (y, h) = version_err v g in
+        versioned t k ∙ simp (ne_eqb v 1 (λ q. ⊎_elim (λ w. omega arith) (λ w. omega arith) h), ne_eqb v 2 (λ q. ⊎_elim (λ w. omega arith) (λ w. omega arith) h)) (ap Err y)
 
-    module _ (lo : 1 ≤ v) (hi : v ≤ 2) where
-      pub fixed_opened : (t : ℕ) → t < types → dictionary t s ≡ opened t v (drop 1 s)
-      fixed_opened t k = versioned t k ∙ known t v (drop 1 s) lo hi
+    module _ {w : Layouts} (g : version_of v ≡ Ok w) where
+      two : eqb v 2 ≡ is_two w
+      two = (version_ok v g).2
 
-      pub fixed_rows : {r : Refusal} → CountAt limit s 1 (Count.Refused r) → (t : ℕ) → t < types → dictionary t s ≡ Err r
+      pub fixed_opened : (t : ℕ) → t < types → dictionary t s ≡ opened t (is_two w) (drop 1 s)
+      fixed_opened t k = rw (← two) (versioned t k ∙ known t v (drop 1 s) (version_ok v g).0 (version_ok v g).1)
+
+      pub fixed_rows : {r : Refusal} → CountAt limit s 1 (Err r) → (t : ℕ) → t < types → dictionary t s ≡ Err r
       fixed_rows q t k = fixed_opened t k ∙ q _
 
-      module _ {rows m : ℕ} (R : CountAt limit s 1 (Is rows)) (M : m ≡ cond (eqb v 2) most_values2 most_values1) where
-        pub fixed_values : {r : Refusal} → CountAt m s 5 (Count.Refused r) → (t : ℕ) → t < types → dictionary t s ≡ Err r
+      module _ {rows m : ℕ} (R : CountAt limit s 1 (Ok rows)) (M : m ≡ value_limit (is_two w)) where
+        pub fixed_values : {r : Refusal} → CountAt m s 5 (Err r) → (t : ℕ) → t < types → dictionary t s ≡ Err r
         fixed_values q t k = fixed_opened t k ∙ R.0 _ ∙ rw M at q _
 
-        module _ {n : ℕ} (N : CountAt m s 5 (Is n)) where
-          numbered : (t : ℕ) → t < types → dictionary t s ≡ number big 1 (Err Short) (drop 9 s) (λ h s. check (leb h 1) Dict (null_of (eqb v 2) (eqb h 1) s (λ ns s. entries_of (eqb v 2) t rows n ns s)))
+        module _ {n : ℕ} (N : CountAt m s 5 (Ok n)) where
+          numbered : (t : ℕ) → t < types → dictionary t s ≡ number big 1 (Err Short) (drop 9 s) (λ h s. check (leb h 1) Dict (null_of (is_two w) (eqb h 1) s (λ ns s. entries_of (is_two w) t rows n ns s)))
           numbered t k = fixed_opened t k ∙ R.0 _ ∙ (rw M at N).0 _
 
           pub fixed_short : length s < 10 → (t : ℕ) → t < types → dictionary t s ≡ Err Short
           fixed_short h t k = numbered t k ∙ word_short 1 s 9 _ (omega arith)
 
-          module _ (r : 10 ≤ length s) {h : ℕ} (g : h ≡ get_or s 9 0) where
-            flagged : (t : ℕ) → t < types → dictionary t s ≡ check (leb h 1) Dict (null_of (eqb v 2) (eqb h 1) (drop 10 s) (λ ns s. entries_of (eqb v 2) t rows n ns s))
-            flagged t k = let b : be_at 1 s 9 ≡ h = byte_at s 9 ∙ sym g in numbered t k ∙ word_at 1 s 9 _ r ∙ simp b
+          module _ (r : 10 ≤ length s) {h : ℕ} (x : h ≡ get_or s 9 0) where
+            flagged : (t : ℕ) → t < types → dictionary t s ≡ check (leb h 1) Dict (null_of (is_two w) (eqb h 1) (drop 10 s) (λ ns s. entries_of (is_two w) t rows n ns s))
+            flagged t k = let b : be_at 1 s 9 ≡ h = byte_at s 9 ∙ sym x in numbered t k ∙ word_at 1 s 9 _ r ∙ simp b
 
             pub fixed_wrong : 1 < h → (t : ℕ) → t < types → dictionary t s ≡ Err Dict
             unfolding check
-            fixed_wrong w t k = flagged t k ∙ simp (lt-leb h 1 w)
+            fixed_wrong l t k = flagged t k ∙ simp (lt-leb h 1 l)
 
-            pub fixed_fields_lem : h ≤ 1 → FixedOf s (Fields (eqb v 2) (eqb h 1) rows n)
+            pub fixed_fields_lem : h ≤ 1 → FixedOf s (Ok (record { version = w; has_null = eqb h 1; rows = rows; values = n }))
             unfolding check
-            fixed_fields_lem w = (λ t k. flagged t k ∙ simp (le-leb h 1 w), r, rw e, rw M at N.2)
+            fixed_fields_lem l = (λ t k. flagged t k ∙ simp (le-leb h 1 l), r, rw (← two, e), rw M at N.2)
 
 -- ---- the whole, by its fields, null's entry and its entries
 
-pub by_two : (t n : ℕ) (s : List ℕ) (at : ℕ) (version2 : Bool) (r : AllEntries) → version2 ≡ true → AllEntriesAt true t n s at r → AllEntriesAt version2 t n s at r
-by_two t n s at version2 r h w = rw h w
-
-pub by_one : (t n : ℕ) (s : List ℕ) (at : ℕ) (version2 : Bool) (r : AllEntries) → version2 ≡ false → AllEntriesAt false t n s at r → AllEntriesAt version2 t n s at r
-by_one t n s at version2 r h w = rw h w
-
 module _ (t : ℕ) (s : List ℕ) where
-  pub refused_so : {r : Refusal} → dictionary t s ≡ Err r → ReadsDictionary t s (Checked.Refused r)
+  pub refused_so : {r : Refusal} → dictionary t s ≡ Err r → ReadsDictionary t s (Err r)
   unfolding numbers_of
   refused_so e = record { answer = e; numbers = rw e }
 
-  pub read_unknown : types ≤ t → ReadsDictionary t s (Checked.Refused Literal)
+  pub read_unknown : types ≤ t → ReadsDictionary t s (Err Literal)
   unfolding dictionary check
   read_unknown h = refused_so (rw (le-ltb t types h))
 
-  found_so : (h : Summary) → IsRead t s h → ReadsDictionary t s (Checked.Found h)
+  found_so : (h : Summary) → IsRead t s h → ReadsDictionary t s (Ok h)
   unfolding numbers_of
   found_so h d = record { answer = d; numbers = rw (d.so, length-append (nulls_of h) d.entries, d.summary.many) }
 
-  module _ (k : t < types) {x : Fixed} {version2 has : Bool} {rows values : ℕ} (e : x ≡ Fixed.Fields version2 has rows values) (f : FixedOf s x) {y : Null} (n : NullAt version2 has s 10 y) where
-    pub read-null : {r : Refusal} → y ≡ Null.Refused r → ReadsDictionary t s (Checked.Refused r)
-    read-null g = refused_so ((rw e at f).0 t k ∙ (rw g at n) _)
+  module _ (k : t < types) (h : Front) (f : FixedOf s (Ok h)) where
+    pub read-null : {r : Refusal} → NullAt (is_two h.version) h.has_null s 10 (Err r) → ReadsDictionary t s (Err r)
+    read-null n = refused_so (f.0 t k ∙ n _)
 
-    module _ {offset : ℤ} {extent : ℕ} {next : Position} (g : y ≡ Null.Numbers offset extent next) {z : AllEntries} (w : AllEntriesAt version2 t values s next.0 z) where
-      pub read_refused : {r : Refusal} → z ≡ AllEntries.Refused r → ReadsDictionary t s (Checked.Refused r)
-      read_refused h = refused_so ((rw e at f).0 t k ∙ (rw g at n).0 _ ∙ (rw h at w) rows (nulls has offset extent))
+    module _ (n : Option NullEntry) {next : Position} (x : NullAt (is_two h.version) h.has_null s 10 (Ok (n, next))) where
+      pub read_refused : {r : Refusal} → AllEntriesAt (is_two h.version) t h.values s next.0 (Err r) → ReadsDictionary t s (Err r)
+      read_refused z = refused_so (f.0 t k ∙ x.0 _ ∙ z h.rows (nulls n))
 
-      pub read_found : {first : Cursor} {region : Position} → SFits w32 offset → z ≡ AllEntries.Sound first region → ReadsDictionary t s
-          (Checked.Found (record { rows = rows; values = values; version2 = version2; has_null = has; null_offset = to_z w32 (of_z w32 offset); null_extent = extent; first = first; region = region }))
-      read_found fit h =
-          let v = rw h at w in
-          rw (to_z-of_z fit)
-          (found_so _ (record {
-            entries = v.0;
-            so = (rw e at f).0 t k ∙ (rw g at n).0 _ ∙ v.1 rows (nulls has offset extent);
-            summary =
-                record { many = v.2; stand = v.3; left = v.4; start = v.5; region = v.6; version = (rw e at f).2; zeros = (rw g at n).2 };
-          }))
+      pub read_found : {a : AllEntries} → AllEntriesAt (is_two h.version) t h.values s next.0 (Ok a)
+          → ReadsDictionary t s (Ok (record { rows = h.rows; values = h.values; version = h.version; null = n; first = a.first; region = a.region }))
+      read_found z =
+          found_so _ (record {
+            entries = z.0;
+            so = f.0 t k ∙ x.0 _ ∙ z.1 h.rows (nulls n);
+            summary = record { many = z.2; stand = z.3; left = z.4; start = z.5; region = z.6; version = f.2 };
+          })

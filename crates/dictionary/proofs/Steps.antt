@@ -8,21 +8,16 @@ use lib.Dec.{eqb, leb}
 use lib.ListN.{length, drop, length-drop}
 use lib.Seq.{drop-drop}
 use borrow.Author.Tests.{leb-true, leb-false, ne_eqb}
-use Rattle.numbers.specs.Meaning.{big, be_at, number, position}
+use Rattle.numbers.specs.Meaning.{big, be_at, number}
 use Rattle.numbers.proofs.Laws.{number_at_lem, number_short, number_at-drop}
 use Rattle.refusal.specs.declared.Refusal.{Refusal}
 use Rattle.refusal.specs.declared.Refusal.TheVariants.{Short, Dict}
 use Rattle.std.specs.Prelude.{Result, Err, Ok}
 use Rattle.refusal.specs.Reading.{check}
-use Rattle.stored_value.specs.declared.Sized.{Sized}
-use Rattle.stored_value.specs.declared.Sized.TheVariants.{Bytes}
-use Rattle.stored_value.specs.Promises.{SizePromise}
 use Rattle.stored_value.specs.Reading.{value_size}
 use Rattle.stored_value.proofs.Laws.{value_read}
-use Rattle.stored_value.proofs.Steps.{size_refused, size-bytes}
-use Rattle.dictionary.specs.declared.ValueEnd.{ValueEnd}
 use Rattle.dictionary.specs.Layout.{Entry}
-use Rattle.dictionary.specs.Promises.{tail, entry_of, EntriesFrom, EndsAt, ValueAt}
+use Rattle.dictionary.specs.Promises.{tail, entry_of, EntriesFrom, EndsAt}
 
 -- ---- a number of w bytes behind k others
 
@@ -42,21 +37,7 @@ module _ {A : Type 0} (w : ℕ) (s : List ℕ) (k : ℕ) (f : ℕ → List ℕ �
       go true h = word_at (leb-true (k + w) (length s) h)
       go false h = let l : length s < k + w = leb-false (k + w) (length s) h in word_short (omega arith)
 
--- ---- a value, as `size` answers it
-
-module _ (t : ℕ) (s : List ℕ) (at : ℕ) {x : Sized} (e : SizePromise (value_size Short Dict t (drop at s)) x) where
-  pub value_none : {r : Refusal} → x ≡ Sized.Refused r → ValueAt t s at (ValueEnd.Refused r)
-  value_none {r} b = size_refused (value_size Short Dict t (drop at s)) x r e b
-
-  pub value-to : {n : ℕ} → x ≡ Bytes n → ValueAt t s at (ValueEnd.To (position (at + n)))
-  value-to {n} b =
-      let o = size-bytes (value_size Short Dict t (drop at s)) x n e b in
-      let w = value_read Short Dict t (drop at s) n o in
-      let l = rw length-drop at w.fits in
-      let z : at + n - at ≡ n = omega arith in
-      (rw z o, omega (arith, w.some), omega (arith, w.some))
-
--- a value that was read, by its size
+-- ---- a value that was read, by its size
 module _ (t : ℕ) (s : List ℕ) (p k : ℕ) (e : value_size Short Dict t (drop p s) ≡ Ok k) where
   pub known-to : {n : ℕ} → n ≡ k → EndsAt t s p (p + n)
   known-to {n} q =

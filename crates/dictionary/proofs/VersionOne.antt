@@ -4,19 +4,20 @@ use mathlib.Core.Path.{◌≡◌, refl, ap, sym, ◌∙◌}
 use mathlib.Core.Bool.{Bool, true, false, not, ◌||◌, or-false}
 use mathlib.Core.List.{List, [], ◌∷◌, ◌++◌}
 use native.Mathlib.Omega.{arith}
-use lib.ListN.{length, take, drop, replicate, length-append, length-replicate}
+use lib.Dec.{eqb}
+use borrow.Author.Tests.{eq-eqb, ne_eqb}
+use lib.ListN.{length, take, drop, length-append}
 use Rattle.numbers.specs.Meaning.{same, position}
 use Rattle.refusal.specs.declared.Refusal.TheVariants.{Short, Dict}
 use Rattle.std.specs.Prelude.{Ok}
 use Rattle.hash_table.specs.Promises.{slot, among, Holds, Fits, Inserts}
-use Rattle.hash_table.proofs.Chaining.{among-more, holds_none, insert_old, insert_new}
+use Rattle.hash_table.proofs.Chaining.{among-more, insert_old, insert_new}
 use Rattle.refusal.specs.Meaning.{limit}
 use Rattle.stored_value.specs.Meaning.{value, same_cell}
 use Rattle.stored_value.specs.Reading.{value_size}
-use Rattle.dictionary.specs.declared.AllEntries.{AllEntries}
 use Rattle.dictionary.specs.Layout.{Entry, some_has, most_values1}
 use Rattle.dictionary.specs.Reading.{entries_version_one}
-use Rattle.dictionary.specs.Promises.{cursor, entry_of, StandsAt, EndsAt, OnesFrom, AllEntriesAt}
+use Rattle.dictionary.specs.Promises.{Tabling, HasValueAt, cursor, entry_of, StandsAt, EndsAt, OnesFrom, AllEntriesAt}
 use Rattle.dictionary.proofs.Steps.{drop_past, stand_first}
 use Rattle.dictionary.proofs.Walks.{Walked, walk_first, walk_done, walk_stand, walk_next, ones}
 
@@ -75,7 +76,7 @@ pub ones-from : {t n i : ℕ} {start rest : List ℕ} (st : Walked (ones t) n tt
 ones-from {n = n} st l = record { left = n; stand = walk_stand st; count = st.count; within = l }
 
 pub ones_sound : {t n i : ℕ} (s : List ℕ) (at p : ℕ) → Walked (ones t) n tt (drop at s) i tt (drop p s) → i ≤ n → n ≤ i → at ≤ length s → p ≤ length s
-    → AllEntriesAt false t n s at (AllEntries.Sound (cursor at n) (position p))
+    → AllEntriesAt false t n s at (Ok (record { first = cursor at n; region = position p }))
 unfolding entries_version_one
 ones_sound s at p st l m h g = (st.items, λ rows ns. walk_done st m (rows, ns), omega (arith, st.count), walk_stand st, refl, h, g)
 
@@ -106,48 +107,72 @@ tabled_next {es = es} st k rest h = record {
       ∙ rw (st.has v) (sym (has_more v es (entry_of false k rest) ∙ rw (has-entry v rest k (entry_of false k rest) [] refl, or-false (same v (take k rest)))));
 }
 
--- i of the n entries at `at` are read, what is left stands at p, and the table has their values
-pub record Hashed (t n : ℕ) (s : List ℕ) (at i p : ℕ) (table : List ℕ) : Type 0 where
-  pub walk : Walked (ones t) n tt (drop at s) i tt (drop p s)
-  pub held : Tabled s table walk.items
-  pub size : length table ≡ slot most_values1
+-- whether a table is kept, which the code has as a number
+pub kept_so : (n : ℕ) → (n ≡ 0 → ⊥) → not (eqb n 0) ≡ true
+kept_so n h = rw (ne_eqb n 0 h)
 
-pub hashed_first : (t n : ℕ) (s : List ℕ) (at : ℕ) → Hashed t n s at 0 at (replicate (slot most_values1) 0)
+pub never_so : (n : ℕ) → n ≡ 0 → not (eqb n 0) ≡ true → ⊥
+never_so n h y = let e : false ≡ true = rw (eq-eqb n 0 h) at y in let z : ◌≡◌ {A = Bool} false true = e in cc
+
+-- i of the n entries at `at` are read, and what is left stands at p; where a table is kept, it has their values
+pub record Kept (tabled : Type 0) (t n : ℕ) (s : List ℕ) (at i p : ℕ) (table : List ℕ) : Type 0 where
+  pub walk : Walked (ones t) n tt (drop at s) i tt (drop p s)
+  pub held : tabled → Tabled s table walk.items
+  pub keeps : tabled → (length s ≤ limit) × (n ≤ most_values1) × (slot most_values1 ≤ length table)
+
+pub kept_first : (tabled : Type 0) (t n : ℕ) (s : List ℕ) (at : ℕ) (table : List ℕ) → (tabled → Tabling n s table) → Kept tabled t n s at 0 at table
 unfolding walk_first among
-hashed_first t n s at = record {
+kept_first tabled t n s at table h = record {
   walk = walk_first (ones t) n tt (drop at s);
-  held = record { vs = []; holds = holds_none s (slot most_values1) (omega arith); many = refl; has = λ v. refl };
-  size = length-replicate {A = ℕ} (slot most_values1) 0;
+  held = λ y. record { vs = []; holds = (h y).empty; many = refl; has = λ v. refl };
+  keeps = λ y. ((h y).short, (h y).few, (h y).room);
 }
 
-module _ {t n : ℕ} {s : List ℕ} {at i p : ℕ} {table : List ℕ} (st : Hashed t n s at i p table) (lt : i < n) (e : ℕ) (v : EndsAt t s p e) where
-  many : length st.held.vs ≡ i
-  many = st.held.many ∙ st.walk.count
+module _ {tabled : Type 0} {t n : ℕ} {s : List ℕ} {at i p : ℕ} {table : List ℕ} (st : Kept tabled t n s at i p table) (lt : i < n) (e : ℕ) (v : EndsAt t s p e) where
+  pub kept_fits : tabled → Fits s table i p e
+  kept_fits y =
+      let h = st.held y in
+      let k = st.keeps y in
+      record {
+        vs = h.vs;
+        holds = h.holds;
+        many = h.many ∙ st.walk.count;
+        room = omega (arith, k.2);
+        rising = omega arith;
+        inside = v.2;
+        short = omega (arith, k.0);
+        few = omega (arith, k.1);
+      }
 
-  pub hashed_fits : n ≤ most_values1 → length s ≤ limit → Fits s table i p e
-  hashed_fits m l = record {
-    vs = st.held.vs;
-    holds = st.held.holds;
-    many = many;
-    room = omega (arith, st.size);
-    rising = omega arith;
-    inside = v.2;
-    short = omega arith;
-    few = omega arith;
-  }
+  -- whether the value is one of those before: what a turn makes of the table
+  pub record Told (after : List ℕ) (twice : Bool) : Type 0 where
+    pub so : twice ≡ some_has (value (take (e - p) (drop p s))) st.walk.items
+    pub held : tabled → twice ≡ false → Tabled s after (st.walk.items ++ (entry_of false (e - p) (drop p s) ∷ []))
+    pub long : length after ≡ length table
 
-  module _ (after : List ℕ) {r : Bool} (x : Inserts s table after i p e r) where
-    pub hashed_old : r ≡ true → not (some_has (value (take (e - p) (drop p s))) st.walk.items) ≡ false
-    hashed_old h = ap not (sym (st.held.has (take (e - p) (drop p s))) ∙ (insert_old p e x st.held.holds many h).0)
+  module _ (y : tabled) (after : List ℕ) (r : Bool) (x : Inserts s table after i p e r) (l : length after ≡ length table) where
+    pub told_tabled : Told after r
+    told_tabled = record { so = by r refl; held = λ y h. tabled_next (st.held y) (e - p) (drop p s) (insert_new p e x (st.held y).holds ((st.held y).many ∙ st.walk.count) h).1; long = l }
+      where
+        by : (b : Bool) → r ≡ b → r ≡ some_has (value (take (e - p) (drop p s))) st.walk.items
+        by true h = h ∙ sym ((insert_old p e x (st.held y).holds ((st.held y).many ∙ st.walk.count) h).0) ∙ (st.held y).has (take (e - p) (drop p s))
+        by false h = h ∙ sym ((insert_new p e x (st.held y).holds ((st.held y).many ∙ st.walk.count) h).0) ∙ (st.held y).has (take (e - p) (drop p s))
 
-    module _ (h : r ≡ false) where
-      pub hashed_new : not (some_has (value (take (e - p) (drop p s))) st.walk.items) ≡ true
-      hashed_new = ap not (sym (st.held.has (take (e - p) (drop p s))) ∙ (insert_new p e x st.held.holds many h).0)
+  pub told_compared : (tabled → ⊥) → (r : Bool) → i ≤ n → HasValueAt t i s at (take (e - p) (drop p s)) r → Told table r
+  told_compared never r m x = record { so = x st.walk.items (ones-from st.walk m); held = λ y h. absurd (never y); long = refl }
 
-      pub hashed_next : length after ≡ length table → e + 4 ≤ length s → Hashed t n s at (i + 1) (e + 4) after
+  module _ {after : List ℕ} {twice : Bool} (x : Told after twice) where
+    pub told_twice : twice ≡ true → not (some_has (value (take (e - p) (drop p s))) st.walk.items) ≡ false
+    told_twice h = ap not (sym x.so ∙ h)
+
+    module _ (h : twice ≡ false) where
+      pub told_once : not (some_has (value (take (e - p) (drop p s))) st.walk.items) ≡ true
+      told_once = ap not (sym x.so ∙ h)
+
+      pub told_next : e + 4 ≤ length s → Kept tabled t n s at (i + 1) (e + 4) after
       unfolding walk_next
-      hashed_next k l = record {
-        walk = walk_next s p st.walk lt e v hashed_new l;
-        held = tabled_next st.held (e - p) (drop p s) (insert_new p e x st.held.holds many h).1;
-        size = k ∙ st.size;
+      told_next l = record {
+        walk = walk_next s p st.walk lt e v told_once l;
+        held = λ y. x.held y h;
+        keeps = λ y. let k = st.keeps y in (k.0, k.1, rw x.long k.2);
       }

@@ -12,43 +12,29 @@ use Rattle.numbers.specs.Meaning.{big, be_at, number, sign_bit, position}
 use Rattle.numbers.proofs.Laws.{number_at-drop}
 use Rattle.refusal.specs.declared.Refusal.{Refusal}
 use Rattle.refusal.specs.declared.Refusal.TheVariants.{Short, Dict}
-use Rattle.stored_value.specs.Meaning.{Cell, null, value}
-use Rattle.std.specs.Prelude.{Result, Err, Ok}
+use Rattle.stored_value.specs.Meaning.{Cell, null}
+use Rattle.std.specs.Prelude.{Result, Err, Ok, Option, Some}
 use Rattle.refusal.specs.Reading.{check}
 use Rattle.stored_value.specs.Reading.{value_size}
 use Rattle.dictionary.specs.declared.Span.{Span}
 use Rattle.dictionary.specs.declared.BlockEntries.{BlockEntries}
-use Rattle.dictionary.specs.declared.Count.{Count}
-use Rattle.dictionary.specs.declared.Count.TheVariants.{Is}
-use Rattle.dictionary.specs.declared.Directory.{Directory}
 use Rattle.dictionary.specs.declared.Block.{Block}
 use Rattle.dictionary.specs.declared.Blocks.{Blocks}
-use Rattle.dictionary.specs.declared.AllEntries.{AllEntries}
 use Rattle.dictionary.specs.Layout.{Entry, most_blocks}
 use Rattle.dictionary.specs.Reading.{Dictionary, Listing, listings, entries_version_two, behind, blocks_of, blocked}
-use Rattle.dictionary.specs.Promises.{AfterBlock, AfterEntries, cursor, EntriesFrom, EndsAt, CountAt, ListingsFrom, ListingFrom, DirectoryAt, bytes_at, cell_at, BlockEntriesAt, BlockAt, BlocksAt, AllEntriesAt}
+use Rattle.dictionary.specs.Promises.{AfterBlock, AfterEntries, cursor, EntriesFrom, EndsAt, CountAt, ListingsFrom, ListingFrom, DirectoryAt, SpanIn, cell_at, BlockEntriesAt, BlockAt, BlocksAt, AllEntriesAt}
 use Rattle.dictionary.proofs.Steps.{offset-behind, drop_past, word_at, word_short, stand_opening}
 use Rattle.dictionary.proofs.Walks.{Walked, walk_done, walk_stand, listing, directory, in_block}
 
--- ---- the value before, and the one that is due: what a test says of a span that may have no bytes
-
-module _ (s : List ℕ) (c : Span) (f : Cell → Bool) where
-  pub span_none : f null ≡ true → c.end.0 ≤ c.start.0 → true ≡ f (cell_at s c)
-  span_none n h = rw (le-ltb c.start.0 c.end.0 h, n)
-
-  pub span-some : c.start.0 < c.end.0 → f (value (bytes_at s c)) ≡ f (cell_at s c)
-  span-some h = rw (lt-ltb c.start.0 c.end.0 h)
+-- ---- the place of a value from p to e
 
 abbrev pub span : ℕ → ℕ → Span
 span p e = record { start = position p; end = position e }
 
-cell_some : (s : List ℕ) (c : Span) → c.start.0 < c.end.0 → cell_at s c ≡ value (bytes_at s c)
-cell_some s c h = rw (lt-ltb c.start.0 c.end.0 h)
-
 -- ---- a directory's listings, and a block's entries, by their walks
 
 pub directory_ends : {t n i : ℕ} (s : List ℕ) (at p : ℕ) → Walked (directory t) n tt (drop at s) i tt (drop p s) → i ≤ n → n ≤ i → p ≤ length s
-    → DirectoryAt t n s at (Directory.Ends (position p))
+    → DirectoryAt t n s at (Ok (position p))
 unfolding listings
 directory_ends s at p st l m h = (st.items, λ f. walk_done st m f, (walk_stand st, omega (arith, st.count)), h)
 
@@ -64,18 +50,13 @@ module _ {x a : Bool} (g : x ≡ a) where
     pub rule_kept : y ≡ true → (a && b) ≡ true
     rule_kept q = rw (← g, p, ← h, q)
 
--- behind the value from p to e, that one is before the next, and none is due
-pub block_on : {t n : ℕ} {x₀ : Cell × Cell} {start : List ℕ} {i : ℕ} {rest : List ℕ} (s : List ℕ) (p e : ℕ) → p < e → Walked (in_block t) n x₀ start i (value (bytes_at s (span p e)), null) rest
-    → Walked (in_block t) n x₀ start i (cell_at s (span p e), null) rest
-block_on s p e l st = rw (cell_some s (span p e) l) st
-
-pub block_fails : (t n : ℕ) {r : Refusal} (s : List ℕ) (before due : Span) (at : ℕ)
-    → ((q : List Entry × AfterBlock) → (in_block t).reads q n (cell_at s before, cell_at s due) [] (drop at s) ≡ Err r) → BlockEntriesAt t n before due s at (BlockEntries.Refused r)
+pub block_fails : (t n : ℕ) {r : Refusal} (s : List ℕ) (before due : Option Span) (at : ℕ)
+    → ((q : List Entry × AfterBlock) → (in_block t).reads q n (cell_at s before, cell_at s due) [] (drop at s) ≡ Err r) → BlockEntriesAt t n before due s at (Err r)
 block_fails t n s before due at h es f = rw append-nil at (h (es, f))
 
-pub block_ends : {t n i : ℕ} {h : Cell} (s : List ℕ) (before due : Span) (at p : ℕ) (last : Span)
-    → Walked (in_block t) n (cell_at s before, cell_at s due) (drop at s) i (cell_at s last, h) (drop p s) → i ≤ n → n ≤ i → at ≤ p → p ≤ length s → last.end.0 ≤ length s
-    → BlockEntriesAt t n before due s at (BlockEntries.To (position p) last)
+pub block_ends : {t n i : ℕ} {h : Cell} (s : List ℕ) (before due : Option Span) (at p : ℕ) (last : Option Span)
+    → Walked (in_block t) n (cell_at s before, cell_at s due) (drop at s) i (cell_at s last, h) (drop p s) → i ≤ n → n ≤ i → at ≤ p → p ≤ length s → SpanIn s last
+    → BlockEntriesAt t n before due s at (Ok (record { next = position p; last = last }))
 unfolding entries_version_two
 block_ends {n = n} {i = i} s before due at p last st l m a r e =
     let z : n - i ≡ 0 = omega arith in
@@ -104,13 +85,13 @@ unfolding behind
 behind_at s base p h l = simp length-drop (omega arith)
 
 -- the listing d of the block stands at q, before the listings ds
-pub record AtBlock (t : ℕ) (s : List ℕ) (base q p e : ℕ) (before : Span) (d : Listing) (ds : List Listing) : Type 0 where
+pub record AtBlock (t : ℕ) (s : List ℕ) (base q p e : ℕ) (before : Option Span) (d : Listing) (ds : List Listing) : Type 0 where
   pub from : base ≤ p
   pub to : p ≤ length s
   pub value : EndsAt t s q e
   pub listed : ListingsFrom t (drop q s) (d ∷ ds)
 
-module _ {t : ℕ} {s : List ℕ} {base q p e : ℕ} {before : Span} {d : Listing} {ds : List Listing} (here : AtBlock t s base q p e before d ds) where
+module _ {t : ℕ} {s : List ℕ} {base q p e : ℕ} {before : Option Span} {d : Listing} {ds : List Listing} (here : AtBlock t s base q p e before d ds) where
   pub block_listed : ListingsFrom t (drop (e + 4) s) ds
   block_listed =
       let h = listed-first t (drop q s) (e - q) d ds here.value.0 here.listed in
@@ -120,14 +101,13 @@ module _ {t : ℕ} {s : List ℕ} {base q p e : ℕ} {before : Span} {d : Listin
   module _ (es : List Entry) (f : AfterEntries) where
     block_turn : blocks_of t (d ∷ ds) (drop base s) (cell_at s before) es (drop p s) f ≡ check (eqb (be_at 4 s e) (p - base)) Dict
         (number big 4 (Err Short) (drop p s) (λ n s'. check (leb 1 n && ltb n sign_bit) Dict
-        (entries_version_two t n (cell_at s before) (cell_at s (span q e)) es s' (λ before es s'. blocks_of t ds (drop base s) before es s' f))))
+        (entries_version_two t n (cell_at s before) (cell_at s (Some (span q e))) es s' (λ before es s'. blocks_of t ds (drop base s) before es s' f))))
     unfolding blocks_of
     block_turn =
         let h = listed-first t (drop q s) (e - q) d ds here.value.0 here.listed in
         let v = here.value in
         let o = offset-behind s q e (omega arith) in
-        let c = cell_some s (span q e) here.value.1 in
-        simp (h.0, o, behind_at s base p here.from here.to, c)
+        simp (h.0, o, behind_at s base p here.from here.to)
 
     pub block_misplaced : {a : ℕ} → a ≡ be_at 4 s e → (a ≡ p - base → ⊥) → blocks_of t (d ∷ ds) (drop base s) (cell_at s before) es (drop p s) f ≡ Err Dict
     unfolding check
@@ -135,7 +115,7 @@ module _ {t : ℕ} {s : List ℕ} {base q p e : ℕ} {before : Span} {d : Listin
 
     module _ {a : ℕ} (g : a ≡ be_at 4 s e) (h : a ≡ p - base) where
       block-placed : blocks_of t (d ∷ ds) (drop base s) (cell_at s before) es (drop p s) f ≡ number big 4 (Err Short) (drop p s) (λ n s'. check (leb 1 n && ltb n sign_bit) Dict
-          (entries_version_two t n (cell_at s before) (cell_at s (span q e)) es s' (λ before es s'. blocks_of t ds (drop base s) before es s' f)))
+          (entries_version_two t n (cell_at s before) (cell_at s (Some (span q e))) es s' (λ before es s'. blocks_of t ds (drop base s) before es s' f)))
       unfolding check
       block-placed = block_turn ∙ simp (← g, eq-eqb a (p - base) h)
 
@@ -144,7 +124,7 @@ module _ {t : ℕ} {s : List ℕ} {base q p e : ℕ} {before : Span} {d : Listin
 
       module _ (r : p + 4 ≤ length s) {n : ℕ} (m : n ≡ be_at 4 s p) where
         block_numbered : blocks_of t (d ∷ ds) (drop base s) (cell_at s before) es (drop p s) f ≡ check (leb 1 n && ltb n sign_bit) Dict
-            (entries_version_two t n (cell_at s before) (cell_at s (span q e)) es (drop (p + 4) s) (λ before es s'. blocks_of t ds (drop base s) before es s' f))
+            (entries_version_two t n (cell_at s before) (cell_at s (Some (span q e))) es (drop (p + 4) s) (λ before es s'. blocks_of t ds (drop base s) before es s' f))
         block_numbered = block-placed ∙ rw m (word_at 4 s p _ r)
 
         pub block_none : n < 1 → blocks_of t (d ∷ ds) (drop base s) (cell_at s before) es (drop p s) f ≡ Err Dict
@@ -157,17 +137,17 @@ module _ {t : ℕ} {s : List ℕ} {base q p e : ℕ} {before : Span} {d : Listin
 
         module _ (c : 1 ≤ n) (u : n < sign_bit) where
           block-sound : blocks_of t (d ∷ ds) (drop base s) (cell_at s before) es (drop p s) f
-              ≡ entries_version_two t n (cell_at s before) (cell_at s (span q e)) es (drop (p + 4) s) (λ before es s'. blocks_of t ds (drop base s) before es s' f)
+              ≡ entries_version_two t n (cell_at s before) (cell_at s (Some (span q e))) es (drop (p + 4) s) (λ before es s'. blocks_of t ds (drop base s) before es s' f)
           unfolding check
           block-sound = block_numbered ∙ simp (le-leb 1 n c, lt-ltb n sign_bit u)
 
-          pub block_refused : {r : Refusal} → BlockEntriesAt t n before (span q e) s (p + 4) (BlockEntries.Refused r)
+          pub block_refused : {r : Refusal} → BlockEntriesAt t n before (Some (span q e)) s (p + 4) (Err r)
               → blocks_of t (d ∷ ds) (drop base s) (cell_at s before) es (drop p s) f ≡ Err r
           block_refused x = block-sound ∙ x es _
 
-          pub block_passed : {next : ℕ} (last : Span) (x : BlockEntriesAt t n before (span q e) s (p + 4) (BlockEntries.To (position next) last))
-              → blocks_of t (d ∷ ds) (drop base s) (cell_at s before) es (drop p s) f ≡ blocks_of t ds (drop base s) (cell_at s last) (es ++ x.0.0) (drop next s) f
-          block_passed last x = block-sound ∙ x.0.1 es _
+          pub block_passed : (y : BlockEntries) (x : BlockEntriesAt t n before (Some (span q e)) s (p + 4) (Ok y))
+              → blocks_of t (d ∷ ds) (drop base s) (cell_at s before) es (drop p s) f ≡ blocks_of t ds (drop base s) (cell_at s y.last) (es ++ x.0.0) (drop y.next.0 s) f
+          block_passed y x = block-sound ∙ x.0.1 es _
 
 -- entries that stand behind a block's number stand where it is due
 pub block_stand : (t : ℕ) (s : List ℕ) (p : ℕ) {n : ℕ} (es : List Entry) → p + 4 ≤ length s → n ≡ be_at 4 s p → 1 ≤ n → 1 ≤ length es
@@ -204,8 +184,8 @@ module _ {t : ℕ} {ds : List Listing} {base : List ℕ} {i : ℕ} {dir : List �
   unfolding EntriesFrom
   in_blocks_stand = rw append-nil at (st.stand [] tt)
 
-module _ {t : ℕ} {ds : List Listing} {i sum : ℕ} (s : List ℕ) (base q p : ℕ) (before : Span) (st : InBlocks t ds (drop base s) i (drop q s) (cell_at s before) sum (drop p s)) (lt : i < length ds) where
-  pub in_blocks_refused : {r : Refusal} → BlockAt t before s base q p (Block.Refused r)
+module _ {t : ℕ} {ds : List Listing} {i sum : ℕ} (s : List ℕ) (base q p : ℕ) (before : Option Span) (st : InBlocks t ds (drop base s) i (drop q s) (cell_at s before) sum (drop p s)) (lt : i < length ds) where
+  pub in_blocks_refused : {r : Refusal} → BlockAt t before s base q p (Err r)
       → (f : AfterEntries) → blocks_of t ds (drop base s) null [] (drop base s) f ≡ Err r
   in_blocks_refused {r} x f = st.so f ∙ by st.left st.listed (omega (arith, st.count))
     where
@@ -213,13 +193,13 @@ module _ {t : ℕ} {ds : List Listing} {i sum : ℕ} (s : List ℕ) (base q p : 
       by [] l z = absurd (omega arith)
       by (d ∷ left) l z = x d left l st.es f
 
-  pub in_blocks-next : (listing next number : ℕ) (last : Span) → BlockAt t before s base q p (Block.Ends (position listing) (position next) last number)
-      → InBlocks t ds (drop base s) (i + 1) (drop listing s) (cell_at s last) (sum + number) (drop next s)
-  in_blocks-next listing next number last x = by st.left st.listed st.count st.so
+  pub in_blocks-next : (x : Block) → BlockAt t before s base q p (Ok x)
+      → InBlocks t ds (drop base s) (i + 1) (drop x.listing.0 s) (cell_at s x.entries.last) (sum + x.number) (drop x.entries.next.0 s)
+  in_blocks-next b x = by st.left st.listed st.count st.so
     where
       by : (left : List Listing) → ListingsFrom t (drop q s) left → length left ≡ length ds - i
           → ((f : AfterEntries) → blocks_of t ds (drop base s) null [] (drop base s) f ≡ blocks_of t left (drop base s) (cell_at s before) st.es (drop p s) f)
-          → InBlocks t ds (drop base s) (i + 1) (drop listing s) (cell_at s last) (sum + number) (drop next s)
+          → InBlocks t ds (drop base s) (i + 1) (drop b.listing.0 s) (cell_at s b.entries.last) (sum + b.number) (drop b.entries.next.0 s)
       by [] l c so = absurd (omega arith)
       by (d ∷ left) l c so =
           let y = x.0 d left l in
@@ -247,17 +227,17 @@ behind_blocks t rows n ns offset base es region =
     check (eqb offset (behind base region)) Dict (check (eqb (length es) n) Dict (Ok (record { rows = rows; entries = ns ++ es; region = region })))
 
 module _ (t n : ℕ) (s : List ℕ) (at : ℕ) where
-  pub two-count : {r : Refusal} → CountAt most_blocks s at (Count.Refused r) → AllEntriesAt true t n s at (AllEntries.Refused r)
+  pub two-count : {r : Refusal} → CountAt most_blocks s at (Err r) → AllEntriesAt true t n s at (Err r)
   unfolding blocked
   two-count x rows ns = x _
 
-  module _ {b : ℕ} (x : CountAt most_blocks s at (Is b)) where
+  module _ {b : ℕ} (x : CountAt most_blocks s at (Ok b)) where
     two_counted : (rows : ℕ) (ns : List Entry) → blocked t rows n ns (drop at s) ≡ check (cond (eqb n 0) (eqb b 0) (leb 1 b)) Dict
         (listings t b [] (drop (at + 4) s) (λ ds s'. number big 4 (Err Short) s' (λ offset base. blocks_of t ds base null [] base (behind_blocks t rows n ns offset base))))
     unfolding blocked
     two_counted rows ns = x.0 _
 
-    pub two_unfit : {y : Bool} → y ≡ cond (eqb n 0) (eqb b 0) (leb 1 b) → y ≡ false → AllEntriesAt true t n s at (AllEntries.Refused Dict)
+    pub two_unfit : {y : Bool} → y ≡ cond (eqb n 0) (eqb b 0) (leb 1 b) → y ≡ false → AllEntriesAt true t n s at (Err Dict)
     unfolding check
     two_unfit g h rows ns = two_counted rows ns ∙ simp (← g, h)
 
@@ -267,11 +247,11 @@ module _ (t n : ℕ) (s : List ℕ) (at : ℕ) where
       unfolding check
       two_fit rows ns = two_counted rows ns ∙ simp (← g, fit)
 
-      pub two-directory : {r : Refusal} → DirectoryAt t b s (at + 4) (Directory.Refused r) → AllEntriesAt true t n s at (AllEntries.Refused r)
+      pub two-directory : {r : Refusal} → DirectoryAt t b s (at + 4) (Err r) → AllEntriesAt true t n s at (Err r)
       two-directory d rows ns = two_fit rows ns ∙ d _
 
-      module _ {e : ℕ} (d : DirectoryAt t b s (at + 4) (Directory.Ends (position e))) where
-        pub two-short : length s - e < 4 → AllEntriesAt true t n s at (AllEntries.Refused Short)
+      module _ {e : ℕ} (d : DirectoryAt t b s (at + 4) (Ok (position e))) where
+        pub two-short : length s - e < 4 → AllEntriesAt true t n s at (Err Short)
         two-short h rows ns = two_fit rows ns ∙ d.1 _ ∙ word_short 4 s e _ h
 
         module _ (r : e + 4 ≤ length s) {offset : ℕ} (o : offset ≡ be_at 4 s e) where
@@ -279,34 +259,34 @@ module _ (t n : ℕ) (s : List ℕ) (at : ℕ) where
               ≡ blocks_of t d.0 (drop (e + 4) s) null [] (drop (e + 4) s) (behind_blocks t rows n ns offset (drop (e + 4) s))
           two-opened rows ns = two_fit rows ns ∙ d.1 _ ∙ rw o (word_at 4 s e _ r)
 
-          pub two-broken : {r : Refusal} → BlocksAt t b s (at + 4) (e + 4) (Blocks.Refused r) → AllEntriesAt true t n s at (AllEntries.Refused r)
+          pub two-broken : {r : Refusal} → BlocksAt t b s (at + 4) (e + 4) (Err r) → AllEntriesAt true t n s at (Err r)
           two-broken z rows ns = two-opened rows ns ∙ z d.0 d.2 _
 
-          module _ {next sum : ℕ} (z : BlocksAt t b s (at + 4) (e + 4) (Blocks.End (position next) sum)) where
+          module _ {all : Blocks} (z : BlocksAt t b s (at + 4) (e + 4) (Ok all)) where
             es : List Entry
             es = (z.0 d.0 d.2).0
 
-            two-read : (rows : ℕ) (ns : List Entry) → blocked t rows n ns (drop at s) ≡ check (eqb offset (next - (e + 4))) Dict (check (eqb sum n) Dict
-                (Ok (record { rows = rows; entries = ns ++ es; region = drop next s })))
+            two-read : (rows : ℕ) (ns : List Entry) → blocked t rows n ns (drop at s) ≡ check (eqb offset (all.next.0 - (e + 4))) Dict (check (eqb all.sum n) Dict
+                (Ok (record { rows = rows; entries = ns ++ es; region = drop all.next.0 s })))
             unfolding es
             two-read rows ns =
                 two-opened rows ns ∙ (z.0 d.0 d.2).1 _
-                ∙ rw (behind_at s (e + 4) next z.1 z.2, (z.0 d.0 d.2).2)
+                ∙ rw (behind_at s (e + 4) all.next.0 z.1 z.2, (z.0 d.0 d.2).2)
 
-            pub two-offset : (offset ≡ next - (e + 4) → ⊥) → AllEntriesAt true t n s at (AllEntries.Refused Dict)
+            pub two-offset : (offset ≡ all.next.0 - (e + 4) → ⊥) → AllEntriesAt true t n s at (Err Dict)
             unfolding check
-            two-offset h rows ns = two-read rows ns ∙ simp (ne_eqb offset (next - (e + 4)) h)
+            two-offset h rows ns = two-read rows ns ∙ simp (ne_eqb offset (all.next.0 - (e + 4)) h)
 
-            module _ (h : offset ≡ next - (e + 4)) where
-              pub two_sum : (sum ≡ n → ⊥) → AllEntriesAt true t n s at (AllEntries.Refused Dict)
+            module _ (h : offset ≡ all.next.0 - (e + 4)) where
+              pub two_sum : (all.sum ≡ n → ⊥) → AllEntriesAt true t n s at (Err Dict)
               unfolding check
-              two_sum q rows ns = two-read rows ns ∙ simp (eq-eqb offset (next - (e + 4)) h, ne_eqb sum n q)
+              two_sum q rows ns = two-read rows ns ∙ simp (eq-eqb offset (all.next.0 - (e + 4)) h, ne_eqb all.sum n q)
 
-              pub two_ends : sum ≡ n → AllEntriesAt true t n s at (AllEntries.Sound (cursor (e + 4) 0) (position next))
+              pub two_ends : all.sum ≡ n → AllEntriesAt true t n s at (Ok (record { first = cursor (e + 4) 0; region = all.next }))
               unfolding check es
               two_ends q = (
                 es,
-                λ rows ns. two-read rows ns ∙ simp (eq-eqb offset (next - (e + 4)) h, eq-eqb sum n q),
+                λ rows ns. two-read rows ns ∙ simp (eq-eqb offset (all.next.0 - (e + 4)) h, eq-eqb all.sum n q),
                 (z.0 d.0 d.2).2 ∙ q,
                 (z.0 d.0 d.2).3,
                 refl,

@@ -16,7 +16,6 @@ use Rattle.refusal.specs.Reading.{check, and_then}
 use Rattle.refusal.proofs.Laws.{then_same}
 use Rattle.stored_value.specs.Meaning.{Cell, null, value}
 use Rattle.stored_value.specs.Reading.{value_size, value_of}
-use Rattle.dictionary.specs.declared.ValueEnd.{ValueEnd}
 use Rattle.dictionary.specs.Layout.{Entry, some_has}
 use Rattle.dictionary.specs.Reading.{Dictionary, Listing, entries_version_one, listings, past, is_value_due, entries_version_two}
 use Rattle.dictionary.specs.Promises.{AfterBlock, AfterListings, entry_of, EntriesFrom, ListingsFrom, EndsAt, ValueAt}
@@ -65,7 +64,7 @@ module _ {t w : ℕ} {Q X I : Type 0} {W : Walk t w Q X I} {n : ℕ} {x₀ : X} 
         (λ k. W.reads q (n - i - 1) (W.on x (take k (drop p s))) (st.items ++ (W.item k (drop p s) ∷ [])) (drop (k + w) (drop p s)))
     walk_turn q = st.so q ∙ W.step q (n - i) x st.items (drop p s) (omega arith)
 
-    pub walk_refused : {r : Refusal} → ValueAt t s p (ValueEnd.Refused r) → (q : Q) → W.reads q n x₀ [] start ≡ Err r
+    pub walk_refused : {r : Refusal} → ValueAt t s p (Err r) → (q : Q) → W.reads q n x₀ [] start ≡ Err r
     unfolding and_then
     walk_refused v q = walk_turn q ∙ rw v
 

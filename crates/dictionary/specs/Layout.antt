@@ -1,17 +1,17 @@
--- The bytes of a body's dictionary and what lies behind it (01, "Bitmap body"): entries, null's and each value's, in either version. The writer's choices
--- are the order of entries where it is free, and the cuts into blocks. `region` is 01's body of bitmaps. That offsets and extents are 32-bit patterns
+-- The bytes of a body's dictionary and what lies behind it: entries, null's and each value's, in either version. The writer's choices
+-- are the order of entries where it is free, and the cuts into blocks. `region` is where the bitmaps stand. That offsets and extents are 32-bit patterns
 -- follows from where bitmaps may stand (bitmap_index) and the body's limit.
 use Rattle.std.specs.Prelude.{◌≡◌, ℕ, ◌+◌, ◌≤◌, ◌<◌, Bool, true, false, ◌||◌, List, [], ◌∷◌, ◌++◌, length}
 use Rattle.numbers.specs.Meaning.{All, joined, be, minus_one_32, four_bytes}
 use Rattle.stored_value.specs.Meaning.{Cell, null, value, Value, same_cell, less}
 
--- a stored cell, null's or a value's, with the two numbers that say where its rows are: 01's offset, and 01's length, here `extent`
+-- a stored cell, null's or a value's, with the two numbers that say where its rows are: an offset into the region, or the one row itself, and how many bytes the bitmap has
 pub record Entry : Type 0 where
   pub cell : Cell
   pub offset : ℕ
   pub extent : ℕ
 
--- ---- limits (01, "Limits"): the value number of each version, and the block number
+-- ---- limits: the value number of each version, and the block number
 
 abbrev pub most_values1 : ℕ
 most_values1 = 4096

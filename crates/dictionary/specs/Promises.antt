@@ -1,31 +1,44 @@
 -- What the code's answers say, in the reading's terms: first the public functions', then the private ones'.
-use Rattle.std.specs.Prelude.{ℕ, ◌+◌, ◌-◌, ◌≤◌, ◌<◌, ◌≡◌, Bool, true, false, cond, List, [], ◌∷◌, ◌++◌, eqb, ltb, leb, ℤ, pos, length, take, drop, get_or, Result, Err, Ok}
+use Rattle.std.specs.Prelude.{ℕ, ◌+◌, ◌-◌, ◌≤◌, ◌<◌, ◌≡◌, Bool, true, false, cond, List, [], ◌∷◌, ◌++◌, eqb, leb, ℤ, pos, length, take, drop, get_or, Result, Err, Ok, Option, None, Some}
 use Rattle.std.specs.Int.{w32}
 use Rattle.std.proofs.Common.{of_z}
 use Rattle.numbers.specs.Meaning.{be_at, signed32, sign_bit, minus_one_32, four_bytes, position}
-use Rattle.refusal.specs.Meaning.{number_of}
+use Rattle.hash_table.specs.Promises.{slot, Holds}
+use Rattle.refusal.specs.Meaning.{limit}
 use Rattle.refusal.specs.Reading.{numbers_of}
 use Rattle.refusal.specs.declared.Refusal.{Refusal}
+use Rattle.refusal.specs.declared.Refusal.TheVariants as why
 use Rattle.refusal.specs.declared.Refusal.TheVariants.{Short, Dict}
 use Rattle.stored_value.specs.Meaning.{types, Cell, null, value}
 use Rattle.stored_value.specs.Reading.{value_size}
+use Rattle.numbers.specs.declared.Position.{Position}
+use Rattle.dictionary.specs.declared.Version.{Version}
+use Rattle.dictionary.specs.declared.Version.TheVariants.{One, Two}
 use Rattle.dictionary.specs.declared.Cursor.{Cursor}
+use Rattle.dictionary.specs.declared.NullEntry.{NullEntry}
 use Rattle.dictionary.specs.declared.Summary.{Summary}
-use Rattle.dictionary.specs.declared.Checked.{Checked}
-use Rattle.dictionary.specs.declared.Checked.TheVariants.{Found}
 use Rattle.dictionary.specs.declared.EntryAt.{EntryAt}
-use Rattle.dictionary.specs.declared.ValueEnd.{ValueEnd}
-use Rattle.dictionary.specs.declared.Count.{Count}
-use Rattle.dictionary.specs.declared.Null.{Null}
-use Rattle.dictionary.specs.declared.Fixed.{Fixed}
+use Rattle.dictionary.specs.declared.Front.{Front}
 use Rattle.dictionary.specs.declared.Span.{Span}
-use Rattle.dictionary.specs.declared.Directory.{Directory}
 use Rattle.dictionary.specs.declared.BlockEntries.{BlockEntries}
 use Rattle.dictionary.specs.declared.Block.{Block}
 use Rattle.dictionary.specs.declared.Blocks.{Blocks}
 use Rattle.dictionary.specs.declared.AllEntries.{AllEntries}
 use Rattle.dictionary.specs.Layout.{Entry, some_has, most_values1, most_values2}
 use Rattle.dictionary.specs.Reading.{Dictionary, Listing, count_at_most, null_of, entries_version_one, listings, entries_version_two, blocks_of, blocked, dictionary}
+
+-- ---- the version, which the reading's definitions have as whether it is 2
+
+abbrev pub is_two : Version → Bool
+is_two One = false
+is_two Two = true
+
+-- the first byte says it
+abbrev pub version_of : ℕ → Result Version Refusal
+version_of v = cond (eqb v 1) (Ok One) (cond (eqb v 2) (Ok Two) (Err why.Version))
+
+abbrev pub IsVersion : ℕ → Result Version Refusal → Type 0
+IsVersion v r = r ≡ version_of v
 
 -- ---- where entries stand
 
@@ -66,26 +79,26 @@ abbrev pub pattern : ℤ → ℕ
 pattern z = of_z w32 z
 
 -- null's entry, if there is one
-abbrev pub nulls : Bool → ℤ → ℕ → List Entry
-nulls has offset extent = cond has (record { cell = null; offset = pattern offset; extent = extent } ∷ []) []
+abbrev pub nulls : Option NullEntry → List Entry
+nulls None = []
+nulls (Some n) = record { cell = null; offset = pattern n.offset; extent = n.extent } ∷ []
 
 abbrev pub nulls_of : Summary → List Entry
-nulls_of h = nulls h.has_null h.null_offset h.null_extent
+nulls_of h = nulls h.null
 
 -- the dictionary that a summary of s and the values' entries es make up
 abbrev pub dictionary_of : List ℕ → Summary → List Entry → Dictionary
 dictionary_of s h es = record { rows = h.rows; entries = nulls_of h ++ es; region = drop h.region.0 s }
 
 -- the summary h of s is true of the values' entries es: they are as many as it says and stand at its cursor (which may be anywhere, if there are none);
--- in version 2 a block's number is due there; null's numbers are zero where it has no entry
+-- in version 2 a block's number is due there
 pub record Summarizes (t : ℕ) (s : List ℕ) (h : Summary) (es : List Entry) : Type 0 where
   pub many : length es ≡ h.values
-  pub stand : EntriesAt t h.version2 s h.first es
-  pub left : h.first.left ≡ cond h.version2 0 h.values
+  pub stand : EntriesAt t (is_two h.version) s h.first es
+  pub left : h.first.left ≡ cond (is_two h.version) 0 h.values
   pub start : h.first.at.0 ≤ length s
   pub region : h.region.0 ≤ length s
-  pub version : h.version2 ≡ eqb (get_or s 0 0) 2
-  pub zeros : h.has_null ≡ false → (h.null_offset ≡ pos 0) × (h.null_extent ≡ 0)
+  pub version : is_two h.version ≡ eqb (get_or s 0 0) 2
 
 -- the bytes are read as a dictionary with this summary
 pub record IsRead (t : ℕ) (s : List ℕ) (h : Summary) : Type 0 where
@@ -94,19 +107,21 @@ pub record IsRead (t : ℕ) (s : List ℕ) (h : Summary) : Type 0 where
   pub summary : Summarizes t s h entries
 
 -- the reading's refusal, or the reading's dictionary
-abbrev pub SaysDictionary : ℕ → List ℕ → Checked → Type 0
-SaysDictionary t s (Checked.Refused r) = dictionary t s ≡ Err r
-SaysDictionary t s (Found h) = IsRead t s h
+abbrev pub SaysDictionary : ℕ → List ℕ → Result Summary Refusal → Type 0
+SaysDictionary t s (Err r) = dictionary t s ≡ Err r
+SaysDictionary t s (Ok h) = IsRead t s h
 
 -- the answer in numbers: its own, 0 or the refusal's; and the row count and the number of entries, null's among them
-abbrev pub checked_out : Checked → ℕ × (ℕ × ℕ)
-checked_out (Checked.Refused r) = (number_of r, (0, 0))
-checked_out (Found h) = (0, (h.rows, length (nulls_of h) + h.values))
+abbrev pub summary_numbers : Summary → ℕ × (ℕ × ℕ)
+summary_numbers h = (0, (h.rows, length (nulls_of h) + h.values))
+
+abbrev pub checked_out : Result Summary Refusal → ℕ × (ℕ × ℕ)
+checked_out r = numbers_of (0, 0) summary_numbers r
 
 abbrev pub dictionary_numbers : Dictionary → ℕ × (ℕ × ℕ)
 dictionary_numbers d = (0, (d.rows, length d.entries))
 
-pub record ReadsDictionary (t : ℕ) (s : List ℕ) (r : Checked) : Type 0 where
+pub record ReadsDictionary (t : ℕ) (s : List ℕ) (r : Result Summary Refusal) : Type 0 where
   pub answer : SaysDictionary t s r
   pub numbers : checked_out r ≡ numbers_of (0, 0) dictionary_numbers (dictionary t s)
 
@@ -177,9 +192,9 @@ abbrev pub EndsAt : ℕ → List ℕ → ℕ → ℕ → Type 0
 EndsAt t s at e = (value_size Short Dict t (drop at s) ≡ Ok (e - at)) × (at < e) × (e ≤ length s)
 
 -- what is read of any bytes at a position as a value
-abbrev pub ValueAt : ℕ → List ℕ → ℕ → ValueEnd → Type 0
-ValueAt t s at (ValueEnd.Refused r) = value_size Short Dict t (drop at s) ≡ Err r
-ValueAt t s at (ValueEnd.To e) = EndsAt t s at e.0
+abbrev pub ValueAt : ℕ → List ℕ → ℕ → Result Position Refusal → Type 0
+ValueAt t s at (Err r) = value_size Short Dict t (drop at s) ≡ Err r
+ValueAt t s at (Ok e) = EndsAt t s at e.0
 
 -- i entries es of version 1 stand at the front of s, of `left` in all
 pub record OnesFrom (t i : ℕ) (s : List ℕ) (es : List Entry) : Type 0 where
@@ -193,9 +208,9 @@ abbrev pub HasValueAt : ℕ → ℕ → List ℕ → ℕ → List ℕ → Bool �
 HasValueAt t i s at v r = (es : List Entry) → OnesFrom t i (drop at s) es → r ≡ some_has (value v) es
 
 -- a count at a position
-abbrev pub CountAt : ℕ → List ℕ → ℕ → Count → Type 0
-CountAt most s at (Count.Refused r) = (f : AfterCount) → count_at_most most (drop at s) f ≡ Err r
-CountAt most s at (Count.Is n) =
+abbrev pub CountAt : ℕ → List ℕ → ℕ → Result ℕ Refusal → Type 0
+CountAt most s at (Err r) = (f : AfterCount) → count_at_most most (drop at s) f ≡ Err r
+CountAt most s at (Ok n) =
     ((f : AfterCount) → count_at_most most (drop at s) f ≡ f n (drop (at + 4) s)) × (at + 4 ≤ length s) × (n ≤ most)
 
 -- an offset at a position
@@ -203,26 +218,26 @@ abbrev pub OffsetAt : List ℕ → ℕ → ℤ → Type 0
 OffsetAt s at z = (z ≡ signed32 (be_at 4 s at)) × (be_at 4 s at < four_bytes)
 
 -- null's entry, if there is one, at a position
-abbrev pub NullAt : Bool → Bool → List ℕ → ℕ → Null → Type 0
-NullAt version2 has s at (Null.Refused r) = (f : AfterEntries) → null_of version2 has (drop at s) f ≡ Err r
-NullAt version2 has s at (Null.Numbers offset extent next) =
-    ((f : AfterEntries) → null_of version2 has (drop at s) f ≡ f (nulls has offset extent) (drop next.0 s)) × (next.0 ≤ length s)
-    × (has ≡ false → (offset ≡ pos 0) × (extent ≡ 0))
+abbrev pub NullAt : Bool → Bool → List ℕ → ℕ → Result (Option NullEntry × Position) Refusal → Type 0
+NullAt version2 has s at (Err r) = (f : AfterEntries) → null_of version2 has (drop at s) f ≡ Err r
+NullAt version2 has s at (Ok x) =
+    ((f : AfterEntries) → null_of version2 has (drop at s) f ≡ f (nulls x.0) (drop x.1.0 s)) × (x.1.0 ≤ length s)
 
 -- the entries of either version
 abbrev pub entries_of : Bool → ℕ → ℕ → ℕ → List Entry → List ℕ → Result Dictionary Refusal
 entries_of version2 t rows n ns s = cond version2 (blocked t rows n ns s) (entries_version_one t rows n ns [] s)
 
--- 01's limit on the value number of each version
+-- the limit on the value number of each version
 abbrev pub value_limit : Bool → ℕ
 value_limit version2 = cond version2 most_values2 most_values1
 
 -- the ten bytes that every dictionary of a known type begins with
-abbrev pub FixedOf : List ℕ → Fixed → Type 0
-FixedOf s (Fixed.Refused r) = (t : ℕ) → t < types → dictionary t s ≡ Err r
-FixedOf s (Fixed.Fields version2 has rows values) =
-    ((t : ℕ) → t < types → dictionary t s ≡ null_of version2 has (drop 10 s) (λ ns s. entries_of version2 t rows values ns s)) × (10 ≤ length s)
-    × (version2 ≡ eqb (get_or s 0 0) 2) × (values ≤ value_limit version2)
+abbrev pub FixedOf : List ℕ → Result Front Refusal → Type 0
+FixedOf s (Err r) = (t : ℕ) → t < types → dictionary t s ≡ Err r
+FixedOf s (Ok h) =
+    ((t : ℕ) → t < types
+    → dictionary t s ≡ null_of (is_two h.version) h.has_null (drop 10 s) (λ ns s. entries_of (is_two h.version) t h.rows h.values ns s)) × (10 ≤ length s)
+    × (is_two h.version ≡ eqb (get_or s 0 0) 2) × (h.values ≤ value_limit (is_two h.version))
 
 -- ---- version 2
 
@@ -240,55 +255,71 @@ abbrev pub ListingFrom : ℕ → List ℕ → Type 0
 ListingFrom t s = (k : ℕ) × (value_size Short Dict t s ≡ Ok k) × (k + 4 ≤ length s)
 
 -- what is read of any bytes at a position as n listings, and where they end
-abbrev pub DirectoryAt : ℕ → ℕ → List ℕ → ℕ → Directory → Type 0
-DirectoryAt t n s at (Directory.Refused r) = (f : AfterListings) → listings t n [] (drop at s) f ≡ Err r
-DirectoryAt t n s at (Directory.Ends next) =
+abbrev pub DirectoryAt : ℕ → ℕ → List ℕ → ℕ → Result Position Refusal → Type 0
+DirectoryAt t n s at (Err r) = (f : AfterListings) → listings t n [] (drop at s) f ≡ Err r
+DirectoryAt t n s at (Ok next) =
     (ds : List Listing) × ((f : AfterListings) → listings t n [] (drop at s) f ≡ f ds (drop next.0 s))
     × DirectoryFrom t n (drop at s) ds × (next.0 ≤ length s)
 
--- a span's bytes, and the value that it has: none where it has no bytes
+-- a span's bytes, and the value that it has: none where there is no span
 abbrev pub bytes_at : List ℕ → Span → List ℕ
 bytes_at s c = take (c.end.0 - c.start.0) (drop c.start.0 s)
 
-abbrev pub cell_at : List ℕ → Span → Cell
-cell_at s c = cond (ltb c.start.0 c.end.0) (value (bytes_at s c)) null
+abbrev pub cell_at : List ℕ → Option Span → Cell
+cell_at s None = null
+cell_at s (Some c) = value (bytes_at s c)
+
+-- it lies in s
+abbrev pub SpanIn : List ℕ → Option Span → Type 0
+SpanIn s None = Unit {0}
+SpanIn s (Some c) = (c.start.0 ≤ c.end.0) × (c.end.0 ≤ length s)
 
 -- n entries of a block at a position, behind the value `before`, where the value `due` is due: where they end, and the last value
-abbrev pub BlockEntriesAt : ℕ → ℕ → Span → Span → List ℕ → ℕ → BlockEntries → Type 0
-BlockEntriesAt t n before due s at (BlockEntries.Refused r) =
+abbrev pub BlockEntriesAt : ℕ → ℕ → Option Span → Option Span → List ℕ → ℕ → Result BlockEntries Refusal → Type 0
+BlockEntriesAt t n before due s at (Err r) =
     (es : List Entry) (f : AfterBlock) → entries_version_two t n (cell_at s before) (cell_at s due) es (drop at s) f ≡ Err r
-BlockEntriesAt t n before due s at (BlockEntries.To next last) =
+BlockEntriesAt t n before due s at (Ok x) =
     ((new : List Entry) × ((es : List Entry) (f : AfterBlock)
-    → entries_version_two t n (cell_at s before) (cell_at s due) es (drop at s) f ≡ f (cell_at s last) (es ++ new) (drop next.0 s))
-    × (length new ≡ n) × ((more : List Entry) → EntriesFrom t true 0 (drop next.0 s) more → EntriesFrom t true n (drop at s) (new ++ more)))
-    × (at ≤ next.0) × (next.0 ≤ length s) × (last.end.0 ≤ length s)
+    → entries_version_two t n (cell_at s before) (cell_at s due) es (drop at s) f ≡ f (cell_at s x.last) (es ++ new) (drop x.next.0 s))
+    × (length new ≡ n) × ((more : List Entry) → EntriesFrom t true 0 (drop x.next.0 s) more → EntriesFrom t true n (drop at s) (new ++ more)))
+    × (at ≤ x.next.0) × (x.next.0 ≤ length s) × SpanIn s x.last
 
 -- the block at p, whose listing stands at q: where both end, its last value, and its number of entries
-abbrev pub BlockAt : ℕ → Span → List ℕ → ℕ → ℕ → ℕ → Block → Type 0
-BlockAt t before s base q p (Block.Refused r) =
+abbrev pub BlockAt : ℕ → Option Span → List ℕ → ℕ → ℕ → ℕ → Result Block Refusal → Type 0
+BlockAt t before s base q p (Err r) =
     (d : Listing) (ds : List Listing) → ListingsFrom t (drop q s) (d ∷ ds)
     → (es : List Entry) (f : AfterEntries) → blocks_of t (d ∷ ds) (drop base s) (cell_at s before) es (drop p s) f ≡ Err r
-BlockAt t before s base q p (Block.Ends listing next last number) =
-    ((d : Listing) (ds : List Listing) → ListingsFrom t (drop q s) (d ∷ ds) → ListingsFrom t (drop listing.0 s) ds
+BlockAt t before s base q p (Ok x) =
+    ((d : Listing) (ds : List Listing) → ListingsFrom t (drop q s) (d ∷ ds) → ListingsFrom t (drop x.listing.0 s) ds
     × ((new : List Entry) × ((es : List Entry) (f : AfterEntries)
-    → blocks_of t (d ∷ ds) (drop base s) (cell_at s before) es (drop p s) f ≡ blocks_of t ds (drop base s) (cell_at s last) (es ++ new) (drop next.0 s) f)
-    × (length new ≡ number) × ((more : List Entry) → EntriesFrom t true 0 (drop next.0 s) more → EntriesFrom t true 0 (drop p s) (new ++ more))))
-    × (p ≤ next.0) × (next.0 ≤ length s) × (last.end.0 ≤ length s) × (number < sign_bit)
+    → blocks_of t (d ∷ ds) (drop base s) (cell_at s before) es (drop p s) f
+    ≡ blocks_of t ds (drop base s) (cell_at s x.entries.last) (es ++ new) (drop x.entries.next.0 s) f)
+    × (length new ≡ x.number)
+    × ((more : List Entry) → EntriesFrom t true 0 (drop x.entries.next.0 s) more → EntriesFrom t true 0 (drop p s) (new ++ more))))
+    × (p ≤ x.entries.next.0) × (x.entries.next.0 ≤ length s) × SpanIn s x.entries.last × (x.number < sign_bit)
 
 -- b blocks from base on, whose directory stands at dir: where the last ends, and the number of entries in all
-abbrev pub BlocksAt : ℕ → ℕ → List ℕ → ℕ → ℕ → Blocks → Type 0
-BlocksAt t b s dir base (Blocks.Refused r) =
+abbrev pub BlocksAt : ℕ → ℕ → List ℕ → ℕ → ℕ → Result Blocks Refusal → Type 0
+BlocksAt t b s dir base (Err r) =
     (ds : List Listing) → DirectoryFrom t b (drop dir s) ds
     → (f : AfterEntries) → blocks_of t ds (drop base s) null [] (drop base s) f ≡ Err r
-BlocksAt t b s dir base (Blocks.End next sum) =
+BlocksAt t b s dir base (Ok x) =
     ((ds : List Listing) → DirectoryFrom t b (drop dir s) ds
-    → (es : List Entry) × ((f : AfterEntries) → blocks_of t ds (drop base s) null [] (drop base s) f ≡ f es (drop next.0 s))
-    × (length es ≡ sum) × EntriesFrom t true 0 (drop base s) es)
-    × (base ≤ next.0) × (next.0 ≤ length s)
+    → (es : List Entry) × ((f : AfterEntries) → blocks_of t ds (drop base s) null [] (drop base s) f ≡ f es (drop x.next.0 s))
+    × (length es ≡ x.sum) × EntriesFrom t true 0 (drop base s) es)
+    × (base ≤ x.next.0) × (x.next.0 ≤ length s)
 
 -- the n entries of either version at a position: the cursor before the first, and where the region of bitmaps begins
-abbrev pub AllEntriesAt : Bool → ℕ → ℕ → List ℕ → ℕ → AllEntries → Type 0
-AllEntriesAt version2 t n s at (AllEntries.Refused r) = (rows : ℕ) (ns : List Entry) → entries_of version2 t rows n ns (drop at s) ≡ Err r
-AllEntriesAt version2 t n s at (AllEntries.Sound first region) =
-    (es : List Entry) × ((rows : ℕ) (ns : List Entry) → entries_of version2 t rows n ns (drop at s) ≡ Ok (record { rows = rows; entries = ns ++ es; region = drop region.0 s }))
-    × (length es ≡ n) × EntriesAt t version2 s first es × (first.left ≡ cond version2 0 n) × (first.at.0 ≤ length s) × (region.0 ≤ length s)
+abbrev pub AllEntriesAt : Bool → ℕ → ℕ → List ℕ → ℕ → Result AllEntries Refusal → Type 0
+AllEntriesAt version2 t n s at (Err r) = (rows : ℕ) (ns : List Entry) → entries_of version2 t rows n ns (drop at s) ≡ Err r
+AllEntriesAt version2 t n s at (Ok x) =
+    (es : List Entry)
+    × ((rows : ℕ) (ns : List Entry) → entries_of version2 t rows n ns (drop at s) ≡ Ok (record { rows = rows; entries = ns ++ es; region = drop x.region.0 s }))
+    × (length es ≡ n) × EntriesAt t version2 s x.first es × (x.first.left ≡ cond version2 0 n) × (x.first.at.0 ≤ length s) × (x.region.0 ≤ length s)
+
+-- a table with no value yet, for n values of s
+pub record Tabling (n : ℕ) (s table : List ℕ) : Type 0 where
+  pub short : length s ≤ limit
+  pub few : n ≤ most_values1
+  pub empty : Holds s table []
+  pub room : slot most_values1 ≤ length table

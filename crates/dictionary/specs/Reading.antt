@@ -1,4 +1,4 @@
--- What is read of any bytes as a body's dictionary of type t (01, "Bitmap body"): in byte order, each field SHORT, then its rule.
+-- What is read of any bytes as a body's dictionary of type t: in byte order, each field SHORT, then its rule.
 use Rattle.std.specs.Prelude.{ℕ, zero, suc, ◌-◌, Bool, true, false, not, ◌&&◌, ◌||◌, cond, List, [], ◌∷◌, ◌++◌, eqb, ltb, leb, length, Result, Err, Ok}
 use Rattle.numbers.specs.Meaning.{big, number, same, sign_bit, minus_one_32}
 use Rattle.refusal.specs.Meaning.{limit}
@@ -13,7 +13,7 @@ use Rattle.dictionary.specs.Layout.{Entry, some_has, most_values1, most_values2,
 unfoldable pub count_at_most : {A : Type 0} → ℕ → List ℕ → (ℕ → List ℕ → Result A Refusal) → Result A Refusal
 count_at_most most s k = number big 4 (Err Short) s (λ n s. check (ltb n sign_bit) Dict (check (leb n most) Limit (k n s)))
 
--- what a dictionary says: the row count, the entries in stored order, null's first, and the bytes of the region, 01's body of bitmaps
+-- what a dictionary says: the row count, the entries in stored order, null's first, and the bytes of the region of bitmaps
 pub record Dictionary : Type 0 where
   pub rows : ℕ
   pub entries : List Entry

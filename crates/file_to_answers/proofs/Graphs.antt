@@ -1,6 +1,6 @@
 -- The scan's answer less the rows of another field: what a graph may claim.
-use Prim.Native.Nat.{ℕ, ◌*◌, ◌≤◌}
-use mathlib.Core.Path.{◌≡◌, refl, ap, ◌∙◌}
+use Prim.Native.Nat.{ℕ, ◌+◌, ◌*◌, ◌≤◌}
+use mathlib.Core.Path.{◌≡◌, ap, ◌∙◌}
 use mathlib.Core.List.{List, ◌++◌}
 use native.Mathlib.Omega.{arith}
 use borrow.Author.Tests.{le-leb}
@@ -10,8 +10,11 @@ use Rattle.std.specs.Prelude.{Ok}
 use Rattle.refusal.specs.Reading.{check, and_then}
 use Rattle.row_field.specs.Meaning.{size, count}
 use Rattle.row_field.proofs.Fronts.{rows-front}
-use Rattle.subtract.specs.Meaning.{subtracted, removed}
-use Rattle.subtract.specs.Reading.{subtraction, buffer_by, subtract_buffer, replaced, RecordCounts, record_subtraction}
+use Rattle.subtract.specs.declared.Record.{Record}
+use Rattle.subtract.specs.declared.Subtracted.{Subtracted}
+use Rattle.subtract.specs.Meaning.{subtracted, removed, answer_of}
+use Rattle.subtract.proofs.WithRecord.{said_again}
+use Rattle.subtract.specs.Reading.{subtraction, buffer_by, subtract_buffer, replaced, record_subtraction}
 use Rattle.subtract.proofs.Laws.{subtracted-front}
 use Rattle.subtract.proofs.Theorems.{keeps_the_length, left-and-removed}
 use Rattle.stored_value.specs.Meaning.{Cell}
@@ -53,11 +56,21 @@ module _ (q : Question) (ls : List (List ℕ)) (cells : List Cell) (field g : Li
   unfolding subtraction buffer_by check
   buffer_left = rw (le-leb n limit small, le-leb (size n) (length (f ++ behind)) first-room, le-leb (size n) (length g) room) rows_left
 
-  pub drawn_from : (a : RecordCounts)
+  -- the record of what is left
+  abbrev left_over : Record
+  left_over = replaced (scan_record q ls cells) (count g n) (count (subtracted n (f ++ behind) g) n)
+
+  pub drawn_from : (a : Subtracted)
       × (record_subtraction (scan_answer q ls cells field).said (scan_answer q ls cells field).buffer g ≡ Ok a) × DrawnFrom q ls cells g a
   unfolding record_subtraction subtraction check and_then scan_record
   drawn_from = (
-    record { said = replaced (scan_record q ls cells) (count g n) (count (subtracted n (f ++ behind) g) n); removed = removed n (f ++ behind) g },
+    record { answer = answer_of left_over; removed = removed n (f ++ behind) g },
     rw (le-leb n limit small, le-leb (size n) (length (f ++ behind)) first-room, le-leb (size n) (length g) room),
-    record { rows = refl; nulls = refl; deleted = refl; matched = matched_left; with_removed = left-and-removed n (f ++ behind) g ∙ matched_before },
+    record {
+      rows = ap (λ (r : Record). r.rows) (said_again left_over);
+      nulls = ap (λ (r : Record). r.nulls) (said_again left_over);
+      deleted = ap (λ (r : Record). r.deleted) (said_again left_over);
+      matched = ap (λ (r : Record). r.matched) (said_again left_over) ∙ matched_left;
+      with_removed = ap (λ (r : Record). r.matched + removed n (f ++ behind) g) (said_again left_over) ∙ left-and-removed n (f ++ behind) g ∙ matched_before;
+    },
   )

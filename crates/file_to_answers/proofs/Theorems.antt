@@ -7,12 +7,13 @@ use native.Mathlib.Decide.{ℕ_discrete}
 use native.Mathlib.Omega.{arith}
 use Rattle.numbers.specs.Meaning.{be_at}
 use Rattle.refusal.specs.declared.Refusal.{Refusal}
-use Rattle.std.specs.Prelude.{Result, Err, Ok}
+use Rattle.std.specs.Prelude.{Result, Err, Ok, Option, Some, None}
+use Rattle.index_file.specs.declared.Part.{Part}
 use Rattle.refusal.specs.Reading.{and_then}
 use Rattle.refusal.proofs.Laws.{not-ok, then_ok}
 use Rattle.stored_value.specs.Meaning.{Cell}
 use Rattle.index_file.specs.Layout.{file_version}
-use Rattle.index_file.specs.Reading.{Part, Sought, found, absent, bytes_of, find}
+use Rattle.index_file.specs.Reading.{bytes_of, find}
 use Rattle.index_file.proofs.Theorems.{laid_out_is_found, other_version_is_not_found}
 use Rattle.bitmap_index.specs.declared.Question.{Question}
 use Rattle.bitmap_index.specs.Reading.{Answer, ask}
@@ -55,15 +56,15 @@ file_gives_the_graph t cells column kind bytes f field g b room room' q ls w =
 
 pub other_version_has_no_part : OtherVersionHasNoPart
 other_version_has_no_part bytes column kind other =
-    let part : Result (Sought Part) Refusal → List ℕ = λ o. part_of o bytes in
+    let part : Result (Option Part) Refusal → List ℕ = λ o. part_of o bytes in
     ⊎_elim (λ e. ap part e) (⊎_elim (λ e. ap part e) (⊎_elim (λ e. ap part e) (⊎_elim (λ e. ap part e) (λ e. ap part e)))) (other_version_is_not_found bytes column kind other)
 
 refused_is_no_answer : (bytes column kind : List ℕ) (t : ℕ) (q : Question) (literals field : List ℕ) (a : Answer) (r : Refusal) → find bytes column kind ≡ Err r
-    → file_asked bytes column kind t q literals field ≡ Ok (found a) → ⊥
+    → file_asked bytes column kind t q literals field ≡ Ok (Some a) → ⊥
 unfolding file_asked and_then
 refused_is_no_answer bytes column kind t q literals field a r e h = not-ok (rw e at h)
 
-known-version : (bytes column kind : List ℕ) (t : ℕ) (q : Question) (literals field : List ℕ) (a : Answer) → file_asked bytes column kind t q literals field ≡ Ok (found a)
+known-version : (bytes column kind : List ℕ) (t : ℕ) (q : Question) (literals field : List ℕ) (a : Answer) → file_asked bytes column kind t q literals field ≡ Ok (Some a)
     → Dec (be_at 4 bytes 8 ≡ file_version) → be_at 4 bytes 8 ≡ file_version
 known-version bytes column kind t q literals field a h (yes e) = e
 known-version bytes column kind t q literals field a h (no n) =
@@ -75,13 +76,13 @@ known-body t q literals field a v s h (yes e) d = inl e
 known-body t q literals field a v s h (no n) (yes e) = inr e
 known-body t q literals field a v s h (no n) (no n') = absurd ((unknown_version_yields_nothing t q v s literals field n n').1 a h)
 
-known-part : (bytes : List ℕ) (t : ℕ) (q : Question) (literals field : List ℕ) (a : Answer) (o : Result (Sought Part) Refusal) → and_then o (ask_part bytes t q literals field) ≡ Ok (found a)
+known-part : (bytes : List ℕ) (t : ℕ) (q : Question) (literals field : List ℕ) (a : Answer) (o : Result (Option Part) Refusal) → and_then o (ask_part bytes t q literals field) ≡ Ok (Some a)
     → (v : ℕ) (s : List ℕ) → part_of o bytes ≡ v ∷ s → (v ≡ 1) ⊎ (v ≡ 2)
 unfolding and_then ask_part
 known-part bytes t q literals field a (Err r) h v s e = absurd (not-ok h)
-known-part bytes t q literals field a (Ok absent) h v s e = absurd (let z : ◌≡◌ {A = ℕ} 0 1 = cc in omega arith)
-known-part bytes t q literals field a (Ok (found p)) h v s e =
-    let t-ok = then_ok (ask t q literals (bytes_of p bytes) field) _ (found a) h in
+known-part bytes t q literals field a (Ok None) h v s e = absurd (let z : ◌≡◌ {A = ℕ} 0 1 = cc in omega arith)
+known-part bytes t q literals field a (Ok (Some p)) h v s e =
+    let t-ok = then_ok (ask t q literals (bytes_of p bytes) field) _ (Some a) h in
     let asked : ask t q literals (v ∷ s) field ≡ Ok t-ok.0 = ap (λ (b : List ℕ). ask t q literals b field) (sym e) ∙ t-ok.1 in
     known-body t q literals field t-ok.0 v s asked (ℕ_discrete v 1) (ℕ_discrete v 2)
 

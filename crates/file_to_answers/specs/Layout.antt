@@ -1,5 +1,5 @@
--- The files of a column (01, "Questions"): "A file is the column's if it keeps the head's rules and lists the asked column once, in it the asked kind once,
--- whose start and length give such a body", the body being the column's. Within 01's limit on buffers.
+-- The files of a column: "A file is the column's if it keeps the head's rules and lists the asked column once, in it the asked kind once,
+-- whose start and length give such a body", the body being the column's. Within the limit on buffers.
 use Rattle.std.specs.Prelude.{ℕ, ◌≤◌, List, length}
 use Rattle.refusal.specs.Meaning.{limit}
 use Rattle.stored_value.specs.Meaning.{Cell}

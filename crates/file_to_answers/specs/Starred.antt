@@ -1,6 +1,6 @@
--- 01, "Files written out": the cases marked * stand together in one table, with one statement, `StarredHolds`. The questions are asked in both editions (02,
--- Ticket 4: "01's NOT EQUAL 7 gives 06 in edition 1, 02 in edition 2"), and answered with the whole record (02, Ticket 7).
-use Rattle.std.specs.Prelude.{ℕ, ◌≤◌, ◌<◌, ◌≡◌, not, List, [], ◌∷◌, ltb, negsuc, length, Err, Ok}
+-- Cases written out, in one table with one statement, `StarredHolds`. The questions are asked in both editions (NOT EQUAL 7 gives 06 in the first, 02 in the
+-- second), and answered with the whole record.
+use Rattle.std.specs.Prelude.{ℕ, ◌≤◌, ◌<◌, ◌≡◌, not, List, [], ◌∷◌, ltb, negsuc, length, Err, Ok, Some}
 use Rattle.numbers.specs.Meaning.{All, signed32, four_bytes}
 use Rattle.refusal.specs.Meaning.{limit}
 use Rattle.refusal.specs.declared.Refusal.TheVariants.{Range, Twice}
@@ -10,9 +10,9 @@ use Rattle.subtract.specs.declared.Record.{Record}
 use Rattle.roaring.specs.Layout.{Bitmap}
 use Rattle.roaring.specs.Reading.{parsed, read}
 use Rattle.stored_value.specs.Meaning.{Cell, null, value}
-use Rattle.index_file.specs.Reading.{found, find, locate_numbers}
-use Rattle.bitmap_index.specs.declared.Answered.{Answered}
-use Rattle.bitmap_index.specs.declared.Answered.TheVariants.{Skip, Keep}
+use Rattle.index_file.specs.Reading.{find, locate_numbers}
+use Rattle.subtract.specs.declared.Answer.{Answer as Said}
+use Rattle.subtract.specs.declared.Answer.TheVariants.{Skip, Keep}
 use Rattle.bitmap_index.specs.Meaning.{equal, not_equal, first_edition, second_edition, question}
 use Rattle.bitmap_index.specs.declared.Question.{Question}
 use Rattle.bitmap_index.specs.Layout.{EntryRows, ColumnBody}
@@ -51,12 +51,12 @@ pub data Case : Type 0 where
   -- the body is the column's, and Audit of it gives three rows
   audits : List ℕ → Case
   -- the question with this TINYINT literal, of either body, of the file and of the scan: the field's byte, how many rows match, and what Ask answers
-  answers : Question → ℕ → ℕ → ℕ → Answered → Case
+  answers : Question → ℕ → ℕ → ℕ → Said → Case
   -- the bytes are a bitmap of these rows, and are read so
   reads : List ℕ → List ℕ → Case
   -- the offset, as 32 bits, names this row: it is placed as this row alone, and so it is laid out, whatever the length beside it
   names : ℕ → ℕ → Case
-  -- the offset is RANGE always: for each row count that 01 allows
+  -- the offset is RANGE always: for each row count that is allowed
   outside : ℕ → Case
 
 -- the record of an answer in which so many rows match: three rows, one of them null, none deleted; and the answer, whose field is one byte
@@ -75,9 +75,9 @@ Holds (audits body) = (audit 0 body (0xFF ∷ []) ≡ Ok 3) × ColumnBody 0 cell
 Holds (answers q v field matched answer) =
     (ask 0 q (v ∷ []) one (0xFF ∷ []) ≡ Ok (answer_of field matched))
     × (ask 0 q (v ∷ []) two (0xFF ∷ []) ≡ Ok (answer_of field matched))
-    × (file_asked file s bitmap 0 q (v ∷ []) (0xFF ∷ []) ≡ Ok (found (answer_of field matched)))
+    × (file_asked file s bitmap 0 q (v ∷ []) (0xFF ∷ []) ≡ Ok (Some (answer_of field matched)))
     × (scan_answer q ((v ∷ []) ∷ []) cells (0xFF ∷ []) ≡ answer_of field matched)
-    × (answered_by (Ok (answer_of field matched)) ≡ answer)
+    × (answered_by (Ok (answer_of field matched)) ≡ Ok answer)
 Holds (reads bytes rows) = (read bytes ≡ Ok (parsed rows (length bytes) [])) × Bitmap rows bytes
 Holds (names offset row) =
     (signed32 offset ≡ negsuc row)

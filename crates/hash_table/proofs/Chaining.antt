@@ -56,25 +56,11 @@ pub record Walk (vs : List (List ℕ)) (w : List ℕ) (at : ℕ) : Type 0 where
   pub past : (k : ℕ) → at ≤ k → k < length vs → get_or vs k [] ≡ w → ⊥
 
 module _ {s table : List ℕ} {vs : List (List ℕ)} (held : Holds s table vs) (w : List ℕ) where
-  pub walk_first : (h : ℕ) → h < chains → h ≡ hash_of w → Walk vs w (get_or table h 0)
-  walk_first h b e =
-      let a = held.head h b in
-      record { low = a.low; hit = λ p. a.hit p ∙ e; past = λ k p q x. a.past k p q (ap hash_of x ∙ sym e) }
-
   module _ (at : ℕ) (here : Walk vs w at) where
     pub walk_done : at ≡ 0 → among w vs ≡ false
     walk_done e = among_none w vs (λ j l x. here.past j (omega arith) l x)
 
     module _ (some : 0 < at) where
-      pub walk_less : get_or table (slot (at - 1)) 0 < at
-      walk_less = let a = held.link (at - 1) (omega (arith, here.low)) in omega (arith, a.low)
-
-      pub walk_within : (slot (at - 1) + 3 ≤ length table) × (get_or table (slot (at - 1) + 1) 0 ≤ get_or table (slot (at - 1) + 2) 0)
-          × (get_or table (slot (at - 1) + 2) 0 ≤ length s)
-      walk_within =
-          let p = held.within (at - 1) (omega (arith, here.low)) in
-          (omega (arith, here.low, held.room), p.0, p.1)
-
       pub walk_found : same w (value_at s table (at - 1)) ≡ true → among w vs ≡ true
       walk_found e =
           let l : at - 1 < length vs = omega (arith, here.low) in

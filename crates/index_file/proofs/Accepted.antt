@@ -13,14 +13,15 @@ use Rattle.numbers.proofs.ByteLists.{bytes_drop, bytes_take}
 use Rattle.numbers.proofs.Laws.{on_number}
 use Rattle.numbers.specs.declared.Position.{Position}
 use Rattle.refusal.specs.declared.Refusal.{Refusal}
-use Rattle.std.specs.Prelude.{Result, Err, Ok}
+use Rattle.std.specs.Prelude.{Result, Err, Ok, Option, Some, None}
 use Rattle.refusal.specs.Reading.{check}
 use Rattle.refusal.proofs.Laws.{not-ok}
 use Rattle.names.specs.Reading.{matches}
-use Rattle.index_file.specs.declared.Place.{Place}
-use Rattle.index_file.specs.declared.Place.TheVariants.{Nowhere, At, Repeated}
+use Rattle.index_file.specs.declared.Part.{Part}
+use Rattle.index_file.specs.declared.Seen.{Seen}
+use Rattle.index_file.specs.declared.Seen.TheVariants.{Nowhere, Once, Twice}
 use Rattle.index_file.specs.Layout.{magic, file_version, front_size, least_head, ListedIndex, ListedColumn, name_bytes, entry_bytes, entries_bytes, column_bytes, columns_bytes, head_bytes, GoodIndex, GoodColumn, Headed, File, Unlisted}
-use Rattle.index_file.specs.Reading.{count, name, place_after_entry, entries, place_after_column, columns, Part, Sought, found, absent, placed, head, file, within_limits, find, bytes_of}
+use Rattle.index_file.specs.Reading.{count, name, place_after_entry, entries, part_at, place_after_column, columns, placed, head, file, within_limits, find, bytes_of}
 use Rattle.index_file.specs.Promises.{Rest}
 use Rattle.index_file.proofs.ListedOnce.{place_in, place_of, found_back, absent_back}
 use Rattle.index_file.proofs.Laid.{entry_split, column_split, headed_file}
@@ -35,11 +36,11 @@ join n bytes t fields h y x =
     ∙ take-append-drop front_size (take n bytes)
 
 -- a reading that is no refusal
-module _ (good : Sought Part) where
-  abbrev Good : Result (Sought Part) Refusal → Type 0
+module _ (good : Option Part) where
+  abbrev Good : Result (Option Part) Refusal → Type 0
   Good o = o ≡ Ok good
 
-  on_check : {X : Type 0} (b : Bool) (r : Refusal) (o : Result (Sought Part) Refusal) → Good (check b r o) → (T b → Good o → X) → X
+  on_check : {X : Type 0} (b : Bool) (r : Refusal) (o : Result (Option Part) Refusal) → Good (check b r o) → (T b → Good o → X) → X
   unfolding check
   on_check true r o g f = f tt g
   on_check false r o g f = absurd (not-ok g)
@@ -59,7 +60,7 @@ module _ (good : Sought Part) where
       let e : name_bytes (take v t) ++ drop v t ≡ be 2 v ++ t = ap₂ (λ (j : ℕ) (l : List ℕ). be 2 j ++ l) l (take-append-drop v t) in
       subst P e (f (take v t) (drop v t) (omega arith) (bytes_drop v t ht) g)))
 
-  on_entries : (P : List ℕ → Type 0) (kind : List ℕ) (m : ℕ) (place : Place) (s : List ℕ) (k : Rest Place) → Bytes s → Good (entries (matches kind) m place s k)
+  on_entries : (P : List ℕ → Type 0) (kind : List ℕ) (m : ℕ) (place : Seen) (s : List ℕ) (k : Rest Seen) → Bytes s → Good (entries (matches kind) m place s k)
       → ((es : List ListedIndex) (t : List ℕ) → length es ≡ m → All GoodIndex es → Bytes t → Good (k (place_in kind place es) t) → P (entries_bytes es ++ t)) → P s
   unfolding entries place_in
   on_entries P kind zero place s k h g f = f [] s refl tt h g
@@ -67,11 +68,11 @@ module _ (good : Sought Part) where
       on_name P s _ h g (λ n t hn ht g.
       on_number big 4 (Err Refusal.Head) Good (λ (l : List ℕ). P (name_bytes n ++ l)) t _ not-ok ht g (λ a t ha ht g.
       on_number big 4 (Err Refusal.Head) Good (λ (l : List ℕ). P (name_bytes n ++ (be 4 a ++ l))) t _ not-ok ht g (λ b t hb ht g.
-      on_entries (λ (l : List ℕ). P (name_bytes n ++ (be 4 a ++ (be 4 b ++ l)))) kind m (place_after_entry (matches kind n) (position a) b place) t k ht g (λ es t c fit ht g.
+      on_entries (λ (l : List ℕ). P (name_bytes n ++ (be 4 a ++ (be 4 b ++ l)))) kind m (place_after_entry (matches kind n) (part_at (position a) b) place) t k ht g (λ es t c fit ht g.
       let e : ListedIndex = record { name = n; start = a; length = b } in
       subst P (append_assoc (entry_bytes e) (entries_bytes es) t ∙ entry_split e (entries_bytes es ++ t)) (f (e ∷ es) t (ap suc c) ((hn, ha, hb), fit) ht g)))))
 
-  on_columns : (P : List ℕ → Type 0) (column kind : List ℕ) (m : ℕ) (seen : Bool) (place : Place) (s : List ℕ) (k : Rest Place) → Bytes s
+  on_columns : (P : List ℕ → Type 0) (column kind : List ℕ) (m : ℕ) (seen : Bool) (place : Seen) (s : List ℕ) (k : Rest Seen) → Bytes s
       → Good (columns (matches column) (matches kind) m seen place s k)
       → ((cs : List ListedColumn) (t : List ℕ) → length cs ≡ m → All GoodColumn cs → Bytes t → Good (k (place_of kind column seen place cs) t) → P (columns_bytes cs ++ t)) → P s
   unfolding columns place_of
@@ -135,22 +136,22 @@ module _ (good : Sought Part) where
 
 -- ---- found
 
-placed-found : (p : Part) (n total : ℕ) (place : Place) → placed n total place ≡ Ok (found p)
-    → (place ≡ At p.start p.length) × (p.start.0 < sign_bit) × (p.length < sign_bit) × (n ≤ p.start.0) × (p.start.0 + p.length ≤ total)
+placed-found : (p : Part) (n total : ℕ) (place : Seen) → placed n total place ≡ Ok (Some p)
+    → (place ≡ Once p) × (p.start.0 < sign_bit) × (p.length < sign_bit) × (n ≤ p.start.0) × (p.start.0 + p.length ≤ total)
 unfolding placed
 placed-found p n total Nowhere g = absurd (let z : ◌≡◌ {A = ℕ} 0 1 = cc in omega arith)
-placed-found p n total Repeated g = absurd (not-ok g)
-placed-found p n total (At a b) g =
-    let test = on_check (found p) in
+placed-found p n total Twice g = absurd (not-ok g)
+placed-found p n total (Once q) g =
+    let test = on_check (Some p) in
     test _ Refusal.Head _ g (λ is-start g. test _ Refusal.Head _ g (λ low g. test _ Refusal.Head _ g (λ is-size g. test _ Refusal.Head _ g (λ end g.
-    let q : record { start = a; length = b } ≡ p = cc in
-    rw (← q) (refl, ltb→lt a.0 sign_bit is-start, ltb→lt b sign_bit is-size, leb→le n a.0 low, leb→le (a.0 + b) total end)))))
+    let e : q ≡ p = cc in
+    rw (← e) (refl, ltb→lt q.start.0 sign_bit is-start, ltb→lt q.length sign_bit is-size, leb→le n q.start.0 low, leb→le (q.start.0 + q.length) total end)))))
 
-module _ (bytes column kind : List ℕ) (p : Part) (b : Bytes bytes) (g : find bytes column kind ≡ Ok (found p)) where
-  head_of : (h : Headed bytes) × (placed h.head_length (length bytes) (place_of kind column false Nowhere h.columns) ≡ Ok (found p))
-  head_of = answered (found p) bytes column kind b g
+module _ (bytes column kind : List ℕ) (p : Part) (b : Bytes bytes) (g : find bytes column kind ≡ Ok (Some p)) where
+  head_of : (h : Headed bytes) × (placed h.head_length (length bytes) (place_of kind column false Nowhere h.columns) ≡ Ok (Some p))
+  head_of = answered (Some p) bytes column kind b g
 
-  place_of_lem : (place_of kind column false Nowhere head_of.0.columns ≡ At p.start p.length)
+  place_of_lem : (place_of kind column false Nowhere head_of.0.columns ≡ Once p)
       × (p.start.0 < sign_bit) × (p.length < sign_bit) × (head_of.0.head_length ≤ p.start.0) × (p.start.0 + p.length ≤ length bytes)
   place_of_lem = placed-found p head_of.0.head_length (length bytes) (place_of kind column false Nowhere head_of.0.columns) head_of.1
 
@@ -176,16 +177,16 @@ module _ (bytes column kind : List ℕ) (p : Part) (b : Bytes bytes) (g : find b
 
 -- ---- absent
 
-placed-absent : (n total : ℕ) (place : Place) → placed n total place ≡ Ok absent → place ≡ Nowhere
+placed-absent : (n total : ℕ) (place : Seen) → placed n total place ≡ Ok None → place ≡ Nowhere
 unfolding placed
 placed-absent n total Nowhere g = refl
-placed-absent n total Repeated g = absurd (not-ok g)
-placed-absent n total (At a b) g =
-    let test = on_check absent in
+placed-absent n total Twice g = absurd (not-ok g)
+placed-absent n total (Once q) g =
+    let test = on_check None in
     test _ Refusal.Head _ g (λ _ g. test _ Refusal.Head _ g (λ _ g. test _ Refusal.Head _ g (λ _ g. test _ Refusal.Head _ g (λ _ g.
     absurd (let z : ◌≡◌ {A = ℕ} 0 1 = cc in omega arith)))))
 
-pub unlisted : (bytes column kind : List ℕ) → Bytes bytes → find bytes column kind ≡ Ok absent → (h : Headed bytes) × Unlisted column kind h.columns
+pub unlisted : (bytes column kind : List ℕ) → Bytes bytes → find bytes column kind ≡ Ok None → (h : Headed bytes) × Unlisted column kind h.columns
 unlisted bytes column kind b g =
-    let h = answered absent bytes column kind b g in
+    let h = answered None bytes column kind b g in
     (h.0, absent_back kind column h.0.columns (placed-absent h.0.head_length (length bytes) (place_of kind column false Nowhere h.0.columns) h.1))

@@ -11,8 +11,8 @@ use Rattle.std.specs.Prelude.{Result, Err, Ok}
 use Rattle.refusal.specs.Claims.{Bare, CarriesNothing}
 use Rattle.refusal.proofs.CarriesNothing.{bare}
 use Rattle.refusal.proofs.Only.{Only, check_only, number_only}
-use Rattle.index_file.specs.declared.Place.{Place}
-use Rattle.index_file.specs.declared.Place.TheVariants.{Nowhere, At, Repeated}
+use Rattle.index_file.specs.declared.Seen.{Seen}
+use Rattle.index_file.specs.declared.Seen.TheVariants.{Nowhere, Once, Twice}
 use Rattle.index_file.specs.Reading.{count, name, entries, columns, placed, head, file, within_limits, find}
 
 module _ (P : Refusal → Type 0) (short : P Short) (magic : P Magic) (version : P Version) (of-head : P Head) where
@@ -26,22 +26,22 @@ module _ (P : Refusal → Type 0) (short : P Short) (magic : P Magic) (version :
     name_only s k f = search (check_only P, number_only P, of-head)
 
     module _ (isKind : List ℕ → Bool) where
-      entries_only : (m : ℕ) (p : Place) (s : List ℕ) (k : Place → List ℕ → Result A Refusal) → ((q : Place) (t : List ℕ) → Only P (k q t)) → Only P (entries isKind m p s k)
+      entries_only : (m : ℕ) (p : Seen) (s : List ℕ) (k : Seen → List ℕ → Result A Refusal) → ((q : Seen) (t : List ℕ) → Only P (k q t)) → Only P (entries isKind m p s k)
       unfolding entries
       entries_only zero p s k f = f p s
       entries_only (suc m) p s k f = search (number_only P, name_only, entries_only m, of-head)
 
-      columns_only : (isColumn : List ℕ → Bool) (n : ℕ) (seen : Bool) (p : Place) (s : List ℕ) (k : Place → List ℕ → Result A Refusal)
-          → ((q : Place) (t : List ℕ) → Only P (k q t)) → Only P (columns isColumn isKind n seen p s k)
+      columns_only : (isColumn : List ℕ → Bool) (n : ℕ) (seen : Bool) (p : Seen) (s : List ℕ) (k : Seen → List ℕ → Result A Refusal)
+          → ((q : Seen) (t : List ℕ) → Only P (k q t)) → Only P (columns isColumn isKind n seen p s k)
       unfolding columns
       columns_only isColumn zero seen p s k f = f p s
       columns_only isColumn (suc n) seen p s k f = search (name_only, count_only, entries_only, columns_only isColumn n)
 
-  placed_only : (head_length fileLength : ℕ) (p : Place) → Only P (placed head_length fileLength p)
+  placed_only : (head_length fileLength : ℕ) (p : Seen) → Only P (placed head_length fileLength p)
   unfolding placed
   placed_only head_length fileLength Nowhere = tt
-  placed_only head_length fileLength (At start size) = search (check_only P, of-head)
-  placed_only head_length fileLength Repeated = of-head
+  placed_only head_length fileLength (Once part) = search (check_only P, of-head)
+  placed_only head_length fileLength Twice = of-head
 
   head_only : (isColumn isKind : List ℕ → Bool) (head_length fileLength : ℕ) (s : List ℕ) → Only P (head isColumn isKind head_length fileLength s)
   unfolding head

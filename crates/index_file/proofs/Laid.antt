@@ -11,15 +11,16 @@ use Rattle.numbers.specs.Meaning.{be, big, All, sign_bit, position}
 use Rattle.numbers.proofs.Laws.{number_laid}
 use Rattle.refusal.specs.Meaning.{limit}
 use Rattle.refusal.specs.declared.Refusal.{Refusal}
-use Rattle.std.specs.Prelude.{Err, Ok}
+use Rattle.std.specs.Prelude.{Err, Ok, Some, None}
 use Rattle.refusal.specs.Reading.{check}
 use Rattle.names.specs.Layout.{Askable}
 use Rattle.names.specs.Reading.{matches}
 use Rattle.names.proofs.Theorems.{askable_is_tested, askable-short, named_is_askable}
-use Rattle.index_file.specs.declared.Place.{Place}
-use Rattle.index_file.specs.declared.Place.TheVariants.{Nowhere, At}
+use Rattle.index_file.specs.declared.Part.{Part}
+use Rattle.index_file.specs.declared.Seen.{Seen}
+use Rattle.index_file.specs.declared.Seen.TheVariants.{Nowhere, Once}
 use Rattle.index_file.specs.Layout.{magic, file_version, front_size, least_head, ListedIndex, ListedColumn, name_bytes, entry_bytes, entries_bytes, column_bytes, columns_bytes, head_bytes, GoodIndex, GoodColumn, ListedOnce, Headed, File, Unlisted}
-use Rattle.index_file.specs.Reading.{count, name, place_after_entry, entries, place_after_column, columns, Part, found, absent, placed, head, file, find}
+use Rattle.index_file.specs.Reading.{count, name, place_after_entry, entries, part_at, place_after_column, columns, placed, head, file, find}
 use Rattle.index_file.specs.Promises.{Rest}
 use Rattle.index_file.proofs.Laws.{find-file}
 use Rattle.index_file.proofs.ListedOnce.{place_in, place_of, in_once, of_once, of_unlisted}
@@ -44,7 +45,7 @@ entry_split e r =
     append_assoc (name_bytes e.name) (be 4 e.start ++ be 4 e.length) r
     ∙ ap (λ (l : List ℕ). name_bytes e.name ++ l) (append_assoc (be 4 e.start) (be 4 e.length) r)
 
-pub entries_laid : (kind : List ℕ) (es : List ListedIndex) (place : Place) (t : List ℕ) (k : Rest Place) → All GoodIndex es
+pub entries_laid : (kind : List ℕ) (es : List ListedIndex) (place : Seen) (t : List ℕ) (k : Rest Seen) → All GoodIndex es
     → entries (matches kind) (length es) place (entries_bytes es ++ t) k ≡ k (place_in kind place es) t
 unfolding entries place_in
 entries_laid kind [] place t k h = refl
@@ -54,7 +55,7 @@ entries_laid kind (e ∷ es) place t k h =
     ∙ name_laid e.name (be 4 e.start ++ (be 4 e.length ++ r)) _ h.0.0
     ∙ number_laid big 4 (Err Refusal.Head) e.start (be 4 e.length ++ r) _ h.0.1
     ∙ number_laid big 4 (Err Refusal.Head) e.length r _ h.0.2
-    ∙ entries_laid kind es (place_after_entry (matches kind e.name) (position e.start) e.length place) t k h.1
+    ∙ entries_laid kind es (place_after_entry (matches kind e.name) (part_at (position e.start) e.length) place) t k h.1
 
 -- ---- columns
 
@@ -63,7 +64,7 @@ column_split c r =
     append_assoc (name_bytes c.name) (be 4 (length c.entries) ++ entries_bytes c.entries) r
     ∙ ap (λ (l : List ℕ). name_bytes c.name ++ l) (append_assoc (be 4 (length c.entries)) (entries_bytes c.entries) r)
 
-pub columns_laid : (column kind : List ℕ) (cs : List ListedColumn) (seen : Bool) (place : Place) (t : List ℕ) (k : Rest Place) → All GoodColumn cs
+pub columns_laid : (column kind : List ℕ) (cs : List ListedColumn) (seen : Bool) (place : Seen) (t : List ℕ) (k : Rest Seen) → All GoodColumn cs
     → columns (matches column) (matches kind) (length cs) seen place (columns_bytes cs ++ t) k ≡ k (place_of kind column seen place cs) t
 unfolding columns place_of
 columns_laid column kind [] seen place t k h = refl
@@ -118,7 +119,7 @@ once_fit Q {x = x} o h = all_at Q o.before x o.after (rw o.parts at h)
 
 pub headed_file : (column kind : List ℕ) {bytes : List ℕ} (h : Headed bytes) → file (matches column) (matches kind) bytes ≡ placed h.head_length (length bytes) (place_of kind column false Nowhere h.columns)
 headed_file column kind h =
-    let place : Place = place_of kind column false Nowhere h.columns in
+    let place : Seen = place_of kind column false Nowhere h.columns in
     ap (file (matches column) (matches kind)) h.laid
     ∙ file_laid column kind h.head_length h.columns h.redundant h.whole h.counts.0 h.counts.1 h.counts.2 h.fit h.rest
     ∙ ap (λ (b : List ℕ). placed h.head_length (length b) place) (sym h.laid)
@@ -130,7 +131,7 @@ asked_file bytes column kind a b c =
     (simp ((askable_is_tested column).0 b, (askable_is_tested kind).0 c))
 
 -- a head that does not list what is asked for
-pub unlisted_file : {column kind bytes : List ℕ} (h : Headed bytes) → Unlisted column kind h.columns → file (matches column) (matches kind) bytes ≡ Ok absent
+pub unlisted_file : {column kind bytes : List ℕ} (h : Headed bytes) → Unlisted column kind h.columns → file (matches column) (matches kind) bytes ≡ Ok None
 unfolding placed
 unlisted_file {column} {kind} {bytes} h u = headed_file column kind h ∙ ap (placed h.head_length (length bytes)) (of_unlisted kind column u)
 
@@ -145,10 +146,10 @@ module _ {column kind body bytes : List ℕ} (f : File column kind body bytes) (
   kind_fits : GoodIndex f.entry
   kind_fits = once_fit GoodIndex f.kind_once column_fits.2
 
-  place_is : place_of kind column false Nowhere f.head.columns ≡ At (position f.entry.start) f.entry.length
+  place_is : place_of kind column false Nowhere f.head.columns ≡ Once (part_at (position f.entry.start) f.entry.length)
   place_is = of_once kind column f.column_once ∙ in_once kind f.kind_once
 
-  placed_is : placed f.head.head_length (length bytes) (At (position f.entry.start) f.entry.length) ≡ Ok (found (part_of f))
+  placed_is : placed f.head.head_length (length bytes) (Once (part_at (position f.entry.start) f.entry.length)) ≡ Ok (Some (part_of f))
   unfolding placed check
   placed_is =
       let s : ℕ = f.entry.start in
@@ -157,7 +158,7 @@ module _ {column kind body bytes : List ℕ} (f : File column kind body bytes) (
       let b : f.head.head_length ≤ s = f.behind in
       simp (lt-ltb s sign_bit f.not_negative.0, lt-ltb n sign_bit f.not_negative.1, le-leb f.head.head_length s b, le-leb (s + n) (length bytes) w)
 
-  pub laid_find : find bytes column kind ≡ Ok (found (part_of f))
+  pub laid_find : find bytes column kind ≡ Ok (Some (part_of f))
   laid_find =
       let x : Askable column = named_is_askable column f.asked.name f.column_once.holds (omega (arith, column_fits.0)) in
       let y : Askable kind = named_is_askable kind f.entry.name f.kind_once.holds (omega (arith, kind_fits.0)) in

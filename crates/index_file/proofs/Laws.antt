@@ -1,5 +1,6 @@
 -- Laws of the reading of a file: the limits, and the fields in front of the columns, in their order.
-use Prim.Native.Nat.{ℕ, ◌<◌, ◌≤◌}
+use Rattle.std.proofs.lemmas.List.{take_rest}
+use Prim.Native.Nat.{ℕ, ◌-◌, ◌<◌, ◌≤◌}
 use mathlib.Core.Path.{◌≡◌, sym, ◌∙◌}
 use mathlib.Core.Bool.{Bool, true, false, ◌&&◌}
 use mathlib.Core.List.{List}
@@ -23,9 +24,9 @@ use Rattle.index_file.specs.Reading.{count, head, file, within_limits, find}
 -- ---- the fields in front of the columns
 
 module _ (isColumn isKind : List ℕ → Bool) (bytes : List ℕ) where
-  pub file-short : length bytes < front_size → file isColumn isKind bytes ≡ Err Refusal.Short
+  pub file_short : length bytes < front_size → file isColumn isKind bytes ≡ Err Refusal.Short
   unfolding file check
-  file-short h = simp lt-leb
+  file_short h = simp lt-leb
 
   module _ (h : front_size ≤ length bytes) {stored : ℕ} (e : stored ≡ be_at 8 bytes 0) where
     from-magic : file isColumn isKind bytes ≡ check (eqb stored magic) Refusal.Magic (number big 4 (Err Refusal.Short) (drop 8 bytes) (λ version s.
@@ -53,6 +54,12 @@ module _ (isColumn isKind : List ℕ → Bool) (bytes : List ℕ) where
       unfolding check
       from-count f = from-version ∙ simp (eq-eqb version file_version f)
 
+  -- the same, where the code takes what stands behind the first two
+  pub file_counted : front_size ≤ length bytes → {stored : ℕ} → stored ≡ be_at 8 bytes 0 → stored ≡ magic → {version : ℕ} → version ≡ be_at 4 bytes 8 → version ≡ file_version
+      → file isColumn isKind bytes ≡ count (take (length bytes - 12) (drop 12 bytes)) (λ n s.
+      check (leb least_head n) Refusal.Head (check (leb n (length bytes)) Refusal.Head (head isColumn isKind n (length bytes) (drop front_size (take n bytes)))))
+  file_counted h e g e' g' = rw take_rest (from-count h e g e' g')
+
 module _ (bytes column kind : List ℕ) where
   pub find_long : limit < length bytes → find bytes column kind ≡ Err Refusal.Limit
   unfolding find within_limits check
@@ -74,15 +81,3 @@ module _ (bytes column kind : List ℕ) where
     pub find-file : askable column && askable kind ≡ true → find bytes column kind ≡ file (matches column) (matches kind) bytes
     unfolding find within_limits check
     find-file e = simp (le-leb, e)
-
--- ---- the names by their sizes
-
-module _ (column kind : List ℕ) {a b : ℕ} (e : a ≡ size_of_asked_name column) (f : b ≡ size_of_asked_name kind) {r : Bool} (g : r ≡ leb a name_limit && leb b name_limit) where
-  pub by_sizes : askable column && askable kind ≡ r
-  unfolding askable
-  by_sizes = sym (g ∙ rw (e, f))
-
-  pub have_sizes : r ≡ true → HasSize a column × HasSize b kind
-  have_sizes h =
-      let x = and_both (leb a name_limit) (leb b name_limit) (sym g ∙ h) in
-      ((e, leb-true a name_limit x.0), (f, leb-true b name_limit x.1))

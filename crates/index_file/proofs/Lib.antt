@@ -1,4 +1,4 @@
-pub mod Positions
+pub mod Steps
 pub mod Laws
 pub mod ListedOnce
 pub mod Laid

@@ -11,16 +11,17 @@ use Rattle.numbers.specs.Meaning.{be_at, Bytes, same}
 use Rattle.numbers.proofs.Booleans.{and_both}
 use Rattle.refusal.specs.Meaning.{number_of, limit}
 use Rattle.refusal.specs.declared.Refusal.{Refusal}
-use Rattle.std.specs.Prelude.{Err, Ok}
+use Rattle.std.specs.Prelude.{Err, Ok, Some, None}
 use Rattle.refusal.specs.Reading.{check, numbers_of}
 use Rattle.refusal.proofs.Laws.{ok_same}
 use Rattle.names.specs.Layout.{Askable}
 use Rattle.names.specs.Reading.{askable, matches}
 use Rattle.names.proofs.Theorems.{askable_is_tested, plain_is_compared, plain_is_askable}
 use Rattle.index_file.specs.Layout.{magic, file_version, front_size}
-use Rattle.index_file.specs.Reading.{found, absent, Part, bytes_of, within_limits, find, sought_numbers}
+use Rattle.index_file.specs.declared.Part.{Part}
+use Rattle.index_file.specs.Reading.{bytes_of, within_limits, find, sought_numbers}
 use Rattle.index_file.specs.Claims.{LaidOutIsFound, FoundIsLaidOut, OneBody, UnlistedIsAbsent, AbsentIsUnlisted, NumberOfFound, NumberOfAbsent, UnaskableIsLiteral, LiteralIsUnaskable, AskableIsLookedUp, PlainAsBefore, OtherVersionIsRefused, OtherVersionIsNotFound, FindCarriesNothing}
-use Rattle.index_file.proofs.Laws.{file-short, file-magic, file_version_lem, find_long, find_column, find_kind, find_unaskable}
+use Rattle.index_file.proofs.Laws.{file_short, file-magic, file_version_lem, find_long, find_column, find_kind, find_unaskable}
 use Rattle.index_file.proofs.Laid.{part_of, laid_find, asked_file, unlisted_file}
 use Rattle.index_file.proofs.Accepted.{accepted, within, unlisted}
 use Rattle.index_file.proofs.FileRefusals.{find_bare, file-other}
@@ -31,7 +32,7 @@ laid_out_is_found column kind body bytes f small = (part_of f, laid_find f small
 pub found_is_laid_out : FoundIsLaidOut
 found_is_laid_out bytes column kind p b g = accepted bytes column kind p b g
 
-pub found_within : (bytes column kind : List ℕ) (p : Part) → Bytes bytes → find bytes column kind ≡ Ok (found p) → p.start.0 + p.length ≤ length bytes
+pub found_within : (bytes column kind : List ℕ) (p : Part) → Bytes bytes → find bytes column kind ≡ Ok (Some p) → p.start.0 + p.length ≤ length bytes
 found_within bytes column kind p b g = within bytes column kind p b g
 
 pub one-body : OneBody
@@ -66,14 +67,14 @@ refusal_numbers Refusal.NoBin = (omega arith, omega arith)
 pub number_of-found : NumberOfFound
 unfolding numbers_of sought_numbers
 number_of-found (Err r) e = absurd (omega (arith, (refusal_numbers r).0))
-number_of-found (Ok absent) e = absurd (omega arith)
-number_of-found (Ok (found p)) e = (p, refl)
+number_of-found (Ok None) e = absurd (omega arith)
+number_of-found (Ok (Some p)) e = (p, refl)
 
 pub number_of-absent : NumberOfAbsent
 unfolding numbers_of sought_numbers
 number_of-absent (Err r) e = absurd (omega (arith, (refusal_numbers r).1))
-number_of-absent (Ok absent) e = refl
-number_of-absent (Ok (found p)) e = absurd (omega arith)
+number_of-absent (Ok None) e = refl
+number_of-absent (Ok (Some p)) e = absurd (omega arith)
 
 -- ---- versions
 
@@ -95,7 +96,7 @@ other-version-looked_at : (bytes column kind : List ℕ) → (be_at 4 bytes 8 �
 other-version-looked_at bytes column kind other a b c =
     let e = asked_file bytes column kind a b c in
     elim (dec_le front_size (length bytes)) [
-      | no l ↦ inl (e ∙ file-short (matches column) (matches kind) bytes (omega arith))
+      | no l ↦ inl (e ∙ file_short (matches column) (matches kind) bytes (omega arith))
       | yes h ↦
           elim (ℕ_discrete (be_at 8 bytes 0) magic) [
             | no n ↦ inr (inl (e ∙ file-magic (matches column) (matches kind) bytes h refl n))

@@ -1,4 +1,4 @@
--- 01, "Index file head": what a writer may lay out, from meaning to bytes. Nothing here goes by how a file is read.
+-- What a writer may lay out, from meaning to bytes. Nothing here goes by how a file is read.
 use Rattle.std.specs.Prelude.{ℕ, ◌+◌, ◌^◌, ◌<◌, ◌≤◌, ◌≡◌, List, [], ◌∷◌, ◌++◌, length, take, drop}
 use Rattle.numbers.specs.Meaning.{All, be, sign_bit}
 use Rattle.names.specs.Layout.{Named}
@@ -66,7 +66,7 @@ GoodIndex e = (length e.name < 256 ^ 2) × (e.start < 256 ^ 4) × (e.length < 25
 abbrev pub GoodColumn : ListedColumn → Type 0
 GoodColumn c = (length c.name < 256 ^ 2) × (length c.entries < sign_bit) × All GoodIndex c.entries
 
--- whether a listed column or index has the asked name, by `Named`: 'Demand 3's "asked column stands once" reads by this comparison' (02, Ticket 5)
+-- whether a listed column or index has the asked name, by `Named`: "the asked column stands once" is read by this comparison
 abbrev pub IsColumn : List ℕ → ListedColumn → Type 0
 IsColumn column c = Named column c.name
 

@@ -1,17 +1,16 @@
--- 01, "Index file head": what Locate finds in one buffer, for any bytes. A cursor `s` is what is left of the head's bytes, so that a field that passes the head
+-- What Locate finds in one buffer, for any bytes. A cursor `s` is what is left of the head's bytes, so that a field that passes the head
 -- finds too few; for magic, version and head length it is what is left of the file. `k` is what follows of what was read.
-use Rattle.std.specs.Prelude.{ℕ, zero, suc, ◌+◌, Bool, true, false, ◌&&◌, ◌||◌, List, length, take, drop, leb, ltb, eqb, Result, Err, Ok}
+use Rattle.std.specs.Prelude.{ℕ, zero, suc, ◌+◌, Bool, true, false, ◌&&◌, ◌||◌, List, length, take, drop, leb, ltb, eqb, Result, Err, Ok, Option, Some, None}
 use Rattle.numbers.specs.Meaning.{number, big, sign_bit, position}
 use Rattle.numbers.specs.declared.Position.{Position}
-use Rattle.refusal.specs.Meaning.{number_of, limit}
+use Rattle.refusal.specs.Meaning.{limit}
 use Rattle.refusal.specs.declared.Refusal.{Refusal}
 use Rattle.refusal.specs.declared.Refusal.TheVariants.{Short, Magic, Version, Head, Literal, Limit}
 use Rattle.refusal.specs.Reading.{check, numbers_of}
 use Rattle.names.specs.Reading.{askable, matches}
-use Rattle.index_file.specs.declared.Located.{Located}
-use Rattle.index_file.specs.declared.Located.TheVariants.{Found, Absent, Refused}
-use Rattle.index_file.specs.declared.Place.{Place}
-use Rattle.index_file.specs.declared.Place.TheVariants.{Nowhere, At, Repeated}
+use Rattle.index_file.specs.declared.Part.{Part}
+use Rattle.index_file.specs.declared.Seen.{Seen}
+use Rattle.index_file.specs.declared.Seen.TheVariants.{Nowhere, Once, Twice}
 use Rattle.index_file.specs.Layout.{magic, file_version, front_size, least_head}
 
 -- ---- fields
@@ -27,28 +26,32 @@ name s k = number big 2 (Err Head) s (λ n s. check (leb n (length s)) Head (k (
 -- ---- the columns
 
 -- where the asked kind stands, after one more entry of the column, whose name is the asked one or not: "the asked kind twice in it"
-unfoldable pub place_after_entry : Bool → Position → ℕ → Place → Place
-place_after_entry false start size place = place
-place_after_entry true start size Nowhere = At start size
-place_after_entry true start size (At start' size') = Repeated
-place_after_entry true start size Repeated = Repeated
+unfoldable pub place_after_entry : Bool → Part → Seen → Seen
+place_after_entry false part place = place
+place_after_entry true part Nowhere = Once part
+place_after_entry true part (Once part') = Twice
+place_after_entry true part Twice = Twice
+
+-- from a position of the buffer on, so many bytes
+abbrev pub part_at : Position → ℕ → Part
+part_at start size = record { start = start; length = size }
 
 -- m entries of one column: name, start, length. `isKind` says of a stored name whether it is the asked kind
-unfoldable pub entries : {A : Type 0} → (List ℕ → Bool) → ℕ → Place → List ℕ → (Place → List ℕ → Result A Refusal) → Result A Refusal
+unfoldable pub entries : {A : Type 0} → (List ℕ → Bool) → ℕ → Seen → List ℕ → (Seen → List ℕ → Result A Refusal) → Result A Refusal
 entries isKind zero place s k = k place s
 entries isKind (suc m) place s k =
     name s (λ stored s. number big 4 (Err Head) s (λ start s. number big 4 (Err Head) s (λ size s.
-    entries isKind m (place_after_entry (isKind stored) (position start) size place) s k)))
+    entries isKind m (place_after_entry (isKind stored) (part_at (position start) size) place) s k)))
 
 -- where the asked kind stands, after one more column, whose name is the asked one or not, and which lists the asked kind at `new`; `seen`: whether one before it had the name.
 -- "the asked column name twice" is a repetition, whatever the two list
-unfoldable pub place_after_column : Bool → Bool → Place → Place → Place
+unfoldable pub place_after_column : Bool → Bool → Seen → Seen → Seen
 place_after_column false seen new place = place
 place_after_column true false new place = new
-place_after_column true true new place = Repeated
+place_after_column true true new place = Twice
 
 -- n columns: name, index number, entries. `isColumn` says of a stored name whether it is the asked column
-unfoldable pub columns : {A : Type 0} → (List ℕ → Bool) → (List ℕ → Bool) → ℕ → Bool → Place → List ℕ → (Place → List ℕ → Result A Refusal) → Result A Refusal
+unfoldable pub columns : {A : Type 0} → (List ℕ → Bool) → (List ℕ → Bool) → ℕ → Bool → Seen → List ℕ → (Seen → List ℕ → Result A Refusal) → Result A Refusal
 columns isColumn isKind zero seen place s k = k place s
 columns isColumn isKind (suc n) seen place s k =
     name s (λ stored s. count s (λ m s. entries isKind m Nowhere s (λ new s.
@@ -56,33 +59,23 @@ columns isColumn isKind (suc n) seen place s k =
 
 -- ---- the file
 
--- where a body lies: from a position of the buffer on, so many bytes
-pub record Part : Type 0 where
-  pub start : Position
-  pub length : ℕ
-
--- what is sought is found, or "Column or kind not listed: ABSENT"
-pub data Sought (A : Type 0) : Type 0 where
-  found : A → Sought A
-  absent : Sought A
-
 -- what is answered of the place in a head and a file so long: "the asked start below the head length, a negative length, or an end past the file".
 -- A start with its top bit set is negative, and so below.
-unfoldable pub placed : ℕ → ℕ → Place → Result (Sought Part) Refusal
-placed head_length fileLength Nowhere = Ok absent
-placed head_length fileLength (At start size) =
-    check (ltb start.0 sign_bit) Head (check (leb head_length start.0) Head
-    (check (ltb size sign_bit) Head (check (leb (start.0 + size) fileLength) Head (Ok (found (record { start = start; length = size }))))))
-placed head_length fileLength Repeated = Err Head
+unfoldable pub placed : ℕ → ℕ → Seen → Result (Option Part) Refusal
+placed head_length fileLength Nowhere = Ok None
+placed head_length fileLength (Once part) =
+    check (ltb part.start.0 sign_bit) Head (check (leb head_length part.start.0) Head
+    (check (ltb part.length sign_bit) Head (check (leb (part.start.0 + part.length) fileLength) Head (Ok (Some part)))))
+placed head_length fileLength Twice = Err Head
 
 -- the head from the column number on: "redundant bytes not ending exactly at the head length" is HEAD
-unfoldable pub head : (List ℕ → Bool) → (List ℕ → Bool) → ℕ → ℕ → List ℕ → Result (Sought Part) Refusal
+unfoldable pub head : (List ℕ → Bool) → (List ℕ → Bool) → ℕ → ℕ → List ℕ → Result (Option Part) Refusal
 head isColumn isKind head_length fileLength s =
     count s (λ n s. columns isColumn isKind n false Nowhere s (λ place s. count s (λ redundant s.
     check (eqb redundant (length s)) Head (placed head_length fileLength place))))
 
 -- "fewer than 16 bytes is SHORT; MAGIC; VERSION; then HEAD for: a head length below 24 or past the file; a field passing the head; a negative number"
-unfoldable pub file : (List ℕ → Bool) → (List ℕ → Bool) → List ℕ → Result (Sought Part) Refusal
+unfoldable pub file : (List ℕ → Bool) → (List ℕ → Bool) → List ℕ → Result (Option Part) Refusal
 file isColumn isKind bytes =
     check (leb front_size (length bytes)) Short (number big 8 (Err Short) bytes (λ stored s.
     check (eqb stored magic) Magic (number big 4 (Err Short) s (λ version s.
@@ -91,13 +84,13 @@ file isColumn isKind bytes =
     (head isColumn isKind head_length (length bytes) (drop front_size (take head_length bytes))))))))))
 
 -- "An input buffer (asked names too, row fields not) that is too long is LIMIT before anything else"
-unfoldable pub within_limits : List ℕ → List ℕ → List ℕ → Result (Sought Part) Refusal → Result (Sought Part) Refusal
+unfoldable pub within_limits : List ℕ → List ℕ → List ℕ → Result (Option Part) Refusal → Result (Option Part) Refusal
 within_limits bytes column kind o =
     check (leb (length bytes) limit) Limit (check (leb (length column) limit) Limit (check (leb (length kind) limit) Limit o))
 
--- 02, Ticket 5: an asked name that "isn't standard UTF-8, or is over 65,535 modified bytes, is LITERAL, before any file check but the length limit". A stored name
+-- An asked name that "isn't standard UTF-8, or is over 65,535 modified bytes, is LITERAL, before any file check but the length limit". A stored name
 -- is the asked one where `matches` says so
-unfoldable pub find : List ℕ → List ℕ → List ℕ → Result (Sought Part) Refusal
+unfoldable pub find : List ℕ → List ℕ → List ℕ → Result (Option Part) Refusal
 find bytes column kind =
     within_limits bytes column kind (check (askable column && askable kind) Literal (file (matches column) (matches kind) bytes))
 
@@ -107,12 +100,7 @@ bytes_of p bytes = take p.length (drop p.start.0 bytes)
 
 -- ---- the answer, and its numbers
 
-unfoldable pub located_by : Result (Sought Part) Refusal → Located
-located_by (Err r) = Refused r
-located_by (Ok absent) = Absent
-located_by (Ok (found p)) = Found p.start p.length
-
--- the refusals' numbers are 01's, which gives the other two answers none: they are chosen here
+-- the refusals have numbers of their own; the other two answers' are chosen here
 abbrev pub found_number : ℕ
 found_number = 0
 
@@ -120,15 +108,9 @@ abbrev pub absent_number : ℕ
 absent_number = 255
 
 -- the number, and start and length of the body in the buffer, 0 with the other answers
-unfoldable pub locate_out : Located → ℕ × (ℕ × ℕ)
-locate_out (Found start size) = (found_number, (start.0, size))
-locate_out Absent = (absent_number, (0, 0))
-locate_out (Refused r) = (number_of r, (0, 0))
+unfoldable pub sought_numbers : Option Part → ℕ × (ℕ × ℕ)
+sought_numbers (Some p) = (found_number, (p.start.0, p.length))
+sought_numbers None = (absent_number, (0, 0))
 
--- the same of the reading
-unfoldable pub sought_numbers : Sought Part → ℕ × (ℕ × ℕ)
-sought_numbers (found p) = (found_number, (p.start.0, p.length))
-sought_numbers absent = (absent_number, (0, 0))
-
-abbrev pub locate_numbers : Result (Sought Part) Refusal → ℕ × (ℕ × ℕ)
+abbrev pub locate_numbers : Result (Option Part) Refusal → ℕ × (ℕ × ℕ)
 locate_numbers o = numbers_of (0, 0) sought_numbers o

@@ -9,192 +9,201 @@
 // A name is a word: `find  k` asks for the empty column, `find s` for the empty kind.
 #![tactic(auto)]
 
-use bitmap_index::{Answered, Question};
-use file_to_answers::FileAnswer;
-use index_file::Located;
+use bitmap_index::Question;
+use case_lines::{Answered, Hex, Laid, Line, Outcome};
+use index_file::Part;
 use numbers::Position;
-use std::io;
+use std::{fmt, io};
 
-fn say_found(rt: &impl Print, found: Located) -> io::Result<()> {
-    match found {
-        Located::Found { start, length } => {
-            case_lines::say_number(rt, b": found at ", start.0 as u64)?;
-            case_lines::say_number(rt, b", length ", length as u64)
+/// The most bytes that a file has, and those that are embedded.
+const MOST: usize = 4096;
+
+/// The most bytes of a file whose bytes are changed.
+const MOST_CHANGED: usize = 128;
+
+/// The most bytes of a name that bytes spell, and of literals.
+const MOST_SPELLED: usize = 64;
+
+/// The most bytes of a long name.
+const MOST_LONG: usize = 65536;
+
+/// What a line asks for, by its first letter.
+#[derive(Clone, Copy, Debug, PartialEq, Eq)]
+enum Command {
+    Find,
+    Cuts,
+    Each,
+    Named,
+    Kind,
+    Long,
+    Ask,
+    LayOut,
+}
+
+impl From<u8> for Command {
+    fn from(letter: u8) -> Command {
+        match letter {
+            b'f' => Command::Find,
+            b'c' => Command::Cuts,
+            b'e' => Command::Each,
+            b'n' => Command::Named,
+            b'k' => Command::Kind,
+            b'l' => Command::Long,
+            b'a' => Command::Ask,
+            _ => Command::LayOut,
         }
-        Located::Absent => case_lines::say(rt, b": absent"),
-        Located::Refused(why) => case_lines::say_refused(rt, why),
     }
 }
 
-fn find<'a>(
-    rt: &impl Print,
+/// Where a body is found, if it is listed.
+#[derive(Clone, Copy, Debug)]
+struct Found(Option<Part>);
+
+impl fmt::Display for Found {
+    fn fmt<W: fmt::Write>(&self, f: &mut fmt::Formatter<W>) -> fmt::Result {
+        match self.0 {
+            Some(
+                Part {
+                    start: Position(start),
+                    length,
+                },
+            ) => write!(f, "found at {start}, length {length}"),
+            None => write!(f, "absent"),
+        }
+    }
+}
+
+/// What a file answers, if the column and the kind are listed.
+#[derive(Clone, Copy, Debug)]
+struct FileAnswered(Option<Answered>);
+
+impl fmt::Display for FileAnswered {
+    fn fmt<W: fmt::Write>(&self, f: &mut fmt::Formatter<W>) -> fmt::Result {
+        match self.0 {
+            Some(answer) => write!(f, "{answer}"),
+            None => write!(f, "absent"),
+        }
+    }
+}
+
+/// A file, and the bytes that are embedded.
+#[derive(Clone, Copy, Debug)]
+struct Files<'a> {
     embedded: &'a [u8],
     file: &'a [u8],
-    column: &[u8],
-    kind: &[u8],
-) -> io::Result<()> {
-    say_found(rt, file_to_answers::find(embedded, file, column, kind))?;
-    let mut answer = 99u8;
-    let part = file_to_answers::locate(embedded, file, column, kind, &mut answer);
-    case_lines::say_number(rt, b"; answer ", answer as u64)?;
-    case_lines::say_number(rt, b", part ", part.len() as u64)?;
-    case_lines::say_bytes(rt, b"", part)?;
-    case_lines::end_line(rt)
 }
 
-fn cuts<'a>(
-    rt: &impl Print,
-    embedded: &'a [u8],
-    file: &'a [u8],
-    column: &[u8],
-    kind: &[u8],
-) -> io::Result<()> {
-    for n in 0..file.len() {
-        case_lines::say_number(rt, b"cut ", n as u64)?;
-        find(rt, embedded, &file[0..n], column, kind)?;
+impl Files<'_> {
+    fn find(self, rt: &impl Print, column: &[u8], kind: &[u8]) -> io::Result<()> {
+        let Files { embedded, file } = self;
+        let found = Outcome(file_to_answers::find(embedded, file, column, kind).map(Found));
+        let mut answer = 99u8;
+        let part = file_to_answers::locate(embedded, file, column, kind, &mut answer);
+        let length = part.len();
+        let bytes = Hex(part);
+        println!(rt; ": {found}; answer {answer}, part {length}{bytes}")
     }
-    Ok(())
-}
 
-fn each<'a>(
-    rt: &impl Print,
-    embedded: &'a [u8],
-    file: &'a [u8],
-    column: &[u8],
-    kind: &[u8],
-    line: &[u8],
-) -> io::Result<()> {
-    let mut copy = [0u8; 128];
-    let n = case_lines::push_all(&mut copy, 0, file);
-    let at = case_lines::number(line, 3) as usize;
-    for b in 0..case_lines::number(line, 4) {
-        case_lines::push(&mut copy, at, (b % 256) as u8);
-        case_lines::say_number(rt, b"byte ", b)?;
-        find(rt, embedded, case_lines::first(&copy, n), column, kind)?;
+    fn ask(self, rt: &(impl Print + AllocGlobal), line: Line<'_>) -> io::Result<()> {
+        let Files { embedded, file } = self;
+        let mut literals = Laid::new(rt.alloc(), MOST_SPELLED)?;
+        literals.append_hex(line.from_word(6));
+        let t = line.number32(3);
+        let question = Question {
+            edition: line.number32(4),
+            name: line.number32(5),
+        };
+        let mut field = [0xA5u8; 2];
+        let answer = file_to_answers::ask_file(
+            embedded,
+            file,
+            line.word(1),
+            line.word(2),
+            t,
+            question,
+            &literals.bytes,
+            &mut field,
+        );
+        let outcome = Outcome(answer.map(|answer| FileAnswered(answer.map(Answered))));
+        let bytes = Hex(&field);
+        println!(rt; ": {outcome}, field{bytes}")
     }
-    Ok(())
-}
 
-// The name that a line's words from the second on spell, asked for as a column or as a kind.
-fn spelled<'a>(
-    rt: &impl Print,
-    embedded: &'a [u8],
-    file: &'a [u8],
-    line: &[u8],
-    as_kind: bool,
-) -> io::Result<()> {
-    let mut bytes = [0u8; 64];
-    let n = case_lines::push_bytes(&mut bytes, 0, case_lines::from_word(line, 2));
-    let name = case_lines::first(&bytes, n);
-    let word = case_lines::word(line, 1);
-    if as_kind {
-        find(rt, embedded, file, word, name)
-    } else {
-        find(rt, embedded, file, name, word)
+    // Finds a column and a kind in the file with each of the numbers that a line says as its byte.
+    fn each(self, rt: &(impl Print + AllocGlobal), line: Line<'_>) -> io::Result<()> {
+        let most = self.file.len().min(MOST_CHANGED);
+        let mut changed = self.file[..most].to_vec(rt.alloc())?;
+        let at = line.number(3) as usize;
+        for number in 0..line.number(4) {
+            if at < changed.len() {
+                changed[at] = (number % 256) as u8;
+            }
+            print!(rt; "byte {number}")?;
+            let files = Files {
+                embedded: self.embedded,
+                file: &changed,
+            };
+            files.find(rt, line.word(1), line.word(2))?;
+        }
+        Ok(())
     }
 }
 
-fn long<'a>(rt: &impl Print, embedded: &'a [u8], file: &'a [u8], line: &[u8]) -> io::Result<()> {
-    let mut bytes = [0u8; 65536];
-    case_lines::fill(&mut bytes, (case_lines::number(line, 2) % 256) as u8);
-    let name = case_lines::first(&bytes, case_lines::number(line, 3) as usize);
-    find(rt, embedded, file, name, case_lines::word(line, 1))
-}
-
-fn say_answered(rt: &impl Print, answer: Answered) -> io::Result<()> {
-    match answer {
-        Answered::Refused(why) => case_lines::say_refused(rt, why),
-        Answered::Skip(record) => case_lines::say_record(rt, b": skip ", record),
-        Answered::Keep(record) => case_lines::say_record(rt, b": keep ", record),
-    }
-}
-
-fn say_answer(rt: &impl Print, answer: FileAnswer) -> io::Result<()> {
-    match answer {
-        FileAnswer::Absent => case_lines::say(rt, b": absent"),
-        FileAnswer::Answered(a) => say_answered(rt, a),
-    }
-}
-
-fn ask<'a>(
-    rt: &impl Print,
-    embedded: &'a [u8],
-    file: &'a [u8],
-    column: &[u8],
-    kind: &[u8],
-    line: &[u8],
-) -> io::Result<()> {
-    let mut bytes = [0u8; 64];
-    let n = case_lines::push_bytes(&mut bytes, 0, case_lines::from_word(line, 6));
-    let literals = case_lines::first(&bytes, n);
-    let t = case_lines::number32(line, 3);
-    let question = Question {
-        edition: case_lines::number32(line, 4),
-        name: case_lines::number32(line, 5),
-    };
-    let mut field = [0xA5u8; 2];
-    let answer = file_to_answers::ask_file(
-        embedded, file, column, kind, t, question, literals, &mut field,
-    );
-    say_answer(rt, answer)?;
-    case_lines::say_bytes(rt, b", field", &field)?;
-    case_lines::end_line(rt)
+// The name that a line's words from the second on spell.
+fn spelled(rt: &impl AllocGlobal, line: Line<'_>) -> io::Result<Laid> {
+    let mut name = Laid::new(rt.alloc(), MOST_SPELLED)?;
+    name.append_hex(line.from_word(2));
+    Ok(name)
 }
 
 // Does the call that a line says.
-fn call<'a>(rt: &impl Print, embedded: &'a [u8], file: &'a [u8], line: &[u8]) -> io::Result<()> {
-    let column = case_lines::word(line, 1);
-    let kind = case_lines::word(line, 2);
-    match case_lines::letter(line) {
-        b'f' => {
-            case_lines::say(rt, line)?;
-            find(rt, embedded, file, column, kind)
-        }
-        b'c' => cuts(rt, embedded, file, column, kind),
-        b'e' => each(rt, embedded, file, column, kind, line),
-        b'n' => {
-            case_lines::say(rt, line)?;
-            spelled(rt, embedded, file, line, false)
-        }
-        b'k' => {
-            case_lines::say(rt, line)?;
-            spelled(rt, embedded, file, line, true)
-        }
-        b'l' => {
-            case_lines::say(rt, line)?;
-            long(rt, embedded, file, line)
-        }
-        b'a' => {
-            case_lines::say(rt, line)?;
-            ask(rt, embedded, file, column, kind, line)
-        }
-        _ => Ok(()),
+fn call(
+    rt: &(impl Print + AllocGlobal),
+    files: Files<'_>,
+    command: Command,
+    line: Line<'_>,
+) -> io::Result<()> {
+    if command != Command::Cuts && command != Command::Each {
+        case_lines::say(rt, line.text)?;
     }
-}
-
-fn lines(rt: &impl Print, text: &[u8], file: &mut [u8], embedded: &mut [u8]) -> io::Result<()> {
-    let mut n = 0;
-    let mut m = 0;
-    let mut at = 0;
-    while at < text.len() {
-        let line = case_lines::line_at(text, Position(at));
-        n = case_lines::lay_out(rt, file, n, line)?;
-        m = case_lines::give(embedded, m, line);
-        call(
-            rt,
-            case_lines::first(embedded, m),
-            case_lines::first(file, n),
-            line,
-        )?;
-        at += line.len() + 1;
+    match command {
+        Command::Find => files.find(rt, line.word(1), line.word(2)),
+        Command::Cuts => case_lines::cuts(rt, files.file, |file| {
+            let cut = Files {
+                embedded: files.embedded,
+                file,
+            };
+            cut.find(rt, line.word(1), line.word(2))
+        }),
+        Command::Each => files.each(rt, line),
+        Command::Named => files.find(rt, &spelled(rt, line)?.bytes, line.word(1)),
+        Command::Kind => files.find(rt, line.word(1), &spelled(rt, line)?.bytes),
+        Command::Long => {
+            let count = (line.number(3) as usize).min(MOST_LONG);
+            let name = vec![in rt.alloc(); (line.number(2) % 256) as u8; count]?;
+            files.find(rt, &name, line.word(1))
+        }
+        Command::Ask => files.ask(rt, line),
+        Command::LayOut => Ok(()),
     }
-    Ok(())
 }
 
 fn main(rt: HostRuntime) -> io::Result<()> {
-    let mut text = [0u8; 65536];
-    let n = case_lines::read(&rt, b"cases", &mut text)?;
-    let mut file = [0u8; 4096];
-    let mut embedded = [0u8; 4096];
-    lines(&rt, case_lines::first(&text, n), &mut file, &mut embedded)
+    let text = case_lines::read(&rt, b"cases", 65536)?;
+    let mut file = Laid::new(rt.alloc(), MOST)?;
+    let mut embedded = Laid::new(rt.alloc(), MOST)?;
+    for line in case_lines::lines_of(&text) {
+        embedded.give(line);
+        match Command::from(line.letter()) {
+            Command::LayOut => file.lay_out(&rt, line)?,
+            command => {
+                let files = Files {
+                    embedded: &embedded.bytes,
+                    file: &file.bytes,
+                };
+                call(&rt, files, command, line)?;
+            }
+        }
+    }
+    Ok(())
 }

@@ -15,5 +15,5 @@ pub mod Theorems
 pub mod ListingSteps
 pub mod HalveLoop
 pub mod SearchLoop
-pub mod AnswerSteps
 pub mod SeekSteps
+pub mod AnswerSteps

@@ -1,4 +1,4 @@
--- An entry of the directory, and what stands behind the directory, by the code's steps.
+-- An entry of the directory, and the body offset behind the directory, by the code's steps.
 use Prim.Native.Nat.{ℕ, ◌+◌, ◌-◌, ◌≤◌, ◌<◌}
 use mathlib.Core.Path.{◌≡◌, ◌∙◌}
 use mathlib.Core.List.{List}
@@ -14,10 +14,10 @@ use Rattle.refusal.specs.Reading.{check, and_then}
 use Rattle.stored_value.specs.Reading.{value_size, value_of}
 use Rattle.dictionary.specs.Promises.{EndsAt}
 use Rattle.dictionary.proofs.Steps.{word_at, word_short, drop_past}
+use Rattle.numbers.specs.declared.Position.{Position}
 use Rattle.opening.specs.declared.Fields.{Fields}
 use Rattle.opening.specs.Promises.{front_found}
 use Rattle.lookup.specs.declared.Listing.{Listing}
-use Rattle.lookup.specs.declared.End.{End}
 use Rattle.lookup.specs.declared.Base.{Base}
 use Rattle.lookup.specs.Reading.{EntryRead, entry_read, entry_for, behind_directory}
 use Rattle.lookup.specs.Promises.{ListedAt, EndIs, AfterBase, based, BaseIs}
@@ -38,74 +38,37 @@ module _ {A : Type 0} (t : ℕ) (s : List ℕ) (p : ℕ) (k : List ℕ → List 
 
 -- ---- an entry of the directory
 
-module _ (t : ℕ) (s : List ℕ) (p : ℕ) where
-  pub listing_refused : {r : Refusal} → value_size Short Dict t (drop p s) ≡ Err r → ListedAt t s p (Listing.Refused r)
+module _ (t : ℕ) (s : List ℕ) (p e : ℕ) (w : EndsAt t s p e) where
+  pub listing-short : length s - e < 4 → ListedAt t s p (Err Short)
   unfolding entry_read
-  listing_refused e = value_refused t s p _ e
+  listing-short h = value_passed t s p _ e w ∙ word_short 4 s e _ h
 
-  module _ (e : ℕ) (w : EndsAt t s p e) where
-    pub listing-short : length s - e < 4 → ListedAt t s p (Listing.Refused Short)
-    unfolding entry_read
-    listing-short h = value_passed t s p _ e w ∙ word_short 4 s e _ h
-
-    pub listing_is : e + 4 ≤ length s → {offset : ℕ} → offset ≡ be_at 4 s e → offset < four_bytes → ListedAt t s p (Listing.Is (position e) offset)
-    unfolding entry_read
-    listing_is h o l = (value_passed t s p _ e w ∙ rw o (word_at 4 s e _ h), w.1, h, l)
-
--- ---- where the directory ends
-
-module _ (t : ℕ) (table s : List ℕ) (f : Fields) where
-  pub end_none : f.blocks ≡ 0 → f.directory.0 ≤ length s → EndIs t table s f (End.At f.directory)
-  unfolding behind_directory
-  end_none z l = (rw (eq-eqb f.blocks 0 z), l)
-
-  module _ (n : f.blocks ≡ 0 → ⊥) where
-    last : behind_directory t table s (front_found s f) ≡ and_then (entry_read t (drop (get_or table (f.blocks - 1) 0) s)) (λ (d : EntryRead). Ok d.behind)
-    unfolding behind_directory entry_for
-    last = rw (ne_eqb f.blocks 0 n)
-
-    module _ {x : Listing} (w : ListedAt t s (get_or table (f.blocks - 1) 0) x) where
-      pub end_refused : {r : Refusal} → x ≡ Listing.Refused r → EndIs t table s f (End.Refused r)
-      unfolding and_then
-      end_refused {r} e =
-          let i : entry_read t (drop (get_or table (f.blocks - 1) 0) s) ≡ Err r = rw e at w in
-          last ∙ rw i
-
-      pub end_at : {p offset : ℕ} → x ≡ Listing.Is (position p) offset → EndIs t table s f (End.At (position (p + 4)))
-      unfolding and_then
-      end_at {p} {offset} e =
-          let i : ListedAt t s (get_or table (f.blocks - 1) 0) (Listing.Is (position p) offset) = rw e at w in
-          (last ∙ rw i.0, i.2)
+  pub listing_is : e + 4 ≤ length s → {offset : ℕ} → offset ≡ be_at 4 s e → offset < four_bytes → ListedAt t s p (Ok (record { end = position e; offset = offset }))
+  unfolding entry_read
+  listing_is h o l = (value_passed t s p _ e w ∙ rw o (word_at 4 s e _ h), w.1, h, l)
 
 -- ---- the body offset
 
-module _ (t : ℕ) (table s : List ℕ) (f : Fields) {x : End} (w : EndIs t table s f x) where
-  pub base_refused : {r : Refusal} → x ≡ End.Refused r → BaseIs t table s f (Base.Refused r)
+module _ (t : ℕ) (table s : List ℕ) (f : Fields) {x : Result Position Refusal} (w : EndIs t table s f x) {p : ℕ} (e : x ≡ Ok (position p)) where
+  ended : EndIs t table s f (Ok (position p))
+  ended = rw e at w
+
+  pub base_short : length s - p < 4 → BaseIs t table s f (Err Short)
   unfolding and_then
-  base_refused {r} e k =
-      let i : behind_directory t table s (front_found s f) ≡ Err r = rw e at w in
-      rw i
+  base_short h k = rw ended.0 (word_short 4 s p _ h)
 
-  module _ {p : ℕ} (e : x ≡ End.At (position p)) where
-    ended : EndIs t table s f (End.At (position p))
-    ended = rw e at w
-
-    pub base_short : length s - p < 4 → BaseIs t table s f (Base.Refused Short)
+  module _ (h : p + 4 ≤ length s) {offset : ℕ} (o : offset ≡ be_at 4 s p) where
+    tested : (k : AfterBase) → and_then (behind_directory t table s (front_found s f)) (λ rest. based rest k)
+        ≡ check (leb offset (length s - (p + 4))) Dict (k offset (drop (p + 4) s))
     unfolding and_then
-    base_short h k = rw ended.0 (word_short 4 s p _ h)
+    tested k = rw ended.0 (word_at 4 s p _ h ∙ rw (← o, length-drop))
 
-    module _ (h : p + 4 ≤ length s) {offset : ℕ} (o : offset ≡ be_at 4 s p) where
-      tested : (k : AfterBase) → and_then (behind_directory t table s (front_found s f)) (λ rest. based rest k)
-          ≡ check (leb offset (length s - (p + 4))) Dict (k offset (drop (p + 4) s))
-      unfolding and_then
-      tested k = rw ended.0 (word_at 4 s p _ h ∙ rw (← o, length-drop))
+    pub base-past : length s - (p + 4) < offset → BaseIs t table s f (Err Dict)
+    unfolding check
+    base-past l k = tested k ∙ rw (lt-leb offset (length s - (p + 4)) l)
 
-      pub base-past : length s - (p + 4) < offset → BaseIs t table s f (Base.Refused Dict)
-      unfolding check
-      base-past l k = tested k ∙ rw (lt-leb offset (length s - (p + 4)) l)
-
-      pub base_at : offset ≤ length s - (p + 4) → BaseIs t table s f (Base.At (position (p + 4)) (position (p + 4 + offset)))
-      unfolding check
-      base_at l =
-          let z : p + 4 + offset - (p + 4) ≡ offset = omega arith in
-          (λ k. tested k ∙ rw (le-leb offset (length s - (p + 4)) l, z), omega arith, omega arith)
+    pub base_at : offset ≤ length s - (p + 4) → BaseIs t table s f (Ok (record { base = position (p + 4); region = position (p + 4 + offset) }))
+    unfolding check
+    base_at l =
+        let z : p + 4 + offset - (p + 4) ≡ offset = omega arith in
+        (λ k. tested k ∙ rw (le-leb offset (length s - (p + 4)) l, z), omega arith, omega arith)

@@ -16,14 +16,15 @@ use Rattle.numbers.specs.Meaning.{big, number, be_at, same, sign_bit}
 use Rattle.numbers.proofs.SameBytes.{same→eq, same-other}
 use Rattle.refusal.specs.declared.Refusal.{Refusal}
 use Rattle.refusal.specs.declared.Refusal.TheVariants.{Short, Dict}
-use Rattle.std.specs.Prelude.{Err, Ok}
+use Rattle.std.specs.Prelude.{Option, None, Some, Result, Err, Ok}
 use Rattle.refusal.specs.Reading.{check}
 use Rattle.stored_value.specs.Meaning.{value}
 use Rattle.stored_value.specs.Reading.{value_size}
 use Rattle.dictionary.specs.Promises.{EndsAt, OffsetAt}
 use Rattle.dictionary.proofs.Offsets.{pattern_passed}
 use Rattle.dictionary.proofs.Steps.{word_at, word_short}
-use Rattle.lookup.specs.declared.Search.{Search}
+use Rattle.lookup.specs.declared.Place.{Place}
+use Rattle.lookup.specs.declared.Found.{Found}
 use Rattle.lookup.specs.Reading.{searched_in, searched}
 use Rattle.lookup.specs.Promises.{SearchedFrom, SearchedAt, BlockAt}
 use Rattle.lookup.proofs.ListingSteps.{value_refused, value_passed}
@@ -34,19 +35,16 @@ pub record Searching (t : ℕ) (literal : List ℕ) (n : ℕ) (s : List ℕ) (at
   pub inside : p ≤ length s
   pub whole : searched_in t literal n n 0 (drop at s) ≡ searched_in t literal n (n - i) i (drop p s)
 
-pub searching_first : (t : ℕ) (literal : List ℕ) (n : ℕ) (s : List ℕ) (at : ℕ) → at ≤ length s → Searching t literal n s at 0 at
-searching_first t literal n s at h = let z : n - 0 ≡ n = omega arith in record { some = omega arith; inside = h; whole = rw z }
-
 module _ {t : ℕ} {literal : List ℕ} {n : ℕ} {s : List ℕ} {at i p : ℕ} (st : Searching t literal n s at i p) where
-  pub searching_done : n ≤ i → SearchedFrom t literal n s at (Search.Done (record { hit = false; offset = to_z w32 0; extent = 0; compared = i }))
+  pub searching_done : n ≤ i → SearchedFrom t literal n s at (Ok (record { place = None; compared = n }))
   unfolding searched_in
-  searching_done h = let z : n - i ≡ 0 = omega arith in (rw z at st.whole, st.some)
+  searching_done h = let z : n - i ≡ 0 = omega arith in let j : i ≡ n = omega (arith, st.some) in (rw (z, j) at st.whole, omega arith)
 
   module _ (h : i < n) where
     left : n - i ≡ suc (n - (i + 1))
     left = omega arith
 
-    pub searching_refused : {r : Refusal} → value_size Short Dict t (drop p s) ≡ Err r → SearchedFrom t literal n s at (Search.Refused r)
+    pub searching_refused : {r : Refusal} → value_size Short Dict t (drop p s) ≡ Err r → SearchedFrom t literal n s at (Err r)
     unfolding searched_in
     searching_refused e = rw left at st.whole ∙ value_refused t s p _ e
 
@@ -61,7 +59,7 @@ module _ {t : ℕ} {literal : List ℕ} {n : ℕ} {s : List ℕ} {at i p : ℕ} 
       unfolding searched_in
       passed = rw left at st.whole ∙ value_passed t s p _ e w
 
-      pub searching_short : length s - e < 8 → SearchedFrom t literal n s at (Search.Refused Short)
+      pub searching_short : length s - e < 8 → SearchedFrom t literal n s at (Err Short)
       searching_short l = passed ∙ go (dec_lt (length s - e) 4)
         where
           go : Dec (length s - e < 4) → number big 4 (Err Short) (drop e s) (λ offset s. number big 4 (Err Short) s (λ extent s.
@@ -80,7 +78,7 @@ module _ {t : ℕ} {literal : List ℕ} {n : ℕ} {s : List ℕ} {at i p : ℕ} 
             rw (← z) (passed ∙ word_at 4 s e _ (omega arith) ∙ word_at 4 s (e + 4) _ (omega arith))
 
         pub searching_hit : same v literal ≡ true → {z : ℤ} → OffsetAt s e z → {x : ℕ} → x ≡ be_at 4 s (e + 4)
-            → SearchedFrom t literal n s at (Search.Done (record { hit = true; offset = to_z w32 (of_z w32 z); extent = x; compared = i + 1 }))
+            → SearchedFrom t literal n s at (Ok (record { place = Some (record { offset = to_z w32 (of_z w32 z); extent = x }); compared = i + 1 }))
         searching_hit q o x =
             (read ∙ rw (q, same→eq v literal q, pattern_passed (be_at 4 s e) o.0 o.1, x), omega arith)
 
@@ -96,7 +94,7 @@ module _ {t : ℕ} {literal : List ℕ} {n : ℕ} {s : List ℕ} {at i p : ℕ} 
 -- ---- the block's number
 
 module _ (t : ℕ) (literal s : List ℕ) (p : ℕ) where
-  pub block-short : length s - p < 4 → SearchedAt t literal s p (Search.Refused Short)
+  pub block-short : length s - p < 4 → SearchedAt t literal s p (Err Short)
   unfolding searched
   block-short h = word_short 4 s p _ h
 
@@ -105,24 +103,15 @@ module _ (t : ℕ) (literal s : List ℕ) (p : ℕ) where
     unfolding searched
     numbered = rw e (word_at 4 s p _ h)
 
-    pub block_empty : n < 1 → SearchedAt t literal s p (Search.Refused Dict)
+    pub block_empty : n < 1 → SearchedAt t literal s p (Err Dict)
     unfolding check
     block_empty l = numbered ∙ rw (lt-leb 1 n l)
 
-    pub block_negative : 1 ≤ n → sign_bit ≤ n → SearchedAt t literal s p (Search.Refused Dict)
+    pub block_negative : 1 ≤ n → sign_bit ≤ n → SearchedAt t literal s p (Err Dict)
     unfolding check
     block_negative l m = numbered ∙ rw (le-leb 1 n l, le-ltb n sign_bit m)
 
-    pub block-searched : 1 ≤ n → n < sign_bit → (r : Search) → SearchedFrom t literal n s (p + 4) r → SearchedAt t literal s p r
+    pub block-searched : 1 ≤ n → n < sign_bit → (r : Result Found Refusal) → SearchedFrom t literal n s (p + 4) r → SearchedAt t literal s p r
     unfolding check
-    block-searched l m (Search.Refused r) w = numbered ∙ rw (le-leb 1 n l, lt-ltb n sign_bit m) w
-    block-searched l m (Search.Done f) w = (n, numbered ∙ rw (le-leb 1 n l, lt-ltb n sign_bit m) w.0, omega (arith, w.1))
-
-module _ (t : ℕ) (literal s : List ℕ) (base below offset : ℕ) where
-  pub below_none : below ≡ 0 → BlockAt t literal s base below offset (Search.Done (record { hit = false; offset = to_z w32 0; extent = 0; compared = 0 }))
-  below_none z = (0, rw (eq-eqb below 0 z), omega arith)
-
-  pub below-some : (below ≡ 0 → ⊥) → (r : Search) → SearchedAt t literal s (base + offset) r → BlockAt t literal s base below offset r
-  below-some n r w =
-      let d : drop offset (drop base s) ≡ drop (base + offset) s = drop-drop offset base s in
-      rw (ne_eqb below 0 n, d) w
+    block-searched l m (Err r) w = numbered ∙ rw (le-leb 1 n l, lt-ltb n sign_bit m) w
+    block-searched l m (Ok f) w = (n, numbered ∙ rw (le-leb 1 n l, lt-ltb n sign_bit m) w.0, omega (arith, w.1))

@@ -75,7 +75,7 @@ pub record BlockSearched (literal s : List ℕ) (b : Searched) : Type 0 where
 abbrev pub SearchedStands : Type 0
 SearchedStands = (t : ℕ) (literal s : List ℕ) (b : Searched) → Bytes s → searched t literal s ≡ Ok b → BlockSearched literal s b
 
--- ---- the question: "The edition is tested with type and question .. Ticket 6's lookup included". What Ask's EQUAL refuses of it a lookup refuses, of any body and table
+-- ---- the question: The edition is tested with type and question. What Ask's EQUAL refuses of it a lookup refuses, of any body and table
 
 abbrev pub QuestionIsTested : Type 0
 QuestionIsTested =
@@ -122,7 +122,7 @@ RefusedOnlySo =
     (t edition : ℕ) (literal table body field : List ℕ) (r : Refusal) → Bytes body → looked_up t edition literal table body field ≡ Err r
     → RefusedIs t edition literal table body field r
 
--- ---- an accepted answer, for any bytes: null rows are the rows of null's entry, and the field has exactly the rows of the entry that was found; and it keeps 01's
+-- ---- an accepted answer, for any bytes: null rows are the rows of null's entry, and the field has exactly the rows of the entry that was found; and it keeps the
 -- rules of fields: the stated row count, matched equal to the ones, spare bits 0, bytes behind kept, deleted 0
 
 pub record AcceptedIs (f : Sought) (before : List ℕ) (a : Looked) : Type 0 where

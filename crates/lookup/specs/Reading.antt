@@ -1,5 +1,5 @@
--- What a lookup answers for any body, type, edition, literal, table and field (02, Ticket 6: "EQUAL then halves the directory through that table, reads one block
--- and one bitmap", and Ticket 7: "Ticket 6's lookup also reads null's bitmap"): its stages in their order, each begun only where the one before passed.
+-- What a lookup answers for any body, type, edition, literal, table and field ("EQUAL then halves the directory through that table, reads one block
+-- and one bitmap"; it reads null's bitmap too): its stages in their order, each begun only where the one before passed.
 use Rattle.std.specs.Prelude.{ℕ, zero, suc, ◌+◌, ◌-◌, ◌/◌, ◌&&◌, cond, List, [], ◌∷◌, eqb, ltb, leb, length, drop, get_or, Result, Err, Ok}
 use Rattle.numbers.specs.Meaning.{big, number, same, sign_bit}
 use Rattle.refusal.specs.declared.Refusal.{Refusal}
@@ -69,7 +69,7 @@ searched_in t literal n (suc left) compared s =
     (Ok (record { entries = n; hit = record { cell = value v; offset = offset; extent = extent } ∷ []; compared = compared + 1 }))
     (searched_in t literal n left (compared + 1) s))))
 
--- the block at the front of s: "entry number (4, at least 1)" (01), then its entries
+-- the block at the front of s: "entry number (4, at least 1)", then its entries
 unfoldable pub searched : ℕ → List ℕ → List ℕ → Result Searched Refusal
 searched t literal s = number big 4 (Err Short) s (λ n s. check (leb 1 n && ltb n sign_bit) Dict (searched_in t literal n n 0 s))
 

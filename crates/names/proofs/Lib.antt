@@ -4,3 +4,4 @@ pub mod ModifiedForm
 pub mod Lists
 pub mod Theorems
 pub mod Steps
+pub mod Text

@@ -14,7 +14,7 @@ use Rattle.names.specs.Layout.{Scalar, in_turn}
 use Rattle.names.specs.Reading.{Spelled, Reader, points_in}
 use Rattle.names.proofs.Bits.{Read}
 
-no_bytes : (s : List ℕ) → length s ≡ 0 → s ≡ []
+pub no_bytes : (s : List ℕ) → length s ≡ 0 → s ≡ []
 no_bytes [] e = refl
 no_bytes (a ∷ s) e = absurd (omega arith)
 

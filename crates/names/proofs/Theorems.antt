@@ -85,7 +85,7 @@ named_is_askable asked stored n h = record { points = n.points; scalars = n.scal
 -- ---- the tests
 
 -- either the bytes spell code points, or nothing is told of them
-read-or : (asked : List ℕ) → ((cs : List ℕ) × All Scalar cs × (asked ≡ standard cs) × (standard_points asked ≡ Ok cs)) ⊎ (standard_points asked ≡ Err tt)
+pub read-or : (asked : List ℕ) → ((cs : List ℕ) × All Scalar cs × (asked ≡ standard cs) × (standard_points asked ≡ Ok cs)) ⊎ (standard_points asked ≡ Err tt)
 read-or asked = by (standard_points asked) refl
   where
     by : (o : Spelled (List ℕ)) → standard_points asked ≡ o
@@ -93,16 +93,16 @@ read-or asked = by (standard_points asked) refl
     by (Err r) q = inr q
     by (Ok cs) q = let x = read_is_standard asked cs q in inl (cs, x.0, x.1, q)
 
-telling : {B : Type 0} (none : B) (f : List ℕ → B) (asked cs : List ℕ) → All Scalar cs → asked ≡ standard cs → told none f (standard_points asked) ≡ f cs
+pub telling : {B : Type 0} (none : B) (f : List ℕ → B) (asked cs : List ℕ) → All Scalar cs → asked ≡ standard cs → told none f (standard_points asked) ≡ f cs
 unfolding told
 telling none f asked cs h e = ap (λ (s : List ℕ). told none f (standard_points s)) e ∙ ap (told none f) (standard_is_read cs h)
 
 -- the size of a name whose code points are known
-size-told : (asked cs : List ℕ) → All Scalar cs → asked ≡ standard cs → size_of_asked_name asked ≡ min (length (modified cs)) (name_limit + 1)
+pub size-told : (asked cs : List ℕ) → All Scalar cs → asked ≡ standard cs → size_of_asked_name asked ≡ min (length (modified cs)) (name_limit + 1)
 unfolding size_of_asked_name
 size-told asked cs h e = telling (name_limit + 1) _ asked cs h e
 
-no_size : (asked : List ℕ) → standard_points asked ≡ Err tt → size_of_asked_name asked ≡ name_limit + 1
+pub no_size : (asked : List ℕ) → standard_points asked ≡ Err tt → size_of_asked_name asked ≡ name_limit + 1
 unfolding size_of_asked_name told
 no_size asked e = rw e
 
@@ -175,7 +175,7 @@ form_short c =
           ]
     ]
 
-standard-short : (cs : List ℕ) → length (standard cs) ≤ length (modified cs)
+pub standard-short : (cs : List ℕ) → length (standard cs) ≤ length (modified cs)
 standard-short [] = omega arith
 standard-short (c ∷ cs) =
     omega (arith, length-append (standard_of c) (standard cs), length-append (modified_of c) (modified cs), form_short c, standard-short cs)

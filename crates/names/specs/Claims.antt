@@ -62,7 +62,7 @@ SizeIsTheForms =
 abbrev pub NamedIsTested : Type 0
 NamedIsTested = (asked stored : List ℕ) → (Named asked stored → matches asked stored ≡ true) × (matches asked stored ≡ true → Named asked stored)
 
--- a plain asked name is compared as 01 has it, byte for byte as it is, and may be asked for if it has no more than 65,535 bytes
+-- a plain asked name is compared byte for byte as it is, and may be asked for if it has no more than 65,535 bytes
 abbrev pub PlainIsCompared : Type 0
 PlainIsCompared = (asked : List ℕ) → Plain asked → (stored : List ℕ) → matches asked stored ≡ same asked stored
 

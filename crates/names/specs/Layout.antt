@@ -1,4 +1,4 @@
--- 02, Ticket 5: a name is a list of code points. Here are its two forms, from code points to bytes: standard UTF-8, in which a caller asks, and Java's modified
+-- A name is a list of code points. Here are its two forms, from code points to bytes: standard UTF-8, in which a caller asks, and Java's modified
 -- UTF-8, in which a file stores it (Java's DataInput page). Nothing here goes by how a name is read.
 use Rattle.std.specs.Prelude.{ℕ, ◌+◌, ◌-◌, ◌/◌, ◌%◌, ◌<◌, ◌≤◌, ◌≡◌, cond, List, [], ◌∷◌, ◌++◌, ◌⊎◌, eqb, ltb, length}
 use Rattle.numbers.specs.Meaning.{All}

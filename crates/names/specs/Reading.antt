@@ -1,4 +1,4 @@
--- 02, Ticket 5: which code points any bytes spell, in standard and in modified UTF-8; whether a name may be asked for, and whether a stored name is the asked one.
+-- Which code points any bytes spell, in standard and in modified UTF-8; whether a name may be asked for, and whether a stored name is the asked one.
 -- A cursor `s` is what is left of the bytes, `k` is what follows of what was read. Bytes that are not of the form are refused, and nothing more is said of them.
 use Rattle.std.specs.Prelude.{ℕ, zero, suc, ◌+◌, ◌-◌, ◌*◌, min, Bool, false, ◌&&◌, ◌||◌, not, cond, List, [], ◌∷◌, eqb, leb, ltb, length, Result, Err, Ok}
 use Rattle.numbers.specs.Meaning.{same}

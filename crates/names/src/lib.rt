@@ -1,23 +1,19 @@
-// Names (document 02, Ticket 5): whether one may be asked for, and whether a stored one is the asked one. A caller's name is standard UTF-8, a stored one Java's
+// Names: whether one may be asked for, and whether a stored one is the asked one. A caller's name is standard UTF-8, a stored one Java's
 // modified UTF-8. No form of a name is written anywhere: each code point of the asked name is compared as it is read.
 #![tactic(auto)]
 
 ghost use Rattle.std.specs.Prelude.{◌≡◌, ◌++◌, ◌+◌, ◌<◌, ◌≤◌, length};
 ghost use Rattle.names.specs.Layout.{in_two_bytes, in_three_bytes, high_of, low_of, past_plane, modified_of};
-ghost use Rattle.names.specs.Reading.{continued, is_scalar, standard_point, size_of_asked_name};
 ghost use Rattle.names.specs.Reading as reading;
-ghost use Rattle.names.specs.Promises.{PointIsAt, form_stands_at};
+ghost use Rattle.names.specs.Promises.{SizeIs, form_stands_at};
 
 use numbers::Position;
+use std::str;
 
-// The least first half of a pair of surrogates, the least second half, the first code point behind the surrogates, and one past the last.
+// The least first half of a pair of surrogates, and the least second half.
 const FIRST_HIGH: u64 = 0xD800;
 
 const FIRST_LOW: u64 = 0xDC00;
-
-const PAST_SURROGATES: u64 = 0xE000;
-
-const PAST_LAST: u64 = 0x110000;
 
 // Below these a code point has one byte, two and three in standard UTF-8.
 const PAST_ONE_BYTE: u64 = 0x80;
@@ -26,16 +22,12 @@ const PAST_TWO_BYTES: u64 = 0x800;
 
 const PAST_PLANE: u64 = 0x10000;
 
-// The least byte of each kind: continuation bytes, and the lead bytes of two, three and four bytes; and one past the last of those.
+// The least byte of each kind: continuation bytes, and the lead bytes of two and three bytes.
 const CONTINUATION: u64 = 0x80;
 
 const LEAD_OF_TWO: u64 = 0xC0;
 
 const LEAD_OF_THREE: u64 = 0xE0;
-
-const LEAD_OF_FOUR: u64 = 0xF0;
-
-const PAST_LEADS: u64 = 0xF8;
 
 // One past the greatest number of six bits, which a continuation byte has, of twelve, which two have, and of ten, which a surrogate has.
 const SIX_BITS: u64 = 64;
@@ -49,110 +41,13 @@ const ZERO_SIZE: usize = 2;
 
 const PAIR_SIZE: usize = 6;
 
-// The most bytes that a name may have in modified form, and what stands for more.
+/// The most bytes that a name may have in modified form.
 pub const NAME_LIMIT: usize = 65_535;
-
-const UNASKABLE: usize = NAME_LIMIT + 1;
-
-// A code point: the bytes are none, or what it is and where its bytes end.
-#[derive(Clone, Copy)]
-enum Point {
-    Broken,
-    Is { value: u64, next: Position },
-}
-
-// ---- Standard UTF-8
-
-// The value of the bits `lead` and of n continuation bytes from `at` on.
-fn continued_at(s: &[u8], at: Position, n: usize, lead: u64) -> Point
-    requires { (at.0 ≤ length s.now) × (n < 4) × (lead < 64) }
-    ensures { PointIsAt result (continued n lead) n at s.now }
-{
-    let p = at.0;
-    if s.len() - p < n {
-        return Point::Broken;
-    }
-    let mut value = lead;
-    let mut i = 0;
-    while i < n {
-        let b = numbers::byte(s, Position(p + i));
-        if b < CONTINUATION {
-            return Point::Broken;
-        }
-        if LEAD_OF_TWO <= b {
-            return Point::Broken;
-        }
-        value = value * SIX_BITS + (b - CONTINUATION);
-        i = i + 1;
-    }
-    Point::Is {
-        value,
-        next: Position(p + n),
-    }
-}
-
-// Whether it is a code point and no surrogate.
-fn is_scalar(value: u64) -> bool
-    ensures { result ≡ is_scalar value }
-{
-    if value < FIRST_HIGH {
-        return true;
-    }
-    if value < PAST_SURROGATES {
-        return false;
-    }
-    value < PAST_LAST
-}
-
-// The code point of the bits `lead` and of n continuation bytes from `at` on. One below `least` has a shorter form, which is then the only one.
-fn longer_at(s: &[u8], at: Position, n: usize, least: u64, lead: u64) -> Point
-    requires { (at.0 ≤ length s.now) × (n < 4) × (lead < 64) }
-    ensures { PointIsAt result (reading.longer n least lead) n at s.now }
-{
-    let point = continued_at(s, at, n, lead);
-    let Point::Is { value, next } = point else {
-        return Point::Broken;
-    };
-    if value < least {
-        return Point::Broken;
-    }
-    if !is_scalar(value) {
-        return Point::Broken;
-    }
-    Point::Is { value, next }
-}
-
-// The code point at `at`.
-fn point_at(s: &[u8], at: Position) -> Point
-    requires { at.0 < length s.now }
-    ensures { PointIsAt result standard_point 1 at s.now }
-{
-    let a = numbers::byte(s, at);
-    let next = at.0 + 1;
-    if a < PAST_ONE_BYTE {
-        return Point::Is {
-            value: a,
-            next: Position(next),
-        };
-    }
-    if a < LEAD_OF_TWO {
-        return Point::Broken;
-    }
-    if a < LEAD_OF_THREE {
-        return longer_at(s, Position(next), 1, PAST_ONE_BYTE, a - LEAD_OF_TWO);
-    }
-    if a < LEAD_OF_FOUR {
-        return longer_at(s, Position(next), 2, PAST_TWO_BYTES, a - LEAD_OF_THREE);
-    }
-    if a < PAST_LEADS {
-        return longer_at(s, Position(next), 3, PAST_PLANE, a - LEAD_OF_FOUR);
-    }
-    Point::Broken
-}
 
 // ---- Modified UTF-8
 
 // How many bytes a code point has in this form.
+#[tactic(auto, unfolding(crate::specs::Layout::modified_of, crate::specs::Layout::standard_of))]
 fn modified_size(value: u64) -> usize
     ensures { (result ≡ length (modified_of value)) × (result ≤ 6) }
 {
@@ -172,30 +67,24 @@ fn modified_size(value: u64) -> usize
 }
 
 // Whether the two bytes of a value stand at `at`.
+#[tactic(auto, using(crate::proofs::Steps::stands_two))]
 fn two_at(s: &[u8], at: Position, value: u64) -> bool
     requires { at.0 + 2 ≤ length s.now }
     ensures { result ≡ form_stands_at (in_two_bytes value) at s.now }
 {
-    let p = at.0;
-    if numbers::byte(s, at) != LEAD_OF_TWO + value / SIX_BITS {
-        return false;
-    }
-    numbers::byte(s, Position(p + 1)) == CONTINUATION + value % SIX_BITS
+    numbers::byte(s, at) == LEAD_OF_TWO + value / SIX_BITS
+        && numbers::byte(s, Position(at.0 + 1)) == CONTINUATION + value % SIX_BITS
 }
 
 // Whether the three bytes of a value stand at `at`.
+#[tactic(auto, using(crate::proofs::Steps::stands_three))]
 fn three_at(s: &[u8], at: Position, value: u64) -> bool
     requires { at.0 + 3 ≤ length s.now }
     ensures { result ≡ form_stands_at (in_three_bytes value) at s.now }
 {
-    let p = at.0;
-    if numbers::byte(s, at) != LEAD_OF_THREE + value / TWELVE_BITS {
-        return false;
-    }
-    if numbers::byte(s, Position(p + 1)) != CONTINUATION + value / SIX_BITS % SIX_BITS {
-        return false;
-    }
-    numbers::byte(s, Position(p + 2)) == CONTINUATION + value % SIX_BITS
+    numbers::byte(s, at) == LEAD_OF_THREE + value / TWELVE_BITS
+        && numbers::byte(s, Position(at.0 + 1)) == CONTINUATION + value / SIX_BITS % SIX_BITS
+        && numbers::byte(s, Position(at.0 + 2)) == CONTINUATION + value % SIX_BITS
 }
 
 // Whether the two surrogates of a code point above FFFF stand at `at`.
@@ -204,14 +93,12 @@ fn pair_at(s: &[u8], at: Position, value: u64) -> bool
     ensures { result ≡ form_stands_at (in_three_bytes (high_of value) ++ in_three_bytes (low_of value)) at s.now }
 {
     let above = value - PAST_PLANE;
-    let p = at.0;
-    if !three_at(s, at, FIRST_HIGH + above / TEN_BITS) {
-        return false;
-    }
-    three_at(s, Position(p + 3), FIRST_LOW + above % TEN_BITS)
+    three_at(s, at, FIRST_HIGH + above / TEN_BITS)
+        && three_at(s, Position(at.0 + 3), FIRST_LOW + above % TEN_BITS)
 }
 
 // Whether a code point stands at `at`, where there are bytes enough for it.
+#[tactic(auto, using(crate::proofs::Steps::stands_one), unfolding(crate::specs::Layout::modified_of, crate::specs::Layout::standard_of))]
 fn modified_at(s: &[u8], at: Position, value: u64) -> bool
     requires { at.0 + length (modified_of value) ≤ length s.now }
     ensures { result ≡ form_stands_at (modified_of value) at s.now }
@@ -233,39 +120,41 @@ fn modified_at(s: &[u8], at: Position, value: u64) -> bool
 
 // ---- Names
 
-// How many bytes an asked name has in modified form; UNASKABLE where they are more than NAME_LIMIT, and where it isn't standard UTF-8.
-pub fn asked_size(asked: &[u8]) -> usize
-    ensures { result ≡ size_of_asked_name asked.now }
+/// How many bytes an asked name has in modified form; none where they are more than NAME_LIMIT, and where it isn't standard UTF-8: such a name may not be asked for.
+pub fn asked_size(asked: &[u8]) -> Option<usize>
+    ensures { SizeIs asked.now result }
 {
-    let mut p: usize = 0;
-    let mut size: usize = 0;
-    while p < asked.len() {
-        let point = point_at(asked, Position(p));
-        let Point::Is { value, next } = point else {
-            return UNASKABLE;
-        };
-        let end = next.0;
-        let bytes = modified_size(value);
-        size = size + bytes;
-        if NAME_LIMIT < size {
-            return UNASKABLE;
-        }
-        p = end;
+    // In modified form it has no fewer bytes.
+    if NAME_LIMIT < asked.len() {
+        return None;
     }
-    size
+    let Ok(text) = str::from_utf8(asked) else {
+        return None;
+    };
+    let mut size = 0;
+    for c in text.chars() {
+        size += modified_size(u64::from(c));
+        if NAME_LIMIT < size {
+            return None;
+        }
+    }
+    Some(size)
 }
 
-// Whether the stored name is the asked one. It ends at the first code point that differs, so that it takes no longer than the stored name is.
+/// Whether the stored name is the asked one. It takes no longer than the stored name is.
 pub fn matches(asked: &[u8], stored: &[u8]) -> bool
     ensures { result ≡ reading.matches asked.now stored.now }
 {
-    let mut p: usize = 0;
-    let mut q: usize = 0;
-    while p < asked.len() {
-        let point = point_at(asked, Position(p));
-        let Point::Is { value, next } = point else {
-            return false;
-        };
+    // In modified form the asked name has no fewer bytes.
+    if stored.len() < asked.len() {
+        return false;
+    }
+    let Ok(text) = str::from_utf8(asked) else {
+        return false;
+    };
+    let mut q = 0;
+    for c in text.chars() {
+        let value = u64::from(c);
         let size = modified_size(value);
         if stored.len() - q < size {
             return false;
@@ -273,8 +162,7 @@ pub fn matches(asked: &[u8], stored: &[u8]) -> bool
         if !modified_at(stored, Position(q), value) {
             return false;
         }
-        q = q + size;
-        p = next.0;
+        q += size;
     }
     q == stored.len()
 }

@@ -1,14 +1,14 @@
 -- What `same` says: laws, and its steps at a position.
-use Prim.Native.Nat.{ℕ, ◌+◌, ◌-◌, ◌<◌, ◌≤◌}
+use Prim.Native.Nat.{ℕ, ◌+◌, ◌-◌, ◌≤◌}
 use mathlib.Core.Path.{◌≡◌, refl, sym, ap, ap₂, ◌∙◌}
-use mathlib.Core.Bool.{Bool, true, false, ◌&&◌}
+use mathlib.Core.Bool.{Bool, true, false}
 use mathlib.Core.List.{List, [], ◌∷◌, ◌++◌}
-use native.Mathlib.Numerals.{add-one}
 use native.Mathlib.Decide.{ℕ_discrete}
 use native.Mathlib.Omega.{arith}
 use lib.Dec.{eqb}
-use lib.ListN.{length, get_or, drop, length-drop, drop_of_length-le}
-use lib.Seq.{drop-cons, drop-drop}
+use lib.ListN.{length, drop, length-drop, drop_of_length-le}
+use lib.Seq.{drop-drop}
+use Rattle.std.specs.Cmp.Lexicographic.{pointwise}
 use borrow.Author.Tests.{eq-eqb, ne_eqb, eqb-true}
 use Rattle.numbers.proofs.Booleans.{and_both}
 use Rattle.numbers.proofs.ByteLists.{bytes_drop}
@@ -43,20 +43,17 @@ same-sym [] (y ∷ ys) = refl
 same-sym (x ∷ xs) [] = refl
 same-sym (x ∷ xs) (y ∷ ys) = rw (eqb-sym x y (ℕ_discrete x y), same-sym xs ys)
 
+-- what `==` of slices answers
+pub same-pointwise : (v w : List ℕ) → pointwise eqb v w ≡ same v w
+unfolding same
+same-pointwise [] [] = refl
+same-pointwise [] (y ∷ ys) = refl
+same-pointwise (x ∷ xs) [] = refl
+same-pointwise (x ∷ xs) (y ∷ ys) = rw (same-pointwise xs ys)
+
 -- ---- from position i on
 
 module _ (a b : List ℕ) where
-  same_step : (i : ℕ) → i < length a → i < length b
-      → same (drop i a) (drop i b) ≡ eqb (get_or a i 0) (get_or b i 0) && same (drop (i + 1) a) (drop (i + 1) b)
-  unfolding same
-  same_step i h g = rw (add-one, drop-cons a i 0 h, drop-cons b i 0 g)
-
-  pub same_next : (i : ℕ) → i < length a → i < length b → get_or a i 0 ≡ get_or b i 0 → same (drop i a) (drop i b) ≡ same (drop (i + 1) a) (drop (i + 1) b)
-  same_next i h g e = same_step i h g ∙ rw (eq-eqb (get_or a i 0) (get_or b i 0) e)
-
-  pub same_ends : (i : ℕ) → i < length a → i < length b → (get_or a i 0 ≡ get_or b i 0 → ⊥) → same (drop i a) (drop i b) ≡ false
-  same_ends i h g n = same_step i h g ∙ rw (ne_eqb (get_or a i 0) (get_or b i 0) n)
-
   pub same_done : (i : ℕ) → length a ≤ i → length b ≤ i → same (drop i a) (drop i b) ≡ true
   unfolding same
   same_done i h g = rw (drop_of_length-le a h, drop_of_length-le b g)

@@ -6,33 +6,24 @@ use mathlib.Core.Bool.{Bool, true, false, cond}
 use mathlib.Core.List.{List, []}
 use native.Mathlib.Omega.{arith}
 use lib.Dec.{eqb, ltb, leb}
-use lib.IntN.{ℤ}
 use lib.ListN.{length, drop, get_or}
 use borrow.Author.Tests.{le-leb, lt-leb, eq-eqb, ne_eqb}
-use mir.Syntax.{w32}
-use mir.Val.{SFits, to_z, of_z}
-use mir.Facts.{to_z-of_z}
-use mir.ValLaws.{of_z_fits}
+use Rattle.numbers.specs.declared.Position.{Position}
 use Rattle.numbers.specs.Meaning.{big, be_at, number, sign_bit, position}
 use Rattle.refusal.specs.Meaning.{limit}
 use Rattle.refusal.specs.declared.Refusal.{Refusal}
 use Rattle.refusal.specs.declared.Refusal.TheVariants.{Short, Version, Dict, Limit}
-use Rattle.std.specs.Prelude.{Result, Err, Ok}
+use Rattle.std.specs.Prelude.{Option, Result, Err, Ok}
 use Rattle.refusal.specs.Reading.{check}
 use Rattle.refusal.proofs.Laws.{not-ok, ok_same}
-use Rattle.dictionary.specs.declared.Count.{Count}
-use Rattle.dictionary.specs.declared.Count.TheVariants.{Is}
-use Rattle.dictionary.specs.declared.Null.{Null}
-use Rattle.dictionary.specs.declared.Null.TheVariants.{Numbers}
+use Rattle.dictionary.specs.declared.NullEntry.{NullEntry}
 use Rattle.dictionary.specs.Layout.{Entry, most_values2, most_blocks}
 use Rattle.dictionary.specs.Reading.{Dictionary, count_at_most, null_of}
 use Rattle.dictionary.specs.Promises.{AfterCount, AfterEntries, nulls, CountAt, NullAt}
 use Rattle.dictionary.proofs.Fields.{byte_at}
 use Rattle.dictionary.proofs.Steps.{word_at, word_short}
-use Rattle.opening.specs.declared.FrontRead.{FrontRead}
-use Rattle.opening.specs.declared.FrontRead.TheVariants.{Read}
 use Rattle.opening.specs.Reading.{Front, rest_of_front, front}
-use Rattle.opening.specs.Promises.{FrontIs, BehindIs}
+use Rattle.opening.specs.Promises.{FrontIs}
 
 -- ---- a count, whatever follows
 
@@ -106,46 +97,10 @@ module _ {B : Type 0} (s : List ℕ) (g : List Entry → List ℕ → Result B R
   null_passed true {ns} {rest} h =
       kept ns rest _ _ (leb 4 (length s)) (leb 4 (length (drop 4 s))) (h (λ ns rest. told 0 ns rest))
 
--- ---- null's entry and the block number
-
-module _ (rows n : ℕ) (has : Bool) (s : List ℕ) (at : ℕ) {x : Null} (w : NullAt true has s at x) where
-  pub behind-null : {r : Refusal} → x ≡ Null.Refused r → BehindIs rows n has s at (FrontRead.Refused r)
-  unfolding rest_of_front
-  behind-null e = null_refused (drop at s) _ has (rw e at w)
-
-  module _ {offset : ℤ} {extent p : ℕ} (e : x ≡ Numbers offset extent (position p)) where
-    passed : rest_of_front rows n has (drop at s) ≡ count_at_most most_blocks (drop p s) (λ b s. check (cond (eqb n 0) (eqb b 0) (leb 1 b)) Dict
-        (Ok (record { rows = rows; values = n; nulls = nulls has offset extent; blocks = b; directory = s })))
-    unfolding rest_of_front
-    passed = null_passed (drop at s) _ has (rw e at w).0
-
-    pub behind-count : {y : Count} → CountAt most_blocks s p y → {r : Refusal} → y ≡ Count.Refused r → BehindIs rows n has s at (FrontRead.Refused r)
-    behind-count v d = passed ∙ count_refused most_blocks (drop p s) _ (rw d at v)
-
-    module _ {y : Count} (v : CountAt most_blocks s p y) {b : ℕ} (d : y ≡ Is b) {fit : Bool} (f : fit ≡ cond (eqb n 0) (eqb b 0) (leb 1 b)) where
-      tested : rest_of_front rows n has (drop at s) ≡ check fit Dict (Ok (record { rows = rows; values = n; nulls = nulls has offset extent; blocks = b; directory = drop (p + 4) s }))
-      tested = passed ∙ count_passed most_blocks (drop p s) _ (rw d at v).0 ∙ rw f
-
-      pub behind_unfit : fit ≡ false → BehindIs rows n has s at (FrontRead.Refused Dict)
-      unfolding check
-      behind_unfit h = tested ∙ rw h
-
-      pub behind-read : fit ≡ true → SFits w32 offset → BehindIs rows n has s at (Read (record {
-        rows = rows;
-        values = n;
-        has_null = has;
-        null_offset = to_z w32 (of_z w32 offset);
-        null_extent = extent;
-        blocks = b;
-        directory = position (p + 4);
-      }))
-      unfolding check
-      behind-read h fits = rw (to_z-of_z fits) (tested ∙ rw h, ((rw d at v).1, (rw d at v).2, (of_z_fits w32 offset fits).fits))
-
--- ---- the ten bytes before
+-- ---- the fields in turn
 
 module _ (s : List ℕ) where
-  pub front_empty : length s < 1 → FrontIs s (FrontRead.Refused Short)
+  pub front_empty : length s < 1 → FrontIs s (Err Short)
   unfolding front
   front_empty h = word_short 1 s 0 _ (omega arith)
 
@@ -159,7 +114,7 @@ module _ (s : List ℕ) where
     unfolding front after
     versioned = let b : be_at 1 s 0 ≡ v = byte_at s 0 ∙ sym e in word_at 1 s 0 _ l ∙ simp b
 
-    pub front-version : (v ≡ 2 → ⊥) → FrontIs s (FrontRead.Refused Version)
+    pub front-version : (v ≡ 2 → ⊥) → FrontIs s (Err Version)
     unfolding check
     front-version h = versioned ∙ rw (ne_eqb v 2 h)
 
@@ -168,35 +123,60 @@ module _ (s : List ℕ) where
       unfolding check
       begun = versioned ∙ rw (eq-eqb v 2 two)
 
-      pub front-rows : {x : Count} → CountAt limit s 1 x → {r : Refusal} → x ≡ Count.Refused r → FrontIs s (FrontRead.Refused r)
+      pub front-rows : {r : Refusal} → CountAt limit s 1 (Err r) → FrontIs s (Err r)
       unfolding after
-      front-rows w d = begun ∙ count_refused limit (drop 1 s) _ (rw d at w)
+      front-rows w = begun ∙ count_refused limit (drop 1 s) _ w
 
-      module _ {x : Count} (w : CountAt limit s 1 x) {rows : ℕ} (d : x ≡ Is rows) where
+      module _ {rows : ℕ} (w : CountAt limit s 1 (Ok rows)) where
         numbered : front s ≡ count_at_most most_values2 (drop 5 s) (λ n s.
             number big 1 (Err Short) s (λ has_null_byte s. check (leb has_null_byte 1) Dict (rest_of_front rows n (eqb has_null_byte 1) s)))
         unfolding after
-        numbered = begun ∙ count_passed limit (drop 1 s) _ (rw d at w).0
+        numbered = begun ∙ count_passed limit (drop 1 s) _ w.0
 
-        pub front-values : {y : Count} → CountAt most_values2 s 5 y → {r : Refusal} → y ≡ Count.Refused r → FrontIs s (FrontRead.Refused r)
-        front-values u g = numbered ∙ count_refused most_values2 (drop 5 s) _ (rw g at u)
+        pub front-values : {r : Refusal} → CountAt most_values2 s 5 (Err r) → FrontIs s (Err r)
+        front-values u = numbered ∙ count_refused most_values2 (drop 5 s) _ u
 
-        module _ {y : Count} (u : CountAt most_values2 s 5 y) {n : ℕ} (g : y ≡ Is n) where
+        module _ {n : ℕ} (u : CountAt most_values2 s 5 (Ok n)) where
           flagged : front s ≡ number big 1 (Err Short) (drop 9 s) (λ has_null_byte s. check (leb has_null_byte 1) Dict (rest_of_front rows n (eqb has_null_byte 1) s))
-          flagged = numbered ∙ count_passed most_values2 (drop 5 s) _ (rw g at u).0
+          flagged = numbered ∙ count_passed most_values2 (drop 5 s) _ u.0
 
-          pub front_cut : length s < 10 → FrontIs s (FrontRead.Refused Short)
+          pub front_cut : length s < 10 → FrontIs s (Err Short)
           front_cut h = flagged ∙ word_short 1 s 9 _ (omega arith)
 
           module _ (ten : 10 ≤ length s) {h : ℕ} (i : h ≡ get_or s 9 0) where
             judged : front s ≡ check (leb h 1) Dict (rest_of_front rows n (eqb h 1) (drop 10 s))
             judged = let b : be_at 1 s 9 ≡ h = byte_at s 9 ∙ sym i in flagged ∙ word_at 1 s 9 _ ten ∙ simp b
 
-            pub front-wrong : 1 < h → FrontIs s (FrontRead.Refused Dict)
+            pub front-wrong : 1 < h → FrontIs s (Err Dict)
             unfolding check
             front-wrong k = judged ∙ rw (lt-leb h 1 k)
 
-            pub front_read : h ≤ 1 → (r : FrontRead) → BehindIs rows n (eqb h 1) s 10 r → FrontIs s r
-            unfolding check
-            front_read k (FrontRead.Refused r) b = judged ∙ rw (le-leb h 1 k) b
-            front_read k (Read f) b = (judged ∙ rw (le-leb h 1 k) b.0, b.1)
+            module _ (k : h ≤ 1) where
+              behind : front s ≡ rest_of_front rows n (eqb h 1) (drop 10 s)
+              unfolding check
+              behind = judged ∙ rw (le-leb h 1 k)
+
+              pub front-null : {r : Refusal} → NullAt true (eqb h 1) s 10 (Err r) → FrontIs s (Err r)
+              unfolding rest_of_front
+              front-null x = behind ∙ null_refused (drop 10 s) _ (eqb h 1) x
+
+              module _ (null : Option NullEntry) {p : Position} (x : NullAt true (eqb h 1) s 10 (Ok (null, p))) where
+                passed : front s ≡ count_at_most most_blocks (drop p.0 s) (λ b s. check (cond (eqb n 0) (eqb b 0) (leb 1 b)) Dict
+                    (Ok (record { rows = rows; values = n; nulls = nulls null; blocks = b; directory = s })))
+                unfolding rest_of_front
+                passed = behind ∙ null_passed (drop 10 s) _ (eqb h 1) x.0
+
+                pub front-blocks : {r : Refusal} → CountAt most_blocks s p.0 (Err r) → FrontIs s (Err r)
+                front-blocks y = passed ∙ count_refused most_blocks (drop p.0 s) _ y
+
+                module _ {b : ℕ} (y : CountAt most_blocks s p.0 (Ok b)) {fit : Bool} (f : fit ≡ cond (eqb n 0) (eqb b 0) (leb 1 b)) where
+                  tested : front s ≡ check fit Dict (Ok (record { rows = rows; values = n; nulls = nulls null; blocks = b; directory = drop (p.0 + 4) s }))
+                  tested = passed ∙ count_passed most_blocks (drop p.0 s) _ y.0 ∙ rw f
+
+                  pub front_unfit : fit ≡ false → FrontIs s (Err Dict)
+                  unfolding check
+                  front_unfit z = tested ∙ rw z
+
+                  pub front_read : fit ≡ true → FrontIs s (Ok (record { rows = rows; values = n; null = null; blocks = b; directory = position (p.0 + 4) }))
+                  unfolding check
+                  front_read z = (tested ∙ rw z, (y.1, y.2))

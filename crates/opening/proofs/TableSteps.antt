@@ -23,11 +23,6 @@ pub record Filling (t n : ℕ) (s : List ℕ) (at : ℕ) (before table : List �
   pub now : table ≡ written_to before written
   pub whole : starts_in t n at (drop at s) ≡ written ++ starts_in t (n - i) p (drop p s)
 
-pub filling_first : (t n : ℕ) (s : List ℕ) (at : ℕ) (table : List ℕ) → n ≤ length table → at ≤ length s → Filling t n s at table table 0 at
-filling_first t n s at table h l =
-    let z : n - 0 ≡ n = omega arith in
-    record { some = omega arith; room = h; near = omega arith; written = []; many = refl; now = refl; whole = rw z }
-
 -- one word more
 next_word : (before written : List ℕ) (p : ℕ) → length written < length before → set (written_to before written) (length written) p ≡ written_to before (written ++ (p ∷ []))
 next_word [] [] p h = absurd (omega arith)
@@ -35,13 +30,7 @@ next_word (x ∷ before) [] p h = refl
 next_word [] (w ∷ written) p h = absurd (omega arith)
 next_word (x ∷ before) (w ∷ written) p h = ap (λ (l : List ℕ). w ∷ l) (next_word before written p (omega arith))
 
-written_length : (before written : List ℕ) → length written ≤ length before → length (written_to before written) ≡ length before
-written_length before written h = omega (arith, length-append written (drop (length written) before), length-drop (length written) before)
-
 module _ {t n : ℕ} {s : List ℕ} {at : ℕ} {before table : List ℕ} {i p : ℕ} (st : Filling t n s at before table i p) where
-  pub filling_length : length table ≡ length before
-  filling_length = rw st.now (written_length before st.written (omega (arith, st.many, st.some, st.room)))
-
   pub filling_done : n ≤ i → Fills t n s at before table
   unfolding starts_in
   filling_done h =

@@ -100,7 +100,7 @@ pub record RefusesVersion (t : ℕ) (body field table : List ℕ) : Type 0 where
 abbrev pub OtherVersionIsRefused : Type 0
 OtherVersionIsRefused = (t v : ℕ) (s field table : List ℕ) → (v ≡ 2 → ⊥) → RefusesVersion t (v ∷ s) field table
 
--- "Too short a table is ROOM, where 01 tests room": after the dictionary, and before a bitmap is looked at. Field and table stay
+-- "Too short a table is ROOM, where Audit tests room": after the dictionary, and before a bitmap is looked at. Field and table stay
 abbrev pub ShortTableIsRoom : Type 0
 ShortTableIsRoom =
     (t : ℕ) (body field table : List ℕ) (d : Dictionary) (f : Front) → prepared t body field ≡ Ok d → front body ≡ Ok f → length table < f.blocks

@@ -1,4 +1,4 @@
--- Where the entries of a version 2 directory stand in a body (02, Ticket 6: "where its directory entry starts in the body"), by the layout of dictionary. Nothing
+-- Where the entries of a version 2 directory stand in a body ("where its directory entry starts in the body"), by the layout of dictionary. Nothing
 -- here is read.
 use Rattle.std.specs.Prelude.{ℕ, ◌+◌, List, [], ◌∷◌, ◌++◌, length}
 use Rattle.numbers.specs.Meaning.{be, joined}

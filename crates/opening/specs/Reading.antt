@@ -1,11 +1,11 @@
--- What Open answers for any bytes (02, Ticket 6: "the open audits, then fills a lent table"): its stages in their order, each begun only where the one before
+-- What Open answers for any bytes ("the open audits, then fills a lent table"): its stages in their order, each begun only where the one before
 -- passed.
 use Rattle.std.specs.Prelude.{ℕ, zero, suc, ◌+◌, Bool, true, cond, List, [], ◌∷◌, ◌++◌, eqb, ltb, leb, length, drop, Result, Err, Ok}
 use Rattle.numbers.specs.Meaning.{big, number}
-use Rattle.refusal.specs.Meaning.{limit, number_of, no_fault, fault_of}
+use Rattle.refusal.specs.Meaning.{limit}
 use Rattle.refusal.specs.declared.Refusal.{Refusal}
 use Rattle.refusal.specs.declared.Refusal.TheVariants.{Short, Version, Dict, Room, Literal, Limit}
-use Rattle.refusal.specs.Reading.{check, and_then}
+use Rattle.refusal.specs.Reading.{check, and_then, numbers_of, fault_in}
 use Rattle.row_field.specs.Meaning.{cleared}
 use Rattle.stored_value.specs.Meaning.{types}
 use Rattle.stored_value.specs.Reading.{value_size}
@@ -13,7 +13,6 @@ use Rattle.dictionary.specs.Layout.{Entry, most_values2, most_blocks}
 use Rattle.dictionary.specs.Reading.{Dictionary, count_at_most, null_of, behind}
 use Rattle.bitmap_index.specs.Reading.{prepared, audited}
 use Rattle.opening.specs.declared.Opened.{Opened}
-use Rattle.opening.specs.declared.Opened.TheVariants.{Accepted}
 
 -- ---- the fields in front of a version 2 directory, read as dictionary's reading reads them, but version 1 is VERSION too
 
@@ -60,7 +59,7 @@ pub record Openable : Type 0 where
   pub fields : Front
   pub read : Dictionary
 
--- all that comes before a byte of the field or a word of the table is written: "Too short a table is ROOM, where 01 tests room. A version 1 body is VERSION".
+-- all that comes before a byte of the field or a word of the table is written: "Too short a table is ROOM, where Audit tests room. A version 1 body is VERSION".
 -- The table is "under no length limit"
 unfoldable pub openable : ℕ → List ℕ → List ℕ → List ℕ → Result Openable Refusal
 openable t body field table =
@@ -98,21 +97,18 @@ table_of (Ok a) table = a.words
 unfoldable pub open_table : ℕ → List ℕ → List ℕ → List ℕ → List ℕ
 open_table t body field table = table_of (opened t body field table) table
 
--- ---- the call's answer, and its numbers: the answer's, 0 for accepted and else the refusal's in 01's table; then row count and number of blocks, both 0 with a
--- refusal
+-- ---- the call's answer, and its numbers: the answer's, 0 for accepted and else the refusal's; then row count and number of blocks, both 0 with a refusal
 
-unfoldable pub opened_by : Result Table Refusal → Opened
-opened_by (Err r) = Opened.Refused r
-opened_by (Ok a) = Accepted a.rows a.blocks
+-- an accepted open in the code's terms: the words are in the table
+abbrev pub opened_of : Table → Opened
+opened_of a = record { rows = a.rows; blocks = a.blocks }
 
-unfoldable pub open_out : Opened → ℕ × (ℕ × ℕ)
-open_out (Opened.Refused r) = (number_of r, (0, 0))
-open_out (Accepted rows blocks) = (0, (rows, blocks))
+unfoldable pub open_out : Result Opened Refusal → ℕ × (ℕ × ℕ)
+open_out r = numbers_of (0, 0) (λ a. (0, (a.rows, a.blocks))) r
 
 abbrev pub open_numbers : Table → ℕ × (ℕ × ℕ)
 open_numbers a = (0, (a.rows, a.blocks))
 
 -- where the answer's fault is, in three numbers
-unfoldable pub open_fault : Opened → List ℕ
-open_fault (Opened.Refused r) = fault_of r
-open_fault (Accepted rows blocks) = no_fault
+unfoldable pub open_fault : Result Opened Refusal → List ℕ
+open_fault r = fault_in r

@@ -1,6 +1,6 @@
--- Every call's numbers and fault, case by case of the answer of the call that it wraps; and demand 3 in numbers.
+-- Of a column's file what the scan says, in numbers.
 use Prim.Native.Nat.{ℕ}
-use mathlib.Core.Path.{◌≡◌, sym, ap, ◌∙◌}
+use mathlib.Core.Path.{◌≡◌, ap, ◌∙◌}
 use mathlib.Core.List.{List}
 use Rattle.numbers.specs.Meaning.{Bytes}
 use Rattle.refusal.specs.Reading.{numbers_of, fault_in}
@@ -11,10 +11,6 @@ use Rattle.file_to_answers.specs.Reading.{file_asked, ask_file_buffer, ask_file_
 use Rattle.file_to_answers.specs.Promises.{FileAsScan}
 use Rattle.file_to_answers.proofs.Theorems.{file_is_answered}
 use Rattle.poddurance.specs.Promises.{AskFile}
-
--- `out` has the numbers of an answer, or its fault. Where the answer is this case of it, the case's are those that the answer stands for
-pub in_case : {A N : Type 0} (out : A → N) {answer case : A} {stands n : N} → out answer ≡ stands → answer ≡ case → n ≡ out case → n ≡ stands
-in_case out e g h = h ∙ sym (ap out g) ∙ e
 
 -- Ask of a file: what holds of any bytes says of a column's file what the scan says
 pub ask_file_lem : (bytes column kind : List ℕ) (t : ℕ) (q : Question) (literals before : List ℕ) → Bytes before → {after said fault : List ℕ} {number : ℕ}

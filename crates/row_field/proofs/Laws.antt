@@ -106,14 +106,13 @@ pub mark_answer : (s : List ℕ) (r : ℕ) → not (eqb (bit_and (get_or s (r / 
 unfolding bit
 mark_answer s r = rw (weight r) (and_test (get_or s (r / 8) 0) (r % 8))
 
-module _ (s : List ℕ) (r : ℕ) {table : List ℕ} (e : table ≡ weights) where
-  pub within_answer : not (eqb (bit_and (get_or s (r / 8) 0) (get_or table (r % 8) 0)) 0) ≡ bit s r
-  unfolding bit
-  within_answer = rw (e, weight_at r) (and_test (get_or s (r / 8) 0) (r % 8))
+pub within_answer : (s : List ℕ) (r : ℕ) → not (eqb (bit_and (get_or s (r / 8) 0) (get_or weights (r % 8) 0)) 0) ≡ bit s r
+unfolding bit
+within_answer s r = rw (weight_at r) (and_test (get_or s (r / 8) 0) (r % 8))
 
-  pub within_store : set s (r / 8) (bit_or (get_or s (r / 8) 0) (get_or table (r % 8) 0)) ≡ mark s r
-  unfolding mark
-  within_store = rw (e, weight_at r)
+pub within_store : (s : List ℕ) (r : ℕ) → set s (r / 8) (bit_or (get_or s (r / 8) 0) (get_or weights (r % 8) 0)) ≡ mark s r
+unfolding mark
+within_store s r = rw (weight_at r)
 
 -- of answers that are gathered by `or` one is not 0 exactly if what they come to is not
 pub or_some : (a b : ℕ) → not (eqb (bit_or a b) 0) ≡ not (eqb a 0) || not (eqb b 0)

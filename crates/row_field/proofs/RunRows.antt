@@ -1,19 +1,20 @@
 -- The rows of a run, byte by byte.
 use Prim.Native.Nat.{ℕ, zero, suc, ◌+◌, ◌-◌, ◌*◌, ◌/◌, ◌%◌, ◌^◌, ◌<◌, ◌≤◌, min}
 use mathlib.Core.Path.{◌≡◌, refl, sym, ◌∙◌, subst}
-use mathlib.Core.Bool.{Bool, false}
-use mathlib.Core.List.{List, [], ◌++◌}
+use mathlib.Core.Bool.{Bool, false, not, ◌||◌}
+use mathlib.Core.List.{List, [], ◌++◌, append-nil}
 use native.Mathlib.Nat.{pow-suc, zero-add, add-zero, suc-add, mul-one, sub-zero, mod-eq_of_lt}
 use native.Mathlib.Decide.{dec_le}
 use native.Mathlib.Omega.{arith}
+use lib.Dec.{eqb}
 use lib.ListN.{length, get_or, set}
 use lib.Pow.{pow_pos, high_ones}
-use lib.Bits.{bit_or, shifted_half, shifted_even, or_add_and, and_mask}
+use lib.Bits.{bit_or, bit_and, shifted_half, shifted_even, or_add_and, and_mask}
 use Rattle.row_field.specs.Meaning.{mark_all, any_set, up_to}
-use Rattle.row_field.specs.Promises.{byte_rows, MarkedRows, MarkedInTurn}
+use Rattle.row_field.specs.Promises.{any_seen, byte_rows, MarkedRows, MarkedInTurn}
 use Rattle.row_field.proofs.RowLists.{up_to_rising, up_to-append}
 use Rattle.row_field.proofs.Marks.{Past, mark_all-append, rising_past, any_set-past, mark_all-past}
-use Rattle.row_field.proofs.Loops.{at_once}
+use Rattle.row_field.proofs.Loops.{Marks, at_once, marks_first, marks_part, marks_past, marks_done}
 use Rattle.row_field.proofs.ByteRows.{byte_rows_odd, byte_rows_even, byte_rows_rising, byte_marked}
 
 -- ---- the rows of bits in a row
@@ -81,14 +82,20 @@ bytes_left f to i h (no l) =
 pub bytes_done : (f : List ℕ) (to i : ℕ) → min (length f) to ≤ i → Past f (up_to (i * 8) ((to - i) * 8))
 bytes_done f to i h = bytes_left f to i h (dec_le (length f) i)
 
--- a byte that is filled has all its rows marked, whatever it was
+-- a byte that is filled has all its rows marked, whatever it was, and one of them was set exactly if it was not 0
 or-full : (x : ℕ) → x < 256 → bit_or x 255 ≡ 255
 or-full x h = omega (arith, or_add_and x 255, and_mask x 8, mod-eq_of_lt h)
+
+and-full : (x : ℕ) → x < 256 → bit_and x 255 ≡ x
+and-full x h = and_mask x 8 ∙ mod-eq_of_lt h
+
+pub full_marked : (f : List ℕ) (i : ℕ) → i < length f → get_or f i 0 < 256 → MarkedInTurn f (set f i 255) (byte_rows 255 (i * 8) 8) (not (eqb (get_or f i 0) 0))
+full_marked f i l b = rw (or-full (get_or f i 0) b, and-full (get_or f i 0) b) at (byte_marked f i 255 l (omega arith))
 
 pub fill_next : (f : List ℕ) (to i : ℕ) → i < to → i < length f → get_or f i 0 < 256
     → mark_all (set f i 255) (up_to ((i + 1) * 8) ((to - (i + 1)) * 8)) ≡ mark_all f (up_to (i * 8) ((to - i) * 8))
 fill_next f to i h l b =
-    let m : set f i 255 ≡ mark_all f (byte_rows 255 (i * 8) 8) = rw (or-full (get_or f i 0) b) at (byte_marked f i 255 l (omega arith)).marked in
+    let m : set f i 255 ≡ mark_all f (byte_rows 255 (i * 8) 8) = (full_marked f i l b).marked in
     rw (bytes_next to i h, mark_all-append f (byte_rows 255 (i * 8) 8) (up_to ((i + 1) * 8) ((to - (i + 1)) * 8)), m)
 
 -- ---- a run: within one byte, or in a first byte, whole bytes and a last byte
@@ -123,11 +130,6 @@ module _ (a z : ℕ) (h : a ≤ z) where
       let q : (a / 8 + 1) * 8 + m ≡ z / 8 * 8 = omega arith in
       rw (b, e, k, up_to-append a (8 - a % 8) (m + (z % 8 + 1)), p, up_to-append ((a / 8 + 1) * 8) m (z % 8 + 1), q)
 
-  -- where the first byte and the whole bytes are marked the last byte is to come
-  pub last_left : a / 8 < z / 8 → (f g m : List ℕ) → g ≡ mark_all f (head a) → m ≡ mark_all g (middle a z) → mark_all m (tail z) ≡ mark_all f (run a z)
-  last_left l f g m first whole =
-      rw (whole, first, run_parts l, mark_all-append f (head a) (middle a z ++ tail z), mark_all-append (mark_all f (head a)) (middle a z) (tail z))
-
 -- ---- what the code computes of a run, said by the definitions
 
 module _ (f : List ℕ) (a k : ℕ) where
@@ -153,3 +155,22 @@ pub tail-past : (g : List ℕ) (z : ℕ) → length g ≤ z / 8 → Past g (tail
 tail-past g z l =
     let n = z / 8 * 8 + 8 in
     rising_past g (z / 8 * 8) n (tail z) (omega arith) (byte_rows_rising (2 ^ (z % 8 + 1) - 2 ^ 0) (z / 8 * 8) n (z / 8 * 8) 8 (omega arith) (omega arith))
+
+-- what is marked, and nothing told of it
+pub untold : {f g : List ℕ} (rows : List ℕ) → g ≡ mark_all f rows → MarkedInTurn f g rows (any_seen f rows)
+untold rows m = record { seen = refl; marked = m }
+
+-- a first byte, whole bytes and a last byte, one after the other
+module _ (a z : ℕ) (l : a / 8 < z / 8) {f g m : List ℕ} {x : ℕ} {was whole : Bool} (bits : x ≡ 2 ^ 8 - 2 ^ (a % 8))
+    (first : MarkedInTurn f g (byte_rows x (a / 8 * 8) 8) was) (then : MarkedInTurn g m (middle a z) whole) where
+  tail_left : Marks (run a z) f (tail z) m (was || whole)
+  tail_left =
+      marks_part (marks_part (marks_first (run a z) f) (run_parts a z (omega arith) l) (bits_as (a / 8 * 8) bits first)) refl then
+
+  -- the field ends before the last byte
+  pub run_cut : length m ≤ z / 8 → MarkedRows f m (run a z) (was || whole)
+  run_cut h = rows_at_once a (z + 1 - a) (marks_past tail_left (tail-past m z h))
+
+  pub run_whole : {n : List ℕ} {y : ℕ} {last : Bool} → y ≡ 2 ^ (z % 8 + 1) - 2 ^ 0 → MarkedInTurn m n (byte_rows y (z / 8 * 8) 8) last
+      → MarkedRows f n (run a z) ((was || whole) || last)
+  run_whole e t = rows_at_once a (z + 1 - a) (marks_done (marks_part tail_left (sym (append-nil (tail z))) (bits_as (z / 8 * 8) e t)) refl)

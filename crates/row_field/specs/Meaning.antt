@@ -1,4 +1,4 @@
--- What a row field means (01, "What the library offers"): a list of bytes, in which row r is the bit of weight 2 ^ (r % 8) in the byte r / 8.
+-- What a row field means: a list of bytes, in which row r is the bit of weight 2 ^ (r % 8) in the byte r / 8.
 use Rattle.std.specs.Prelude.{ℕ, zero, suc, ◌+◌, ◌*◌, ◌/◌, ◌%◌, ◌^◌, ◌<◌, ◌≤◌, Bool, false, ◌||◌, cond, List, [], ◌∷◌, eqb, length, get_or, set, replicate}
 use Rattle.std.specs.Int.Bits.{bit_or}
 use Rattle.numbers.specs.Meaning.{All}

@@ -1,19 +1,22 @@
--- What a turn of `enter` sees: behind the literals that it passed, the table finds exactly what is listed among them.
-use Prim.Native.Nat.{ℕ, ◌+◌, ◌<◌, ◌≤◌}
+-- What a turn of `enter` sees: the table finds what is listed among the literals that it passed; those that are left stand at `ps`.
+use Prim.Native.Nat.{ℕ, ◌+◌, ◌-◌, ◌<◌, ◌≤◌}
 use mathlib.Core.Path.{◌≡◌, refl, sym, ap, ◌∙◌}
-use mathlib.Core.Bool.{Bool, true, false, ◌||◌, cond}
+use mathlib.Core.Bool.{Bool, true, false, ◌||◌, or-false}
 use mathlib.Core.List.{List, [], ◌∷◌, ◌++◌}
 use native.Mathlib.Omega.{arith}
 use lib.ListN.{length, take, drop, length-append}
-use Rattle.numbers.specs.Meaning.{same}
+use Rattle.numbers.specs.Meaning.{same, four_bytes}
 use Rattle.numbers.proofs.SameBytes.{same→eq}
 use Rattle.std.specs.Prelude.{Ok}
-use Rattle.hash_table.specs.Promises.{among, Holds, Inserts}
+use Rattle.hash_table.specs.Promises.{slot, among, Holds, Fits, Inserts}
 use Rattle.hash_table.proofs.Chaining.{among-more, insert_old, insert_new}
+use Rattle.stored_value.specs.declared.Place.{Place}
 use Rattle.stored_value.specs.Meaning.{listed, most_literals}
+use Rattle.stored_value.specs.Places.{places}
+use Rattle.stored_value.specs.Promises.{Entered}
 use Rattle.stored_value.specs.Reading.{literals}
-use Rattle.stored_value.specs.Promises.{Takes, Enters}
-use Rattle.stored_value.proofs.LiteralWalk.{Walk, walk_first, walk_done, walk_more, walk_next, part_is}
+use Rattle.stored_value.proofs.Laws.{literals_few}
+use Rattle.stored_value.proofs.Places.{Inside, bytes_of, few, inside}
 
 -- ---- a value is listed exactly if it is among the literals
 
@@ -22,63 +25,85 @@ unfolding listed among
 listed-among v [] = refl
 listed-among v (l ∷ ls) = ap (λ (b : Bool). same v l || b) (listed-among v ls)
 
-or_kept : (a b : Bool) → (b ≡ true → a ≡ true) → a ≡ a || b
-or_kept true b f = refl
-or_kept false true f = f refl
-or_kept false false f = refl
+-- one that is there already, and one that is new, before others
+or_kept : (a b c : Bool) → (b ≡ true → a ≡ true) → (a || c) ≡ (a || (b || c))
+or_kept true b c f = refl
+or_kept false true c f = absurd (let z : ◌≡◌ {A = Bool} false true = f refl in cc)
+or_kept false false c f = refl
 
--- ---- the loop's state
+or_moved : (a b c : Bool) → ((a || b) || c) ≡ (a || (b || c))
+or_moved true b c = refl
+or_moved false b c = refl
 
--- up to p there are i literals, those of ls; the n values vs of the table are those of ls
-pub record Passed (t : ℕ) (s table : List ℕ) (n p : ℕ) : Type 0 where
-  pub i : ℕ
-  pub ls : List (List ℕ)
+-- ---- the loop's state: the n values vs of the table and the literals that are left are those of ls
+
+pub record Entering (s table : List ℕ) (n : ℕ) (ps : List Place) (ls : List (List ℕ)) : Type 0 where
+  pub inside : Inside s ps
   pub vs : List (List ℕ)
-  pub walk : Walk t s i ls p
   pub holds : Holds s table vs
   pub many : length vs ≡ n
-  pub fewer : n ≤ i
-  pub lists : (v : List ℕ) → among v vs ≡ among v ls
+  pub fewer : n + length ps ≤ most_literals
+  pub lists : (v : List ℕ) → (among v vs || among v (bytes_of s ps)) ≡ among v ls
 
-pub passed_none : (t : ℕ) (s table : List ℕ) → Holds s table [] → Passed t s table 0 0
-passed_none t s table h =
-    record { i = 0; ls = []; vs = []; walk = walk_first t s; holds = h; many = refl; fewer = omega arith; lists = λ v. refl }
+pub entering_first : (t : ℕ) (s table : List ℕ) (ls : List (List ℕ)) → literals t most_literals [] s ≡ Ok ls → Holds s table [] → Entering s table 0 (places 0 ls) ls
+unfolding among
+entering_first t s table ls a h =
+    let x = inside t s ls a in
+    let m = literals_few t s ls a in
+    record { inside = x.0; vs = []; holds = h; many = refl; fewer = omega (arith, few 0 ls); lists = λ v. ap (among v) x.1 }
 
-module _ (t : ℕ) (s table : List ℕ) (n p : ℕ) (past : Passed t s table n p) where
-  pub passed_all : length s ≤ p → Enters t s table
-  passed_all h all e =
-      let y : past.ls ≡ all = walk_done past.walk all e h in
-      record { vs = past.vs; holds = past.holds; lists = λ v. past.lists v ∙ ap (among v) y ∙ sym (listed-among v all) }
+pub entering_done : {s table : List ℕ} {n : ℕ} {ps : List Place} {ls : List (List ℕ)} → Entering s table n ps ls → ps ≡ [] → Entered s table ls
+unfolding among
+entering_done {ls = ls} st e = record {
+  vs = st.vs;
+  holds = st.holds;
+  lists = λ v. sym (or-false (among v st.vs)) ∙ rw e at (st.lists v) ∙ sym (listed-among v ls);
+}
 
-  module _ (all : List (List ℕ)) (a : literals t most_literals [] s ≡ Ok all) (h : p < length s) where
-    pub passed_few : n < most_literals
-    passed_few = omega (arith, walk_more past.walk all a h, past.fewer)
+-- the next literal stands at p
+module _ {s table : List ℕ} {n : ℕ} {p : Place} {ps : List Place} {ls : List (List ℕ)} (st : Entering s table n (p ∷ ps) ls) where
+  pub entering_few : n < most_literals
+  entering_few = omega (arith, st.fewer)
 
-    module _ (k : ℕ) (takes : Takes t (drop p s) k) where
-      -- one literal more, which ws has too
-      next : (after : List ℕ) (m : ℕ) (ws : List (List ℕ)) → Holds s after ws → length ws ≡ m → m ≤ n + 1
-          → ((v : List ℕ) → among v ws ≡ among v past.vs || same v (take k (drop p s))) → Passed t s after m (p + k)
-      next after m ws held many few lists =
-          let w : List ℕ = take k (drop p s) in
-          record {
-            i = past.i + 1;
-            ls = past.ls ++ (w ∷ []);
-            vs = ws;
-            walk = walk_next past.walk all a h k takes;
-            holds = held;
-            many = many;
-            fewer = omega (arith, past.fewer);
-            lists = λ v. lists v ∙ ap (λ (b : Bool). b || same v w) (past.lists v) ∙ sym (among-more v w past.ls);
-          }
+  pub entering_fits : slot most_literals ≤ length table → length s < four_bytes → Fits s table n p.start.0 p.end.0
+  entering_fits r h = record {
+    vs = st.vs;
+    holds = st.holds;
+    many = st.many;
+    room = omega (arith, entering_few);
+    rising = st.inside.0;
+    inside = st.inside.1;
+    short = h;
+    few = omega (arith, entering_few);
+  }
 
-      pub passed_next : (after : List ℕ) (there : Bool) → Inserts s table after n p (p + k) there → Passed t s after (cond there n (n + 1)) (p + k)
-      passed_next after true e =
-          let w : List ℕ = take k (drop p s) in
-          let old = rw (part_is s p k) at (insert_old p (p + k) e past.holds past.many refl) in
-          let again : (v : List ℕ) → same v w ≡ true → among v past.vs ≡ true = λ v y. rw (same→eq v w y) old.0 in
-          next after n past.vs (rw old.1 past.holds) past.many (omega arith) (λ v. or_kept (among v past.vs) (same v w) (again v))
-      passed_next after false e =
-          let w : List ℕ = take k (drop p s) in
-          let new = rw (part_is s p k) at (insert_new p (p + k) e past.holds past.many refl) in
-          let longer : length (past.vs ++ (w ∷ [])) ≡ length past.vs + 1 = length-append past.vs (w ∷ []) in
-          next after (n + 1) (past.vs ++ (w ∷ [])) new.1 (longer ∙ omega (arith, past.many)) (omega arith) (λ v. among-more v w past.vs)
+  module _ (after : List ℕ) {there : Bool} (x : Inserts s table after n p.start.0 p.end.0 there) where
+    pub entering_old : there ≡ true → Entering s after n ps ls
+    unfolding among
+    entering_old h =
+        let w : List ℕ = take (p.end.0 - p.start.0) (drop p.start.0 s) in
+        let old = insert_old p.start.0 p.end.0 x st.holds st.many h in
+        let again : (v : List ℕ) → same v w ≡ true → among v st.vs ≡ true = λ v y. rw (same→eq v w y) old.0 in
+        record {
+          inside = st.inside.2;
+          vs = st.vs;
+          holds = rw old.1 st.holds;
+          many = st.many;
+          fewer = omega (arith, st.fewer);
+          lists = λ v. or_kept (among v st.vs) (same v w) (among v (bytes_of s ps)) (again v) ∙ st.lists v;
+        }
+
+    pub entering_new : there ≡ false → Entering s after (n + 1) ps ls
+    unfolding among
+    entering_new h =
+        let w : List ℕ = take (p.end.0 - p.start.0) (drop p.start.0 s) in
+        let new = insert_new p.start.0 p.end.0 x st.holds st.many h in
+        record {
+          inside = st.inside.2;
+          vs = st.vs ++ (w ∷ []);
+          holds = new.1;
+          many = length-append st.vs (w ∷ []) ∙ omega (arith, st.many);
+          fewer = omega (arith, st.fewer);
+          lists = λ v. ap (λ (b : Bool). b || among v (bytes_of s ps)) (among-more v w st.vs)
+              ∙ or_moved (among v st.vs) (same v w) (among v (bytes_of s ps)) ∙ st.lists v;
+        }

@@ -241,6 +241,9 @@ literals_back t s ls h e =
     let m = back_from t most_literals [] s ls e in
     subst (λ (x : List (List ℕ)). (s ≡ joined x) × Literals t x × (length x ≤ most_literals)) (sym m.1) (m.2, m.3 h, m.4)
 
+pub literals_few : (t : ℕ) (s : List ℕ) (ls : List (List ℕ)) → literals t most_literals [] s ≡ Ok ls → length ls ≤ most_literals
+literals_few t s ls e = let m = back_from t most_literals [] s ls e in subst (λ (x : List (List ℕ)). length x ≤ most_literals) (sym m.1) m.4
+
 -- of one literal, a value is listed if it has all the bytes
 pub listed_alone : (t : ℕ) (v s : List ℕ) (ls : List (List ℕ)) → literals t most_literals [] s ≡ Ok ls → length ls ≡ 1 → listed v ls ≡ same v s
 unfolding listed

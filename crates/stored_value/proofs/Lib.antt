@@ -3,8 +3,7 @@ pub mod Widths
 pub mod TwosComplement
 pub mod Laws
 pub mod Steps
-pub mod LiteralWalk
-pub mod Entering
-pub mod Comparing
 pub mod Order
 pub mod CarriesNothing
+pub mod Places
+pub mod Entering

@@ -1,9 +1,8 @@
 -- What the code's answers and the turns of its loops see of the definitions.
-use Prim.Native.Nat.{ℕ, suc, ◌+◌, ◌-◌, ◌*◌, ◌<◌, ◌≤◌}
+use Prim.Native.Nat.{ℕ, suc, min, ◌+◌, ◌-◌, ◌*◌, ◌<◌, ◌≤◌}
 use mathlib.Core.Path.{◌≡◌, ap, sym, ◌∙◌}
 use mathlib.Core.Bool.{Bool, true, false, ◌&&◌, ◌||◌, or-false}
 use mathlib.Core.List.{List, [], ◌∷◌, ◌++◌}
-use mathlib.Core.Logic.{◌⊎◌, ⊎_elim}
 use native.Mathlib.Nat.{add-zero}
 use native.Mathlib.Numerals.{add-one}
 use native.Mathlib.Omega.{arith}
@@ -15,19 +14,16 @@ use mir.Syntax.{w64}
 use mir.Val.{SFits, to_z, of_z}
 use mir.Facts.{to_z-of_z}
 use lib.ListN.{length, get_or, take, drop, length-drop, drop_of_length-le}
-use lib.Seq.{drop-cons, drop-drop, get_or-drop}
+use lib.Seq.{take-length, drop-cons, drop-drop, get_or-drop}
 use borrow.Author.Tests.{eq-eqb, ne_eqb, le-leb, lt-leb, lt-ltb, le-ltb, ltb-true}
 use Rattle.numbers.specs.Meaning.{Bytes, be_at, big, sign_bit, two_bytes}
 use Rattle.numbers.proofs.Laws.{be_at-lt, be_at_split, number_at_lem, number_short}
 use Rattle.refusal.specs.declared.Refusal.{Refusal}
 use Rattle.refusal.specs.declared.Refusal.TheVariants.{Literal, Limit}
-use Rattle.stored_value.specs.declared.Sized.{Sized}
-use Rattle.stored_value.specs.declared.Counted.{Counted}
 use Rattle.stored_value.specs.Meaning.{types, width, is_string, longest_string, boolean_ok, signed_number, is_less_bytewise, less}
-use Rattle.std.specs.Prelude.{Result, Err, Ok}
-use Rattle.refusal.specs.Reading.{check, numbers_of}
+use Rattle.std.specs.Prelude.{Err, Ok}
+use Rattle.refusal.specs.Reading.{check}
 use Rattle.refusal.proofs.Laws.{check-ok, ok_same, not-ok}
-use Rattle.stored_value.specs.Promises.{sized_by, SizePromise, counted_by, CountPromise}
 use Rattle.stored_value.specs.Reading.{string_size, value_size, literals}
 use Rattle.stored_value.proofs.Laws.{size_number, size-string, value_read, literals_end, literals-full, literals_refused, literals-next}
 
@@ -35,19 +31,23 @@ use Rattle.stored_value.proofs.Laws.{size_number, size-string, value_read, liter
 
 module _ (a b : List ℕ) (i : ℕ) where
   -- at the end of one of both
-  pub less_end : (length a ≤ i) ⊎ (length b ≤ i) → is_less_bytewise (drop i a) (drop i b) ≡ ltb i (length b)
+  pub less_end : i ≡ min (length a) (length b) → is_less_bytewise (drop i a) (drop i b) ≡ ltb (length a) (length b)
   unfolding is_less_bytewise
-  less_end h = by (dec_lt i (length b)) (dec_lt i (length a))
+  less_end e = by (dec_lt (length a) (length b)) (dec_lt (length b) (length a))
     where
-      by : Dec (i < length b) → Dec (i < length a) → is_less_bytewise (drop i a) (drop i b) ≡ ltb i (length b)
+      by : Dec (length a < length b) → Dec (length b < length a) → is_less_bytewise (drop i a) (drop i b) ≡ ltb (length a) (length b)
       by (yes g) d =
-          let l : length a ≤ i = ⊎_elim (λ l. l) (λ l. absurd (omega arith)) h in
-          rw (drop_of_length-le a l, drop-cons b i 0 g, lt-ltb i (length b) g)
-      by (no n) (yes l) = let g : length b ≤ i = omega arith in rw (drop-cons a i 0 l, drop_of_length-le b g, le-ltb i (length b) g)
+          let l : length a ≤ i = omega arith in
+          let h : i < length b = omega arith in
+          rw (drop_of_length-le a l, drop-cons b i 0 h, lt-ltb (length a) (length b) g)
+      by (no n) (yes l) =
+          let g : length b ≤ i = omega arith in
+          let h : i < length a = omega arith in
+          rw (drop-cons a i 0 h, drop_of_length-le b g, le-ltb (length a) (length b) (omega arith))
       by (no n) (no m) =
           let g : length b ≤ i = omega arith in
           let l : length a ≤ i = omega arith in
-          rw (drop_of_length-le a l, drop_of_length-le b g, le-ltb i (length b) g)
+          rw (drop_of_length-le a l, drop_of_length-le b g, le-ltb (length a) (length b) (omega arith))
 
   module _ (h : i < length a) (g : i < length b) where
     less_step : is_less_bytewise (drop i a) (drop i b)
@@ -62,6 +62,21 @@ module _ (a b : List ℕ) (i : ℕ) where
     less-next e = less_step ∙ rw (le-ltb (get_or a i 0) (get_or b i 0) (omega arith), eq-eqb (get_or a i 0) (get_or b i 0) e)
 
 -- ---- `less`, by the width w that the code found
+
+-- what stands behind the first n, or behind all where there are fewer
+behind : (s : List ℕ) (n k : ℕ) → k ≡ min n (length s) → take (length s - k) (drop k s) ≡ drop n s
+behind s n k e = rw (← length-drop k s, take-length (drop k s)) (by (dec_lt n (length s)))
+  where
+    by : Dec (n < length s) → drop k s ≡ drop n s
+    by (yes l) = let z : k ≡ n = omega arith in rw z
+    by (no l) =
+        let g : length s ≤ n = omega arith in
+        let h : length s ≤ k = omega arith in
+        rw (drop_of_length-le s g, drop_of_length-le s h)
+
+pub less_behind : (a b : List ℕ) (n : ℕ) {k m : ℕ} → k ≡ min n (length a) → m ≡ min n (length b)
+    → is_less_bytewise (take (length a - k) (drop k a)) (take (length b - m) (drop m b)) ≡ is_less_bytewise (drop n a) (drop n b)
+less_behind a b n {k} {m} e f = rw (behind a n k e, behind b n m f)
 
 pub less_unknown : (t : ℕ) (a b : List ℕ) → types ≤ t → false ≡ less t a b
 unfolding less
@@ -202,25 +217,7 @@ module _ (short broken : Refusal) (t : ℕ) (s : List ℕ) (p k : ℕ) (e : valu
         let g = check-ok _ _ _ k f.1 in
         ok_same (4 + be_at 4 s p) k (check-ok _ _ _ k g.1).1
 
--- ---- the promise of what was read, and what was read of an answer
-
-pub says_refused : {o : Result ℕ Refusal} {r : Refusal} → o ≡ Err r → SizePromise o (Sized.Refused r)
-unfolding sized_by numbers_of
-says_refused e = record { answer = rw e; numbers = rw e }
-
-pub says_bytes : {o : Result ℕ Refusal} {m n : ℕ} → m ≡ n → o ≡ Ok n → SizePromise o (Sized.Bytes m)
-unfolding sized_by numbers_of
-says_bytes h e = record { answer = rw (e, h); numbers = rw (e, h) }
-
-pub size_refused : (o : Result ℕ Refusal) (x : Sized) (r : Refusal) → SizePromise o x → x ≡ Sized.Refused r → o ≡ Err r
-unfolding sized_by
-size_refused (Err q) x r e f = cc e.answer
-size_refused (Ok n) x r e f = cc e.answer
-
-pub size-bytes : (o : Result ℕ Refusal) (x : Sized) (n : ℕ) → SizePromise o x → x ≡ Sized.Bytes n → o ≡ Ok n
-unfolding sized_by
-size-bytes (Err q) x n e f = cc e.answer
-size-bytes (Ok m) x n e f = cc e.answer
+-- ---- a value that was read stands there
 
 pub size_within : (short broken : Refusal) (t : ℕ) (s : List ℕ) (p n : ℕ) → p ≤ length s → value_size short broken t (drop p s) ≡ Ok n
     → (1 ≤ n) × (p + n ≤ length s)
@@ -252,11 +249,3 @@ module _ (t m i : ℕ) (ls : List (List ℕ)) (s : List ℕ) (p : ℕ) where
       pub turn_next : (n : ℕ) → value_size Literal Literal t (drop p s) ≡ Ok n
           → literals t (m - i) ls (drop p s) ≡ literals t (m - (i + 1)) (ls ++ (take n (drop p s) ∷ [])) (drop (p + n) s)
       turn_next n e = rw (more, ← drop-drop n p s) (literals-next t ls (drop p s) left (m - (i + 1)) n e)
-
-pub counts_refused : {o : Result (List (List ℕ)) Refusal} {r : Refusal} → o ≡ Err r → CountPromise o (Counted.Refused r)
-unfolding counted_by numbers_of
-counts_refused e = record { answer = rw e; numbers = rw e }
-
-pub counts_literals : {o : Result (List (List ℕ)) Refusal} {n : ℕ} (ls : List (List ℕ)) → length ls ≡ n → o ≡ Ok ls → CountPromise o (Counted.Count n)
-unfolding counted_by numbers_of
-counts_literals ls h e = record { answer = rw (e, h); numbers = rw (e, h) }

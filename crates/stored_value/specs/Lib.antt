@@ -2,3 +2,4 @@
 pub mod Meaning
 pub mod Reading
 pub mod Promises
+pub mod Places

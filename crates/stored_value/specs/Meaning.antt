@@ -1,11 +1,11 @@
--- The twelve types of a column and their values in stored form (01, the table of widths), their order, what a row holds, and literals.
+-- The twelve types of a column and their values in stored form, their order, what a row holds, and literals.
 use Rattle.std.specs.Prelude.{◌≡◌, ℕ, ◌≤◌, ◌<◌, Bool, true, false, ◌&&◌, ◌||◌, cond, List, [], ◌∷◌, ◌++◌, eqb, ltb, leb, ℤ, length, get_or, drop}
 use Rattle.std.specs.Int.Signed.{lt_z}
 use Rattle.numbers.specs.Meaning.{All, same, be, be_at, signed, Bytes}
 
 -- ---- types and values
 
--- 01's table of widths, in its order from 0: TINYINT, BOOLEAN, SMALLINT, INT, DATE, TIME, BIGINT, TIMESTAMP, LOCAL ZONED TIMESTAMP, CHAR, VARCHAR, STRING.
+-- the widths of the types, in their order from 0: TINYINT, BOOLEAN, SMALLINT, INT, DATE, TIME, BIGINT, TIMESTAMP, LOCAL ZONED TIMESTAMP, CHAR, VARCHAR, STRING.
 -- 0 stands for a string: a 4-byte length and the bytes
 abbrev pub widths : List ℕ
 widths = 1 ∷ 1 ∷ 2 ∷ 4 ∷ 4 ∷ 4 ∷ 8 ∷ 8 ∷ 8 ∷ 0 ∷ 0 ∷ 0 ∷ []
@@ -24,7 +24,7 @@ is_string t = eqb (width t) 0
 unfoldable pub boolean_ok : ℕ → List ℕ → Bool
 boolean_ok t v = cond (eqb t 1) (leb (get_or v 0 0) 1) true
 
--- 01, "Limits": a stored string, in bytes
+-- the longest stored string, in bytes
 abbrev pub longest_string : ℕ
 longest_string = 65535
 
@@ -33,7 +33,7 @@ pub data Value (t : ℕ) : List ℕ → Type 0 where
   number : (v : List ℕ) → is_string t ≡ false → length v ≡ width t → Bytes v → boolean_ok t v ≡ true → Value t v
   string : (c : List ℕ) → t < types → is_string t ≡ true → length c ≤ longest_string → Bytes c → Value t (be 4 (length c) ++ c)
 
--- ---- the order of values (01, "Numbers compare signed .. Strings compare by unsigned bytes, a prefix first")
+-- ---- the order of values: numbers compare signed, strings by unsigned bytes, a prefix first
 
 -- the number that the first w bytes hold
 unfoldable pub signed_number : ℕ → List ℕ → ℤ
@@ -67,7 +67,7 @@ unfoldable pub listed : List ℕ → List (List ℕ) → Bool
 listed v [] = false
 listed v (l ∷ ls) = same v l || listed v ls
 
--- 01, "Limits"
+-- so many literals a question may have
 abbrev pub most_literals : ℕ
 most_literals = 1024
 

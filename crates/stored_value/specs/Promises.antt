@@ -1,32 +1,20 @@
--- What the functions that serve other crates answer, in the reading's terms: as an enum, and in 01's numbers.
-use Rattle.std.specs.Prelude.{◌≡◌, ℕ, ◌<◌, ◌≤◌, Bool, List, [], length, Result, Err, Ok}
+-- What the functions that serve other crates answer, in the reading's terms, and in numbers.
+use Rattle.std.specs.Prelude.{◌≡◌, ℕ, ◌<◌, ◌≤◌, Bool, List, [], length, drop, Result, Err, Ok}
 use Rattle.refusal.specs.declared.Refusal.{Refusal}
-use Rattle.refusal.specs.Meaning.{number_of}
 use Rattle.refusal.specs.Reading.{numbers_of}
 use Rattle.numbers.specs.Meaning.{four_bytes}
 use Rattle.hash_table.specs.Promises.{slot, among, Holds}
 use Rattle.stored_value.specs.Meaning.{listed, most_literals}
 use Rattle.stored_value.specs.Reading.{value_size, literals}
-use Rattle.stored_value.specs.declared.Sized.{Sized}
-use Rattle.stored_value.specs.declared.Counted.{Counted}
 
 -- ---- `size`: how many bytes a value takes
 
-unfoldable pub sized_by : Result ℕ Refusal → Sized
-sized_by (Err r) = Sized.Refused r
-sized_by (Ok n) = Sized.Bytes n
-
 -- 0 or the refusal's number, and the bytes
-abbrev pub size_out : Sized → ℕ × ℕ
-size_out (Sized.Refused r) = (number_of r, 0)
-size_out (Sized.Bytes n) = (0, n)
-
 abbrev pub size_numbers : ℕ → ℕ × ℕ
 size_numbers n = (0, n)
 
-pub record SizePromise (o : Result ℕ Refusal) (r : Sized) : Type 0 where
-  pub answer : r ≡ sized_by o
-  pub numbers : size_out r ≡ numbers_of 0 size_numbers o
+abbrev pub size_out : Result ℕ Refusal → ℕ × ℕ
+size_out r = numbers_of 0 size_numbers r
 
 -- ---- `known_size`: how many bytes a value takes that was accepted, whatever it would have been refused with
 
@@ -40,27 +28,34 @@ Takes t s n = (short broken : Refusal) (k : ℕ) → value_size short broken t s
 
 -- ---- `literals`: how many there are
 
-unfoldable pub counted_by : Result (List (List ℕ)) Refusal → Counted
-counted_by (Err r) = Counted.Refused r
-counted_by (Ok ls) = Counted.Count (length ls)
+unfoldable pub counted : Result (List (List ℕ)) Refusal → Result ℕ Refusal
+counted (Err r) = Err r
+counted (Ok ls) = Ok (length ls)
 
 -- 0 or the refusal's number, and the number of literals
-abbrev pub count_out : Counted → ℕ × ℕ
-count_out (Counted.Refused r) = (number_of r, 0)
-count_out (Counted.Count n) = (0, n)
+abbrev pub count_numbers : ℕ → ℕ × ℕ
+count_numbers n = (0, n)
 
-abbrev pub count_numbers : List (List ℕ) → ℕ × ℕ
-count_numbers ls = (0, length ls)
-
-pub record CountPromise (o : Result (List (List ℕ)) Refusal) (r : Counted) : Type 0 where
-  pub answer : r ≡ counted_by o
-  pub numbers : count_out r ≡ numbers_of 0 count_numbers o
+abbrev pub count_out : Result ℕ Refusal → ℕ × ℕ
+count_out r = numbers_of 0 count_numbers r
 
 -- ---- `listed`: whether a value is one of the literals
 
 -- the literals are accepted
 abbrev pub Accepted : ℕ → List ℕ → Type 0
 Accepted t literal = (ls : List (List ℕ)) × (literals t most_literals [] literal ≡ Ok ls)
+
+-- those that were read, none if they were refused
+unfoldable pub read_of : Result (List (List ℕ)) Refusal → List (List ℕ)
+read_of (Err r) = []
+read_of (Ok ls) = ls
+
+abbrev pub literals_in : ℕ → List ℕ → List (List ℕ)
+literals_in t s = read_of (literals t most_literals [] s)
+
+-- from p on accepted literals stand in s, to the end
+abbrev pub Standing : ℕ → ℕ → List ℕ → Type 0
+Standing t p s = (p ≤ length s) × (literals t most_literals [] (drop p s) ≡ Ok (literals_in t (drop p s)))
 
 abbrev pub Lists : ℕ → List ℕ → List ℕ → Bool → Type 0
 Lists t literal v r = (ls : List (List ℕ)) → literals t most_literals [] literal ≡ Ok ls → r ≡ listed v ls

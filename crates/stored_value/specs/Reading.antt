@@ -1,4 +1,4 @@
--- What is read of any bytes as values: the size of one, and literals to the end (01, "Bitmap body" and "Questions").
+-- What is read of any bytes as values: the size of one, and literals to the end.
 use Rattle.std.specs.Prelude.{ℕ, zero, suc, ◌+◌, cond, List, [], ◌∷◌, ◌++◌, eqb, ltb, leb, length, take, drop, Result, Err, Ok}
 use Rattle.numbers.specs.Meaning.{big, number, sign_bit}
 use Rattle.refusal.specs.Reading.{check, and_then}

@@ -1,32 +1,39 @@
-// Values in the stored form of their type (document 01, the table of widths): their size, their order, and literals.
+// Values in the stored form of their type: their size, their order, and literals.
 #![tactic(auto)]
 
-ghost use Rattle.std.specs.Prelude.{◌≡◌, ◌+◌, ◌^◌, ◌<◌, ◌≤◌, ◌⊎◌, cond, [], get_or, drop};
+ghost use Rattle.std.specs.Prelude.{◌≡◌, ◌+◌, ◌^◌, ◌<◌, ◌≤◌, ◌⊎◌, cond, [], get_or, drop, length, slice_range};
 ghost use Rattle.numbers.specs.Meaning.{be_at};
 ghost use Rattle.std.specs.Int.{w64};
 ghost use Rattle.std.proofs.Common.{SFits};
 ghost use Rattle.stored_value.specs.Meaning.{width, signed_number, is_less_bytewise, most_literals};
 ghost use Rattle.stored_value.specs.Meaning as meaning;
-ghost use Rattle.stored_value.specs.Promises.{SizePromise, Stands, Takes, CountPromise, Accepted, Lists, Enterable, Enters};
+ghost use Rattle.stored_value.specs.Promises.{Stands, Takes, counted, Standing, Accepted, Lists, Enterable, Enters};
 ghost use Rattle.stored_value.specs.Reading.{value_size};
 ghost use Rattle.stored_value.specs.Reading as reading;
 
 use numbers::Position;
 use refusal::Refusal;
+use std::fmt;
 
-// From here on a type is unknown.
+/// From here on a type is unknown.
 pub const TYPES: u32 = 12;
 
-// Document 01, "Limits": how many literals there may be.
+/// How many literals there may be.
 pub const MOST_LITERALS: u64 = 1_024;
 
-// A string's length is four bytes, two halves of this many. Its limit, 65,535 bytes (01, "Limits"), is the most that the lower half holds.
+// Before a string's bytes stands their number, of so many bytes: two halves. The longest string has 65,535 bytes, the most that the lower half holds.
+const LENGTH: usize = 4;
+
 const HALF_LENGTH: usize = 2;
 
 // The least upper half whose top bit is set, the length's sign.
 const HALF_SIGN: u64 = 32_768;
 
-// 01's table of widths over its twelve types, in its order; 0 stands for a string: a 4-byte length and the bytes. Stored values and literals go by it.
+// The type whose byte is 0 or 1.
+const BOOLEAN: u32 = 1;
+
+// The width of each of the twelve types: TINYINT, BOOLEAN, SMALLINT, INT, DATE, TIME, BIGINT, TIMESTAMP, LOCAL ZONED TIMESTAMP, CHAR, VARCHAR, STRING;
+// 0 stands for a string, a 4-byte length and the bytes. Stored values and literals go by it.
 const WIDTHS: [u8; 12] = [1, 1, 2, 4, 4, 4, 8, 8, 8, 0, 0, 0];
 
 // The greatest numbers that 0 to 8 bytes spell.
@@ -42,79 +49,65 @@ const LASTS: [u64; 9] = [
     18_446_744_073_709_551_615,
 ];
 
-// How many bytes a value takes, or why it is none.
-#[derive(Clone, Copy)]
-pub enum Sized {
-    Refused(Refusal),
-    Bytes(usize),
-}
-
-// How many literals there are, or why they are none.
-#[derive(Clone, Copy)]
-pub enum Counted {
-    Refused(Refusal),
-    Count(u64),
-}
-
-fn wide(x: u8) -> usize
-    ensures { result ≡ x }
-{
-    x as usize
-}
-
 // The width of a type's values: 0 of a string's, and of an unknown type.
 fn width_of(t: u32) -> usize
     ensures { (result ≡ width t) × (result ≤ 8) }
 {
     if t < TYPES {
-        return wide(WIDTHS[t as usize]);
+        return usize::from(WIDTHS[t as usize]);
     }
     0
 }
 
-// The size of the value at `at`. An unknown type is LITERAL. A string's length is tested before its bytes.
-pub fn size(s: &[u8], at: Position, t: u32, short: Refusal, broken: Refusal) -> Sized
-    ensures { SizePromise (value_size short broken t (drop at.0 s.now)) result }
+/// How many bytes the value of type `t` at `at` takes. An unknown type is LITERAL; bytes that end before the value does are `short`, a negative length and
+/// a BOOLEAN above 1 are `broken`, and a string of more than 65,535 bytes is LIMIT, also where its bytes are cut: its length is tested before its bytes.
+#[inline]
+pub fn size(
+    s: &[u8],
+    at: Position,
+    t: u32,
+    short: Refusal,
+    broken: Refusal,
+) -> Result<usize, Refusal>
+    ensures { result ≡ value_size short broken t (drop at.0 s.now) }
 {
     if TYPES <= t {
-        return Sized::Refused(Refusal::Literal);
+        return Err(Refusal::Literal);
     }
-    let p = at.0;
-    if s.len() < p {
-        return Sized::Refused(short);
+    if s.len() < at.0 {
+        return Err(short);
     }
-    let left = s.len() - p;
+    let left = s.len() - at.0;
     let w = width_of(t);
     if w == 0 {
-        if left < 4 {
-            return Sized::Refused(short);
+        if left < LENGTH {
+            return Err(short);
         }
         // In a string that is accepted the upper half is 0, so where the next value begins waits for the lower half alone.
         let high = numbers::be::<2>(s, at);
         if 0 < high {
             if HALF_SIGN <= high {
-                return Sized::Refused(broken);
+                return Err(broken);
             }
-            return Sized::Refused(Refusal::Limit);
+            return Err(Refusal::Limit);
         }
-        let n = numbers::be::<2>(s, Position(p + HALF_LENGTH));
-        if ((left - 4) as u64) < n {
-            return Sized::Refused(short);
+        let n = numbers::be::<2>(s, Position(at.0 + HALF_LENGTH));
+        if ((left - LENGTH) as u64) < n {
+            return Err(short);
         }
-        return Sized::Bytes(4 + n as usize);
+        return Ok(LENGTH + n as usize);
     }
     if left < w {
-        return Sized::Refused(short);
+        return Err(short);
     }
-    if t == 1 {
-        if 1 < s[p] {
-            return Sized::Refused(broken);
-        }
+    if t == BOOLEAN && 1 < s[at.0] {
+        return Err(broken);
     }
-    Sized::Bytes(w)
+    Ok(w)
 }
 
-// The size of a value that is known to stand at `at`: nothing is tested again.
+/// The size of a value that is known to stand at `at`: nothing is tested again.
+#[inline]
 pub fn known_size(s: &[u8], at: Position, t: u32) -> usize
     requires { Stands t (drop at.0 s.now) }
     ensures { Takes t (drop at.0 s.now) result }
@@ -122,31 +115,19 @@ pub fn known_size(s: &[u8], at: Position, t: u32) -> usize
     let w = width_of(t);
     if w == 0 {
         let n = numbers::be::<4>(s, at);
-        return 4 + n as usize;
+        return LENGTH + n as usize;
     }
     w
 }
 
-// The byte at a position; one that is missing counts as 0.
-fn byte_at(s: &[u8], at: Position) -> u64
-    ensures { (result ≡ get_or s.now at.0 0) × (result < 256) }
-{
-    if at.0 < s.len() {
-        return numbers::byte(s, at);
-    }
-    0
-}
-
-// The number that the first w bytes spell, where bytes may be missing.
+// The number that the first w bytes spell; one that is missing counts as 0.
 fn spelled_short(s: &[u8], w: usize) -> u64
     requires { w ≤ 8 }
     ensures { (result ≡ be_at w s.now 0) × (result < 256 ^ w) }
 {
     let mut x: u64 = 0;
-    let mut i = 0;
-    while i < w {
-        x = x * 256 + byte_at(s, Position(i));
-        i += 1;
+    for i in 0..w {
+        x = x * 256 + u64::from(s.get(i).copied().unwrap_or(0));
     }
     x
 }
@@ -159,16 +140,12 @@ fn spelled(s: &[u8], w: usize) -> u64
     if s.len() < w {
         return spelled_short(s, w);
     }
-    if w == 8 {
-        return numbers::be::<8>(s, Position(0));
+    match w {
+        8 => numbers::be::<8>(s, Position(0)),
+        4 => numbers::be::<4>(s, Position(0)),
+        2 => numbers::be::<2>(s, Position(0)),
+        _ => spelled_short(s, w),
     }
-    if w == 4 {
-        return numbers::be::<4>(s, Position(0));
-    }
-    if w == 2 {
-        return numbers::be::<2>(s, Position(0));
-    }
-    spelled_short(s, w)
 }
 
 // The greatest number that w bytes spell.
@@ -181,6 +158,7 @@ fn last_of(w: usize) -> u64
 
 // The signed number that the first w bytes hold, in two's complement. They spell x, and `last` is the greatest number that w bytes spell: up to its
 // half x is itself, and above it -1 less what x lacks to `last`, which does not overflow at the least value either.
+// One rule for every width: casts would be an arm for each of the four.
 fn signed(s: &[u8], w: usize) -> i64
     requires { (0 < w) × (w ≤ 8) }
     ensures { (result ≡ signed_number w s.now) × SFits w64 result }
@@ -193,31 +171,19 @@ fn signed(s: &[u8], w: usize) -> i64
     -1 - ((last - x) as i64)
 }
 
-fn least(x: usize, y: usize) -> usize
-    ensures { (result ≤ x) × (result ≤ y) × ((x ≤ result) ⊎ (y ≤ result)) }
+// Whether a comes before b: by unsigned bytes, a prefix first. A loop, since slices' own `<` was seen to take more than twice the time of one.
+fn bytes_less(a: &[u8], b: &[u8]) -> bool
+    ensures { result ≡ is_less_bytewise a.now b.now }
 {
-    if x < y {
-        return x;
-    }
-    y
-}
-
-// Whether a comes before b from a position on: by unsigned bytes, a prefix first.
-fn bytes_less(a: &[u8], b: &[u8], from: Position) -> bool
-    ensures { result ≡ is_less_bytewise (drop from.0 a.now) (drop from.0 b.now) }
-{
-    let end = least(a.len(), b.len());
-    let mut i = from.0;
-    while i < end {
+    for i in 0..a.len().min(b.len()) {
         if a[i] != b[i] {
             return a[i] < b[i];
         }
-        i += 1;
     }
-    i < b.len()
+    a.len() < b.len()
 }
 
-// Whether a comes before b among the values of type t: numbers signed, strings by unsigned bytes, a prefix first. Of an unknown type nothing does.
+/// Whether a comes before b among the values of type t: numbers signed, strings by unsigned bytes, a prefix first. Of an unknown type nothing does.
 pub fn less(t: u32, a: &[u8], b: &[u8]) -> bool
     ensures { result ≡ meaning.less t a.now b.now }
 {
@@ -226,72 +192,98 @@ pub fn less(t: u32, a: &[u8], b: &[u8]) -> bool
     }
     let w = width_of(t);
     if w == 0 {
-        return bytes_less(a, b, Position(4));
+        return bytes_less(&a[LENGTH.min(a.len())..], &b[LENGTH.min(b.len())..]);
     }
     signed(a, w) < signed(b, w)
 }
 
-// Literals of type t, one after another to the end of s.
-pub fn literals(s: &[u8], t: u32) -> Counted
-    ensures { CountPromise (reading.literals t most_literals [] s.now) result }
+/// How many literals of type `t` stand in `s`, one after another to its end. One that is cut or broken is LITERAL, and a byte behind the 1,024th LIMIT.
+pub fn literals(s: &[u8], t: u32) -> Result<u64, Refusal>
+    ensures { result ≡ counted (reading.literals t most_literals [] s.now) }
 {
-    let mut i: u64 = 0;
-    let mut p = 0;
-    while p < s.len() {
-        if i == MOST_LITERALS {
-            return Counted::Refused(Refusal::Limit);
+    // No `for`: where the next literal begins is known from the size of this one, which may be refused.
+    let mut count: u64 = 0;
+    let mut at = 0;
+    while at < s.len() {
+        if count == MOST_LITERALS {
+            return Err(Refusal::Limit);
         }
-        match size(s, Position(p), t, Refusal::Literal, Refusal::Literal) {
-            Sized::Refused(r) => {
-                return Counted::Refused(r);
-            }
-            Sized::Bytes(n) => {
-                p += n;
-            }
-        }
-        i += 1;
+        at += size(s, Position(at), t, Refusal::Literal, Refusal::Literal)?;
+        count += 1;
     }
-    Counted::Count(i)
+    Ok(count)
 }
 
-// Whether v is one of the literals of type t, which were accepted: it is compared with each. For few values that takes less time than a hash table.
+// Where a literal stands.
+#[derive(Clone, Copy, Debug, PartialEq, Eq)]
+struct Place {
+    start: Position,
+    end: Position,
+}
+
+// The literals of type t that stand in `bytes` from `at` to the end, which were accepted.
+#[derive(Clone, Copy, Debug)]
+struct LiteralPlaces<'a> {
+    bytes: &'a [u8],
+    t: u32,
+    at: Position,
+    ghost stand: { Standing t at.0 bytes.now },
+}
+
+impl Iterator for LiteralPlaces<'_> {
+    type Item = Place;
+
+    ghost use Rattle.std.specs.Iterator.{YieldsFirst, item_count};
+    ghost use Rattle.stored_value.specs.Places.{places_left};
+
+    ghost next_gives = { YieldsFirst places_left };
+
+    ghost remaining = { item_count places_left };
+
+    #[inline]
+    fn next(&mut self) -> Option<Place> {
+        if self.bytes.len() <= self.at.0 {
+            return None;
+        }
+        let start = self.at;
+        let end = Position(start.0 + known_size(self.bytes, start, self.t));
+        self.at = end;
+        Some(Place { start, end })
+    }
+}
+
+/// Whether v is one of the literals of type t, which were accepted: it is compared with each. For few values that takes less time than a hash table.
 pub fn listed(literals: &[u8], t: u32, v: &[u8]) -> bool
     requires { Accepted t literals.now }
     ensures { Lists t literals.now v.now result }
 {
-    let mut p = 0;
-    while p < literals.len() {
-        let end = p + known_size(literals, Position(p), t);
-        if numbers::same(v, &literals[p..end]) {
+    let all = LiteralPlaces {
+        bytes: literals,
+        t,
+        at: Position(0),
+    };
+    for literal in all {
+        if numbers::same(v, &literals[literal.start.0..literal.end.0]) {
             return true;
         }
-        p = end;
     }
     false
 }
 
-// How many values there are behind n, where one was inserted or was there already.
-fn more(n: u64, there: bool) -> u64
-    requires { n < most_literals }
-    ensures { (result ≡ cond there n (n + 1)) × (result ≤ n + 1) }
-{
-    if there {
-        return n;
-    }
-    n + 1
-}
-
-// Enters literals of type t that were accepted in a hash table over them, each once.
+/// Enters literals of type t that were accepted in a hash table over them, each once.
 pub fn enter(literals: &[u8], t: u32, table: &mut [u32])
     requires { Enterable t literals.now table.old }
     ensures { Enters t literals.now table.new }
 {
+    let all = LiteralPlaces {
+        bytes: literals,
+        t,
+        at: Position(0),
+    };
     let mut n: u64 = 0;
-    let mut p = 0;
-    while p < literals.len() {
-        let e = p + known_size(literals, Position(p), t);
-        let there = hash_table::insert(literals, table, n, Position(p), Position(e));
-        n = more(n, there);
-        p = e;
+    for literal in all {
+        if !hash_table::insert(literals, table, n, literal.start, literal.end) {
+            n += 1;
+        }
     }
 }

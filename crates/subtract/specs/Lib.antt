@@ -1,5 +1,4 @@
--- What Subtract means, what it answers, what it promises, and what is proved of it.
+-- What Subtract means, what it answers, and what is proved of it.
 pub mod Meaning
 pub mod Reading
-pub mod Promises
 pub mod Claims

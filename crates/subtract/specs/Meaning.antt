@@ -1,8 +1,9 @@
--- A row field without the rows of another (01, "What the library offers", Subtract: "Clears in the first each row set in the second"), and the record of an
--- answer (02, Ticket 7).
-use Rattle.std.specs.Prelude.{ℕ, ◌-◌, ◌/◌, ◌%◌, ◌^◌, Bool, not, cond, List, [], ◌∷◌, eqb, length, get_or, set}
+-- A row field without the rows of another ("Clears in the first each row set in the second"), and the record of an answer.
+use Rattle.std.specs.Prelude.{ℕ, ◌-◌, ◌/◌, ◌%◌, ◌^◌, Bool, true, false, not, cond, List, [], ◌∷◌, eqb, length, get_or, set}
 use Rattle.std.specs.Int.Bits.{bit_and}
 use Rattle.row_field.specs.Meaning.{bit, rows_from}
+use Rattle.subtract.specs.declared.Answer.{Answer}
+use Rattle.subtract.specs.declared.Answer.TheVariants.{Skip, Keep}
 use Rattle.subtract.specs.declared.Record.{Record}
 
 -- f with row r not set; a row past the end changes nothing
@@ -41,6 +42,20 @@ record_from_numbers s = record { rows = get_or s 0 0; nulls = get_or s 1 0; dele
 abbrev pub no_record : List ℕ
 no_record = 0 ∷ 0 ∷ 0 ∷ 0 ∷ []
 
--- "skip is said exactly when matched is 0" (01: "In the end a count of 0 says skip, any other keep")
+-- "skip is said exactly when matched is 0" ("In the end a count of 0 says skip, any other keep")
 unfoldable pub keeps : ℕ → Bool
 keeps matched = not (eqb matched 0)
+
+-- the answer that a record makes
+abbrev pub answer_of : Record → Answer
+answer_of said = cond (keeps said.matched) (Keep said) (Skip said)
+
+-- the record of an answer
+unfoldable pub said_of : Answer → Record
+said_of (Skip said) = said
+said_of (Keep said) = said
+
+-- whether an answer says skip
+unfoldable pub skips : Answer → Bool
+skips (Skip said) = true
+skips (Keep said) = false

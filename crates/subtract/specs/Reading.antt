@@ -1,24 +1,18 @@
--- What Subtract, with a row count and with a record, answers for any two fields, and what the first buffer holds after it (01: "Subtract checks LIMIT, then ROOM,
--- and changes nothing when it refuses"; 02, Ticket 7).
-use Rattle.std.specs.Prelude.{ℕ, cond, List, leb, length, Result, Err, Ok}
-use Rattle.refusal.specs.Meaning.{limit, number_of}
-use Rattle.refusal.specs.Reading.{check, and_then}
+-- What Subtract, with a row count and with a record, answers for any two fields, and what the first buffer holds after it ("Subtract checks LIMIT, then ROOM,
+-- and changes nothing when it refuses").
+use Rattle.std.specs.Prelude.{ℕ, List, leb, length, Result, Err, Ok}
+use Rattle.refusal.specs.Meaning.{limit}
+use Rattle.refusal.specs.Reading.{check, and_then, numbers_of}
 use Rattle.refusal.specs.declared.Refusal.{Refusal}
 use Rattle.refusal.specs.declared.Refusal.TheVariants.{Limit, Room}
 use Rattle.row_field.specs.Meaning.{size, count}
+use Rattle.subtract.specs.declared.Counts.{Counts}
 use Rattle.subtract.specs.declared.Record.{Record}
-use Rattle.subtract.specs.declared.RecordSubtracted.{RecordSubtracted}
-use Rattle.subtract.specs.declared.RecordSubtracted.TheVariants.{Skip, Keep}
 use Rattle.subtract.specs.declared.Subtracted.{Subtracted}
-use Rattle.subtract.specs.declared.Subtracted.TheVariants.{Done}
-use Rattle.subtract.specs.Meaning.{subtracted, removed, numbers_of_record, no_record, keeps}
+use Rattle.subtract.specs.Meaning.{subtracted, removed, numbers_of_record, no_record, answer_of, said_of}
 
--- "answers rows left and rows removed"
-pub record Counts : Type 0 where
-  pub left : ℕ
-  pub removed : ℕ
-
--- LIMIT for a row count above the limit, then ROOM for a field with fewer than ceil(n / 8) bytes; else the rows below n that are left in f, and those removed
+-- "answers rows left and rows removed": LIMIT for a row count above the limit, then ROOM for a field with fewer than ceil(n / 8) bytes; else the rows below n
+-- that are left in f, and those removed
 unfoldable pub subtraction : ℕ → List ℕ → List ℕ → Result Counts Refusal
 subtraction n f g =
     check (leb n limit) Limit
@@ -34,48 +28,31 @@ buffer_by (Ok c) n f g = subtracted n f g
 abbrev pub subtract_buffer : ℕ → List ℕ → List ℕ → List ℕ
 subtract_buffer n f g = buffer_by (subtraction n f g) n f g
 
--- the call's answer
-unfoldable pub subtracted_by : Result Counts Refusal → Subtracted
-subtracted_by (Err r) = Subtracted.Refused r
-subtracted_by (Ok c) = Done c.left c.removed
-
--- the answer's number, 0 for accepted and else the refusal's in 01's table; then rows left and rows removed, 0 with a refusal
-unfoldable pub subtract_out : Subtracted → ℕ × (ℕ × ℕ)
-subtract_out (Subtracted.Refused r) = (number_of r, (0, 0))
-subtract_out (Done left gone) = (0, (left, gone))
-
--- the same of accepted counts
+-- accepted counts in numbers: 0 for accepted, then rows left and rows removed
 abbrev pub subtract_numbers : Counts → ℕ × (ℕ × ℕ)
 subtract_numbers c = (0, (c.left, c.removed))
 
--- ---- with a record: "a second Subtract takes the record, uses its row count and hands it back with rows removed"
+-- an answer's number, 0 for accepted and else the refusal's; then rows left and rows removed, 0 with a refusal
+abbrev pub subtract_out : Result Counts Refusal → ℕ × (ℕ × ℕ)
+subtract_out r = numbers_of (0, 0) subtract_numbers r
 
-pub record RecordCounts : Type 0 where
-  pub said : Record
-  pub removed : ℕ
+-- ---- with a record: "a second Subtract takes the record, uses its row count and hands it back with rows removed"
 
 -- a record with other deleted and matched rows: neither is added to what it had, and "the rest stays"
 abbrev pub replaced : Record → ℕ → ℕ → Record
 replaced given deleted matched = record { rows = given.rows; nulls = given.nulls; deleted = deleted; matched = matched }
 
--- "Deleted then counts all rows set below that count in the second field .. Matched is counted afresh, as rows left in the first". LIMIT and ROOM are Subtract's,
--- and the first buffer is then as Subtract leaves it
-unfoldable pub record_subtraction : Record → List ℕ → List ℕ → Result RecordCounts Refusal
+-- "Deleted then counts all rows set below that count in the second field .. Matched is counted afresh, as rows left in the first", and skip is said exactly when
+-- matched is 0. LIMIT and ROOM are Subtract's, and the first buffer is then as Subtract leaves it
+unfoldable pub record_subtraction : Record → List ℕ → List ℕ → Result Subtracted Refusal
 record_subtraction given f g =
     and_then (subtraction given.rows f g) (λ counts.
-    Ok (record { said = replaced given (count g given.rows) counts.left; removed = counts.removed }))
+    Ok (record { answer = answer_of (replaced given (count g given.rows) counts.left); removed = counts.removed }))
 
--- "skip is said exactly when matched is 0"
-unfoldable pub record_subtracted_by : Result RecordCounts Refusal → RecordSubtracted
-record_subtracted_by (Err r) = RecordSubtracted.Refused r
-record_subtracted_by (Ok a) = cond (keeps a.said.matched) (Keep a.said a.removed) (Skip a.said a.removed)
+-- what is accepted, in numbers: 0 for accepted, then the record's four and rows removed
+abbrev pub record_subtract_numbers : Subtracted → ℕ × (List ℕ × ℕ)
+record_subtract_numbers a = (0, (numbers_of_record (said_of a.answer), a.removed))
 
 -- the answer's number; then the record's four and rows removed, all 0 with a refusal
-unfoldable pub record_subtract_out : RecordSubtracted → ℕ × (List ℕ × ℕ)
-record_subtract_out (RecordSubtracted.Refused r) = (number_of r, (no_record, 0))
-record_subtract_out (Skip said gone) = (0, (numbers_of_record said, gone))
-record_subtract_out (Keep said gone) = (0, (numbers_of_record said, gone))
-
--- the same of what was accepted
-abbrev pub record_subtract_numbers : RecordCounts → ℕ × (List ℕ × ℕ)
-record_subtract_numbers a = (0, (numbers_of_record a.said, a.removed))
+abbrev pub record_subtract_out : Result Subtracted Refusal → ℕ × (List ℕ × ℕ)
+record_subtract_out r = numbers_of (no_record, 0) record_subtract_numbers r

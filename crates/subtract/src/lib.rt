@@ -1,26 +1,25 @@
-// Document 01, Subtract: clears in one row field the rows of another. Document 02, Ticket 7: the record of an answer, and Subtract with a record.
-#![tactic(auto)]
+// Clears in one row field the rows of another; and the record of an answer, which says how many rows it is drawn from.
+#![tactic(auto, unfolding(refusal::specs::Reading::check, refusal::specs::Reading::and_then, crate::specs::Meaning::keeps, crate::specs::Meaning::said_of, crate::specs::Meaning::skips, crate::specs::Reading::subtraction, crate::specs::Reading::buffer_by, crate::specs::Reading::record_subtraction))]
 
 ghost use Rattle.std.specs.Prelude.{◌≡◌, ◌-◌, ◌*◌, ◌<◌, ◌≤◌, length, get_or, set};
 ghost use Rattle.std.specs.Int.Bits.{bit_and};
 ghost use Rattle.row_field.specs.Meaning.{size};
-ghost use Rattle.subtract.specs.Meaning.{subtracted, numbers_of_record, record_from_numbers};
-ghost use Rattle.subtract.specs.Reading as reading;
-ghost use Rattle.subtract.specs.Promises.{SubtractPromise, SubtractRecordPromise};
+ghost use Rattle.subtract.specs.Meaning.{subtracted, numbers_of_record, record_from_numbers, answer_of, said_of, skips};
+ghost use Rattle.subtract.specs.Reading.{subtraction, subtract_buffer, record_subtraction};
 
 use numbers::Position;
 use refusal::{LIMIT, Refusal};
 
-// What Subtract answers: a refusal, or how many rows below the row count are left and how many were removed.
-#[derive(Clone, Copy)]
-pub enum Subtracted {
-    Refused(Refusal),
-    Done { left: u64, removed: u64 },
+/// Rows below the row count that are left in the first field, and those that were removed from it.
+#[derive(Clone, Copy, Debug, PartialEq, Eq)]
+pub struct Counts {
+    pub left: u64,
+    pub removed: u64,
 }
 
-// What may be claimed of an accepted answer: how many rows the index has, how many of them are null, how many are deleted, and how many match. Deleted is 0 until
-// deletions are subtracted.
-#[derive(Clone, Copy)]
+/// What may be claimed of an accepted answer: how many rows the index has, how many of them are null, how many are deleted, and how many match. Deleted is 0
+/// until deletions are subtracted.
+#[derive(Clone, Copy, Debug, PartialEq, Eq)]
 pub struct Record {
     pub rows: u64,
     pub nulls: u64,
@@ -28,15 +27,73 @@ pub struct Record {
     pub matched: u64,
 }
 
-// The numbers of a record where there is none.
+/// The numbers of a record where there is none.
 pub const NO_RECORD: [u64; 4] = [0, 0, 0, 0];
 
-// What Subtract with a record answers: a refusal; or the record as it is then, and how many rows were removed: skip where no row is left, else keep.
-#[derive(Clone, Copy)]
-pub enum RecordSubtracted {
-    Refused(Refusal),
-    Skip { record: Record, removed: u64 },
-    Keep { record: Record, removed: u64 },
+/// A record as four numbers: rows, nulls, deleted, matched.
+impl From<Record> for [u64; 4] {
+    ghost from_gives = { λ given numbers. numbers ≡ numbers_of_record given };
+
+    fn from(given: Record) -> [u64; 4] {
+        [given.rows, given.nulls, given.deleted, given.matched]
+    }
+}
+
+/// The record that four numbers stand for, in the order in which it gives them.
+impl From<[u64; 4]> for Record {
+    ghost from_gives = { λ numbers given. given ≡ record_from_numbers numbers };
+
+    fn from(numbers: [u64; 4]) -> Record {
+        Record {
+            rows: numbers[0],
+            nulls: numbers[1],
+            deleted: numbers[2],
+            matched: numbers[3],
+        }
+    }
+}
+
+/// What is said of an index that a question was asked of: skip what it indexes, where no row matches, else keep it.
+#[derive(Clone, Copy, Debug, PartialEq, Eq)]
+pub enum Answer {
+    Skip(Record),
+    Keep(Record),
+}
+
+impl Answer {
+    /// Skip exactly where no row matches.
+    pub fn of(said: Record) -> Answer
+        ensures { result ≡ answer_of said }
+    {
+        if said.matched == 0 {
+            Answer::Skip(said)
+        } else {
+            Answer::Keep(said)
+        }
+    }
+
+    /// The record that is said either way.
+    pub fn record(self) -> Record
+        ensures { result ≡ said_of self }
+    {
+        match self {
+            Answer::Skip(said) | Answer::Keep(said) => said,
+        }
+    }
+
+    /// Whether skip is said.
+    pub fn is_skip(self) -> bool
+        ensures { result ≡ skips self }
+    {
+        matches!(self, Answer::Skip(_))
+    }
+}
+
+/// An answer after a subtraction, and how many rows this removed.
+#[derive(Clone, Copy, Debug, PartialEq, Eq)]
+pub struct Subtracted {
+    pub answer: Answer,
+    pub removed: u64,
 }
 
 // Clears the bits of one byte that are set in `bits`.
@@ -44,9 +101,7 @@ fn clear_bits(field: &mut [u8], at: Position, bits: u8)
     requires { at.0 < length field.old }
     ensures { field.new ≡ set field.old at.0 (bit_and (get_or field.old at.0 0) (255 - bits)) }
 {
-    let p = at.0;
-    let old = field[p];
-    field[p] = old & !bits;
+    field[at.0] &= !bits;
 }
 
 // Subtracts the rows of the bytes before `end`.
@@ -54,11 +109,8 @@ fn subtract_bytes(first: &mut [u8], second: &[u8], end: Position)
     requires { (end.0 ≤ length first.old) × (end.0 ≤ length second.now) }
     ensures { first.new ≡ subtracted (end.0 * 8) first.old second.now }
 {
-    let e = end.0;
-    let mut i = 0;
-    while i < e {
+    for i in 0..end.0 {
         clear_bits(first, Position(i), second[i]);
-        i += 1;
     }
 }
 
@@ -70,81 +122,53 @@ fn subtract_rows(first: &mut [u8], second: &[u8], rows: u64)
     let whole = (rows / 8) as usize;
     subtract_bytes(first, second, Position(whole));
     let more = rows % 8;
-    if more == 0 {
-        return;
+    if more != 0 {
+        let bits = row_field::low_bits(second[whole], more);
+        clear_bits(first, Position(whole), bits);
     }
-    let bits = row_field::low_bits(second[whole], more);
-    clear_bits(first, Position(whole), bits);
 }
 
-// Clears in the first field each row below `rows` that is set in the second. A refusal changes nothing. Rows removed are those that were, less those that are
-// left: two counts by words are faster than a count of each byte as it is cleared.
-pub fn subtract(first: &mut [u8], second: &[u8], rows: u64) -> Subtracted
-    ensures { SubtractPromise rows first.old second.now first.new result }
+/// Clears in the first field each row below `rows` that is set in the second. Refuses a row count above the limit, then a field with fewer bytes than its rows
+/// take, and then changes nothing.
+pub fn subtract(first: &mut [u8], second: &[u8], rows: u64) -> Result<Counts, Refusal>
+    ensures answer { result ≡ subtraction rows first.old second.now }
+    ensures buffer { first.new ≡ subtract_buffer rows first.old second.now }
 {
     if LIMIT < rows {
-        return Subtracted::Refused(Refusal::Limit);
+        return Err(Refusal::Limit);
     }
     if !row_field::has_room(first, rows) {
-        return Subtracted::Refused(Refusal::Room);
+        return Err(Refusal::Room);
     }
     if !row_field::has_room(second, rows) {
-        return Subtracted::Refused(Refusal::Room);
+        return Err(Refusal::Room);
     }
+    // Rows removed are those that were, less those that are left: two counts by words are faster than a count of each byte as it is cleared.
     let before = row_field::count(first, rows);
     subtract_rows(first, second, rows);
     let left = row_field::count(first, rows);
     let removed = before - left;
-    Subtracted::Done { left, removed }
+    Ok(Counts { left, removed })
 }
 
-// A record with other deleted and matched rows. What it had of both goes, and the rest stays.
-fn replaced(given: Record, deleted: u64, matched: u64) -> Record
-    ensures { result ≡ reading.replaced given deleted matched }
+/// Subtracts below a record's row count, and says the record afresh: matched are the rows left in the first field, deleted all rows below the row count that the
+/// second has, whether the first had them or not; the rest stays.
+pub fn subtract_record(
+    first: &mut [u8],
+    second: &[u8],
+    given: Record,
+) -> Result<Subtracted, Refusal>
+    ensures answer { result ≡ record_subtraction given first.old second.now }
+    ensures buffer { first.new ≡ subtract_buffer given.rows first.old second.now }
 {
-    Record {
-        rows: given.rows,
-        nulls: given.nulls,
-        deleted,
-        matched,
-    }
-}
-
-// Subtract with a record, whose row count it uses. The record is handed back: matched are the rows left in the first field, deleted all rows below the row count
-// that the second has, whether the first had them or not; both are counted afresh, and the rest stays.
-pub fn subtract_record(first: &mut [u8], second: &[u8], given: Record) -> RecordSubtracted
-    ensures { SubtractRecordPromise given first.old second.now first.new result }
-{
-    let rows = given.rows;
-    let subtracted = subtract(first, second, rows);
-    match subtracted {
-        Subtracted::Refused(r) => RecordSubtracted::Refused(r),
-        Subtracted::Done { left, removed } => {
-            let deleted = row_field::count(second, rows);
-            let record = replaced(given, deleted, left);
-            if left == 0 {
-                return RecordSubtracted::Skip { record, removed };
-            }
-            RecordSubtracted::Keep { record, removed }
-        }
-    }
-}
-
-// A record as four numbers: rows, nulls, deleted, matched.
-pub fn record_numbers(given: Record) -> [u64; 4]
-    ensures { result ≡ numbers_of_record given }
-{
-    [given.rows, given.nulls, given.deleted, given.matched]
-}
-
-// The record that four numbers stand for, in the order of `record_numbers`.
-pub fn record_of(numbers: [u64; 4]) -> Record
-    ensures { result ≡ record_from_numbers numbers }
-{
-    Record {
-        rows: numbers[0],
-        nulls: numbers[1],
-        deleted: numbers[2],
-        matched: numbers[3],
-    }
+    let counts = subtract(first, second, given.rows)?;
+    let said = Record {
+        deleted: row_field::count(second, given.rows),
+        matched: counts.left,
+        ..given
+    };
+    Ok(Subtracted {
+        answer: Answer::of(said),
+        removed: counts.removed,
+    })
 }

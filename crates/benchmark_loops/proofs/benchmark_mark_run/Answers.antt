@@ -1,6 +1,6 @@
 -- `benchmark_mark_run` meets its contract: `mark_run` takes a run's last row, which is the one before its end.
 use Prim.Native.Nat.{◌+◌, ◌-◌}
-use mathlib.Core.Path.{◌≡◌}
+use mathlib.Core.Path.{◌≡◌, refl}
 use native.Mathlib.Omega.{arith}
 use Rattle.row_field.specs.Meaning.{up_to}
 use Rattle.row_field.specs.Promises.{MarkedRows}
@@ -15,6 +15,6 @@ returns-then-end-first c =
 pub returns : goal.returns
 returns c =
     let g = c.args in
-    let h : MarkedRows g.field.now c.mark_run.new.field (up_to g.first (g.end - 1 + 1 - g.first)) c.mark_run.result = c.mark_run.ensures in
+    let h : MarkedRows g.field.now c.mark_run.new.field (up_to g.first (g.end - 1 + 1 - g.first)) c.mark_run.result = record { seen = c.mark_run.ensures.seen refl; marked = c.mark_run.ensures.marked } in
     let e : g.end - 1 + 1 ≡ g.end = omega arith in
     rw e at h

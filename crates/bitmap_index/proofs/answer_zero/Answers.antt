@@ -1,8 +1,9 @@
 -- `answer_zero` meets its contract: an accepted audit found every entry sound, so that the chosen ones' rows can be marked; no row says skip.
 use Rattle.numbers.proofs.ByteLists.{bytes_drop}
 use Rattle.dictionary.specs.Promises.{dictionary_of}
+use Rattle.bitmap_index.specs.Names.{question_of}
 use Rattle.bitmap_index.proofs.Answering.{audited-sound}
-use Rattle.bitmap_index.proofs.Asking.{zero_skip, zero_keep}
+use Rattle.bitmap_index.proofs.Asking.{zero_answered}
 use Rattle.bitmap_index.proofs.answer_zero.Goals as goal
 
 pub mark_asked-requires : goal.mark_asked-requires
@@ -17,14 +18,8 @@ mark_asked-requires c =
       c.requires.1,
     )
 
-pub returns-then-matched-eq0 : goal.returns-then-matched-eq0
-returns-then-matched-eq0 c =
-    let a = c.args in
-    λ es d ls w. zero_skip a.question ls (dictionary_of a.body.now a.summary es) a.field.now (c.mark_asked.ensures es d ls w)
-    c.count-matched.ensures (c.requires.0.accepts es d).1 c.if-matched-eq0.true
-
 pub returns : goal.returns
 returns c =
     let a = c.args in
-    λ es d ls w. zero_keep a.question ls (dictionary_of a.body.now a.summary es) a.field.now (c.mark_asked.ensures es d ls w)
-    c.count-matched.ensures (c.requires.0.accepts es d).1 c.if-matched-eq0.false
+    λ es d ls w. rw c.of.ensures (zero_answered (question_of a.question) ls (dictionary_of a.body.now a.summary es) a.field.now (c.mark_asked.ensures es d ls w)
+    c.count-matched.ensures (c.requires.0.accepts es d).1)

@@ -1,30 +1,41 @@
 -- `ask` meets its contract by its stages: the question, all that comes before the field is written, the audit and the answer.
+use Rattle.std.proofs.Common.{rules, ◌≡◌, Err}
 use Rattle.bitmap_index.proofs.Auditing.{is_ready}
-use Rattle.bitmap_index.proofs.Asking.{ask_refused, ask_asked, ask_unprepared, ask-found}
+use Rattle.bitmap_index.proofs.Asking.{ask_refused, ask_unprepared, ask_unaudited, ask_accepts, ask_answers}
 use Rattle.bitmap_index.proofs.ask.Goals as goal
 
-pub returns-in-Refused : goal.returns-in-Refused
-returns-in-Refused c =
+pub returns-in_err-question : goal.returns-in_err-question
+returns-in_err-question c =
     let a = c.args in
-    ask_refused a.t a.question a.literals.now a.body.now a.field.now c.in-Refused.is
-    c.test_question-tested.ensures
+    let refused : c.from_residual.result ≡ Err c.in_err-question.field-0.0 = search rules in
+    rw refused (ask_refused a.t a.question a.literals.now a.body.now a.field.now c.in_err-question.ensures)
 
-pub ask_field-requires : goal.ask_field-requires
-ask_field-requires c =
+pub returns-in_err-summary : goal.returns-in_err-summary
+returns-in_err-summary c =
+    let a = c.args in
+    let refused : c.from_residual-in_err-summary.result ≡ Err c.in_err-summary.field-0.0 = search rules in
+    rw refused (ask_unprepared a.t a.question a.literals.now a.body.now a.field.now c.in_ok-question.ensures.1 c.in_err-summary.ensures)
+
+pub audit_field-requires : goal.audit_field-requires
+audit_field-requires c =
+    let a = c.args in
+    is_ready a.t a.body.now a.field.now c.in_ok-summary.ensures
+
+pub returns-in_err-nulls : goal.returns-in_err-nulls
+returns-in_err-nulls c =
+    let a = c.args in
+    let refused : c.from_residual-in_err-nulls.result ≡ Err c.in_err-nulls.field-0.0 = search rules in
+    rw refused (ask_unaudited a.t a.question a.literals.now a.body.now a.field.now c.in_ok-question.ensures.1 c.in_ok-summary.ensures c.in_err-nulls.ensures)
+
+pub answer_zero-requires : goal.answer_zero-requires
+answer_zero-requires c =
     let a = c.args in (
-      is_ready a.t a.body.now a.field.now c.in-Found.is c.prepare-prepared.ensures,
-      ask_asked a.t a.question a.literals.now a.body.now a.field.now c.in_default.is
-          c.test_question-tested.ensures,
+      ask_accepts a.t a.question a.literals.now a.body.now a.field.now c.in_ok-question.ensures.1 c.in_ok-summary.ensures c.in_ok-nulls.ensures,
+      rw c.in_ok-question.ensures.0 c.in_ok-question.ensures.1,
     )
 
-pub returns-in-Refused-prepared : goal.returns-in-Refused-prepared
-returns-in-Refused-prepared c =
+pub returns : goal.returns
+returns c =
     let a = c.args in
-    ask_unprepared a.t a.question a.literals.now a.body.now a.field.now c.in_default.is
-    c.test_question-tested.ensures c.in-Refused-prepared.is c.prepare-prepared.ensures
-
-pub returns-in-Found : goal.returns-in-Found
-returns-in-Found c =
-    let a = c.args in
-    ask-found a.t a.question a.literals.now a.body.now a.field.now c.in_default.is
-    c.test_question-tested.ensures c.in-Found.is c.prepare-prepared.ensures c.ask_field.ensures
+    ask_answers a.t a.question a.literals.now a.body.now a.field.now c.in_ok-question.ensures.1 c.in_ok-summary.ensures c.in_ok-nulls.ensures
+    (rw c.in_ok-question.ensures.0 at c.answer_zero.ensures)

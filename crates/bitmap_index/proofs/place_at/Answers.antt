@@ -1,25 +1,25 @@
--- `place_at` meets its contract: a negative offset's row is -1 less the offset, which fits at the least value too; any other offset is a place.
-use Rattle.bitmap_index.proofs.Offsets.{row_fits, row_cast, place_cast}
+-- `place_at` meets its contract by where the offset says the rows are.
+use Rattle.std.proofs.Common.{sym, ◌∙◌}
 use Rattle.bitmap_index.proofs.PlacingRows.{as_row, as_place}
+use Rattle.bitmap_index.proofs.QuickAudit.{set_as_row, set_as_place}
 use Rattle.bitmap_index.proofs.place_at.Goals as goal
 
-pub overflow_sub-offset : goal.overflow_sub-offset
-overflow_sub-offset c = row_fits c.args.offset c.ranges.offset c.if-offset-lt0.true
-
-pub overflow_cast-offset : goal.overflow_cast-offset
-overflow_cast-offset c = row_cast c.args.offset c.ranges.offset c.if-offset-lt0.true
-
-pub returns-then-offset-lt0 : goal.returns-then-offset-lt0
-returns-then-offset-lt0 c =
+pub returns-in-Single-clause-placed : goal.returns-in-Single-clause-placed
+returns-in-Single-clause-placed g c =
     let a = c.args in
-    as_row a.entry a.offset a.extent a.rows a.region.now a.field.now c.ranges.offset c.if-offset-lt0.true
-    c.place_row.ensures
+    λ told. as_row a.entry a.offset a.extent a.rows a.region.now a.field.now c.ranges.offset (sym c.from.ensures ∙ c.in-Single.is) (c.place_row.ensures.placed told)
 
-pub overflow_cast-offset-2 : goal.overflow_cast-offset-2
-overflow_cast-offset-2 c = place_cast c.args.offset c.ranges.offset c.if-offset-lt0.false
-
-pub returns : goal.returns
-returns c =
+pub returns-in-Single-clause-set : goal.returns-in-Single-clause-set
+returns-in-Single-clause-set g c =
     let a = c.args in
-    as_place a.entry a.offset a.extent a.rows a.region.now a.field.now c.ranges.offset c.if-offset-lt0.false
-    c.place_bitmap.ensures
+    set_as_row a.entry a.offset a.extent a.rows a.region.now a.field.now c.ranges.offset (sym c.from.ensures ∙ c.in-Single.is) c.place_row.ensures.set
+
+pub returns-in-Bitmap-clause-placed : goal.returns-in-Bitmap-clause-placed
+returns-in-Bitmap-clause-placed g c =
+    let a = c.args in
+    λ told. as_place a.entry a.offset a.extent a.rows a.region.now a.field.now c.ranges.offset (sym c.from.ensures ∙ c.in-Bitmap.is) (c.place_bitmap.ensures.placed told)
+
+pub returns-in-Bitmap-clause-set : goal.returns-in-Bitmap-clause-set
+returns-in-Bitmap-clause-set g c =
+    let a = c.args in
+    set_as_place a.entry a.offset a.extent a.rows a.region.now a.field.now c.ranges.offset (sym c.from.ensures ∙ c.in-Bitmap.is) c.place_bitmap.ensures.set

@@ -1,40 +1,32 @@
+use Rattle.std.proofs.Common.{rules, length-drop}
 use native.Mathlib.Omega.{arith}
-use Rattle.deletion_file.specs.declared.NextBin.{NextBin}
-use Rattle.deletion_file.specs.Promises.{FindsNext}
-use Rattle.deletion_file.proofs.WalkSteps.{walk_first, walk_short, walk_over, walk_this, walk_other}
+use Rattle.deletion_file.proofs.WalkSteps.{rest_of, walk_first, walk_refused, walk_over, walk_this, walk_other, plain_found}
 use Rattle.deletion_file.proofs.find_bin.Goals as goal
-use Rattle.deletion_file.proofs.find_bin.Goals.{After-struct_known-1, then-passed-bin, else-passed-bin}
+use Rattle.deletion_file.proofs.find_bin.Goals.{then-number-bin, else-number-bin}
 
-pub loop-found-init : goal.loop-found-init
-loop-found-init c = (omega arith, omega arith, walk_first _ _ (omega arith))
+pub loop-next-init : goal.loop-next-init
+loop-next-init c =
+    let e = rest_of 1 c.args.file.now in
+    rw e (simp length-drop (omega arith), walk_first c.args.file.now c.args.bin c.requires)
 
-pub returns-in-Short : goal.returns-in-Short
-returns-in-Short c =
-    walk_short c.loop-found.invariant.2 (rw c.in-Short.is at c.next_bin-step.ensures)
+pub returns-in_err-next : goal.returns-in_err-next
+returns-in_err-next c =
+    let refused = walk_refused c.loop-next.invariant.1 c.in_err-next.ensures in
+    search (rules, refused)
 
-pub returns-in-End : goal.returns-in-End
-returns-in-End c =
-    walk_over _ c.loop-found.invariant.2 (rw c.in-End.is at c.next_bin-step.ensures)
-
--- the bin that was passed
-the_bin : (c : After-struct_known-1)
-    → FindsNext c.loop-found.next c.args.file.now (NextBin.Bin c.in-Bin.start c.in-Bin.end)
-the_bin c = rw c.in-Bin.is at c.next_bin-step.ensures
-
-pub overflow_add-next : goal.overflow_add-next
-overflow_add-next c = let w = the_bin c in omega arith
-
-pub loop-found-smaller : goal.loop-found-smaller
-loop-found-smaller c = let w = the_bin c in omega arith
-
-pub loop-found-preserved : goal.loop-found-preserved
-loop-found-preserved c =
-    let state = c.loop-found.invariant.2 in
-    let w = the_bin c in (
-      omega arith,
-      omega arith,
-      elim c.if-passed-bin.branch [
-        | then-passed-bin b ↦ rw b.found-is (walk_this w.0 w.1 w.2 _ state b.if-passed-bin.true)
-        | else-passed-bin b ↦ rw b.found-is (walk_other w.0 w.1 w.2 _ state b.if-passed-bin.false)
+pub loop-next-preserved : goal.loop-next-preserved
+loop-next-preserved c =
+    let l = c.loop-next in
+    let w = rw c.in-Some.is at c.in_ok-next.ensures in (
+      omega (arith, l.invariant.0, w.1),
+      elim c.if-number-bin.branch [
+        | then-number-bin b ↦ rw b.found-is (walk_this w.0 w.1 (plain_found l.found) l.invariant.1 b.if-number-bin.true)
+        | else-number-bin b ↦ rw b.found-is (walk_other w.0 w.1 (plain_found l.found) l.invariant.1 b.if-number-bin.false)
       ],
     )
+
+pub returns : goal.returns
+returns c =
+    let l = c.loop-next in
+    let ended = walk_over (plain_found l.found) l.invariant.1 (rw c.in_default.is at c.in_ok-next.ensures) in
+    search (rules, ended, c.ok_or.ensures)

@@ -1,21 +1,35 @@
--- `mark_32` meets its contract: what `measure` and `mark_indexed` ensure, put into the reading.
+-- What `measure_bitmap` and `mark_indexed` ensure, put into the reading.
 use native.Mathlib.Omega.{arith}
-use Rattle.deletion_window.proofs.Marking.{unsound_so, sound_so, marked_so}
+use Rattle.std.proofs.Common.{rules}
+use Rattle.refusal.specs.Reading.{and_then}
+use Rattle.deletion_file.specs.Reading.{counted, left_by}
+use Rattle.deletion_window.specs.Reading.{marked_in}
+use Rattle.deletion_window.proofs.Marking.{not_listed, sound_so, listed}
 use Rattle.deletion_window.proofs.mark_32.Goals as goal
 
+pub returns-in_err-measure_bitmap-clause-answer : goal.returns-in_err-measure_bitmap-clause-answer
+unfolding counted marked_in and_then
+returns-in_err-measure_bitmap-clause-answer c =
+    let refused = not_listed c.args.bytes.now c.in_err-measure_bitmap.ensures in
+    search (rules, refused)
+
+pub returns-in_err-measure_bitmap-clause-field : goal.returns-in_err-measure_bitmap-clause-field
+unfolding left_by marked_in and_then
+returns-in_err-measure_bitmap-clause-field c =
+    let refused = not_listed c.args.bytes.now c.in_err-measure_bitmap.ensures in
+    search (rules, refused)
+
 pub mark_indexed-requires : goal.mark_indexed-requires
-mark_indexed-requires c =
-    let a = c.args in (
-      sound_so a.first.0 a.rows a.field.now a.bytes.now c.measure-measured.ensures c.in-Sound.is (λ i. (c.type_inv.bytes i).fits),
-      omega arith,
-      c.requires,
-    )
+mark_indexed-requires c = (sound_so c.args.bytes.now c.in_ok-measure_bitmap.ensures (λ i. (c.type_inv.bytes i).fits), omega arith)
 
-pub returns-in-Unsound : goal.returns-in-Unsound
-returns-in-Unsound c = unsound_so _ _ _ _ c.measure-measured.ensures c.in-Unsound.is
+pub returns-clause-answer : goal.returns-clause-answer
+unfolding counted marked_in and_then
+returns-clause-answer c =
+    let rows = listed c.args.bytes.now c.in_ok-measure_bitmap.ensures (λ i. (c.type_inv.bytes i).fits) in
+    search (rules, rows, c.mark_indexed.ensures, c.count.ensures)
 
-pub returns-in-Sound : goal.returns-in-Sound
-returns-in-Sound c =
-    let a = c.args in
-    marked_so a.first.0 a.rows a.field.now a.bytes.now c.measure-measured.ensures c.in-Sound.is
-    (λ i. (c.type_inv.bytes i).fits) c.mark_indexed.ensures c.count.ensures
+pub returns-clause-field : goal.returns-clause-field
+unfolding left_by marked_in and_then
+returns-clause-field c =
+    let rows = listed c.args.bytes.now c.in_ok-measure_bitmap.ensures (λ i. (c.type_inv.bytes i).fits) in
+    search (rules, rows, c.mark_indexed.ensures)

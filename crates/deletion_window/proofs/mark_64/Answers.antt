@@ -1,13 +1,14 @@
--- `mark_64` meets its contract: what was marked before a fault is taken away again.
-use Rattle.deletion_window.proofs.Marking.{taken_back, all_marked}
+-- What was marked before a fault is taken away again.
+use Rattle.std.proofs.Common.{rules}
+use Rattle.refusal.specs.Reading.{and_then}
+use Rattle.deletion_file.specs.Reading.{left_by}
+use Rattle.deletion_window.specs.Reading.{marked_in}
+use Rattle.deletion_window.proofs.Marking.{taken_back}
 use Rattle.deletion_window.proofs.mark_64.Goals as goal
 
-pub returns-then-not-mark_each : goal.returns-then-not-mark_each
-returns-then-not-mark_each c =
+pub returns-then-not-mark_each-clause-field : goal.returns-then-not-mark_each-clause-field
+unfolding left_by marked_in and_then
+returns-then-not-mark_each-clause-field c =
     let a = c.args in
-    taken_back a.first.0 a.rows a.bytes.now a.field.now _ c.mark_each.result c.mark_each.ensures c.if-not-mark_each.true c.requires.1 c.clear.ensures
-
-pub returns : goal.returns
-returns c =
-    let a = c.args in
-    all_marked a.first.0 a.rows a.bytes.now a.field.now _ c.mark_each.result c.mark_each.ensures c.if-not-mark_each.false c.count.ensures
+    let back = taken_back a.shown.first a.shown.rows a.bytes.now a.field.now _ c.mark_each.result c.mark_each.ensures c.if-not-mark_each.true c.requires in
+    search (rules, back.0, back.1, c.clear.ensures)

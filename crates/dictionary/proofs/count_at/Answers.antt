@@ -3,8 +3,8 @@ use native.Mathlib.Omega.{arith}
 use Rattle.dictionary.proofs.Fields.{count-short, count_negative, count-over, count_is}
 use Rattle.dictionary.proofs.count_at.Goals as goal
 
-pub returns-then-body-p-lt4 : goal.returns-then-body-p-lt4
-returns-then-body-p-lt4 c = let a = c.args in count-short _ a.body.now a.at.0 (omega arith)
+pub returns-then-body-at-lt-NUMBER : goal.returns-then-body-at-lt-NUMBER
+returns-then-body-at-lt-NUMBER c = let a = c.args in count-short _ a.body.now a.at.0 (omega arith)
 
 pub returns-then-n-ge-SIGN_BIT : goal.returns-then-n-ge-SIGN_BIT
 returns-then-n-ge-SIGN_BIT c = let a = c.args in count_negative _ a.body.now a.at.0 (omega arith) c.be-n.ensures.value c.if-n-ge-SIGN_BIT.true

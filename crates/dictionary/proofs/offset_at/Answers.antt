@@ -9,5 +9,5 @@ pub returns : goal.returns
 returns c =
     let a = c.args in
     let n = c.be.ensures.value in
-    let h : be_at 4 a.body.now a.at.0 < 4294967296 = rw n.0 at n.1 in
-    (signed_passed (be_at 4 a.body.now a.at.0) (c.to_signed.ensures ∙ rw n.0) h, h)
+    let h : be_at 4 a.body.now a.at.0 < 4294967296 = rw n at c.be.ensures.below in
+    (signed_passed (be_at 4 a.body.now a.at.0) (c.to_signed.ensures ∙ rw n) h, h)

@@ -1,39 +1,32 @@
--- `ask_file` meets its contract: by cases of what is found in the buffer that is looked at. What holds of any bytes says of a column's file what the scan says.
-use Rattle.file_to_answers.proofs.Calls.{inside, asked_absent, asked_refused, asked_found}
+-- By cases of what is found in the buffer that is looked at. What holds of any bytes says of a column's file what the scan says.
+use Rattle.std.proofs.lemmas.Result.{err_from_is_err_and}
+use Rattle.file_to_answers.proofs.Calls.{asked_absent, asked_refused, asked_answer, asked_fault}
 use Rattle.file_to_answers.proofs.ask_file.Goals as goal
 
-pub part-body-requires : goal.part-body-requires
-part-body-requires c =
+pub returns-in_err-body : goal.returns-in_err-body
+returns-in_err-body c =
     let a = c.args in
-    inside c.looked_at-bytes.result.now a.column.now a.kind.now c.find-located.ensures.answer a.embedded.now a.file.now
-    (λ i. (c.type_inv.embedded i).fits) (λ i. (c.type_inv.file i).fits) c.looked_at-bytes.ensures.0 c.in-Found.is
+    let p = err_from_is_err_and c.from_residual.result c.from_residual.ensures.1 in
+    let both = asked_refused _ a.column.now a.kind.now a.t a.question a.literals.now a.field.now (λ i. (c.type_inv.field i).fits) c.in_err-body.ensures in
+    rw (p.1, p.2) (record { any_bytes = both.0; as_the_scan = both.1 })
 
-pub returns-in-Absent : goal.returns-in-Absent
-returns-in-Absent c =
+pub returns-in_default : goal.returns-in_default
+returns-in_default c =
     let a = c.args in
-    let both =
-    rw c.looked_at-bytes.ensures.0
-    at (asked_absent c.looked_at-bytes.result.now a.column.now a.kind.now a.t a.question a.literals.now a.field.now
-    (λ i. (c.type_inv.field i).fits) c.find-located.ensures.answer
-    c.in-Absent.is) in
+    let both = asked_absent _ a.column.now a.kind.now a.t a.question a.literals.now a.field.now (λ i. (c.type_inv.field i).fits) (rw c.in_default.is at c.in_ok-body.ensures) in
     record { any_bytes = both.0; as_the_scan = both.1 }
 
-pub returns-in-Refused : goal.returns-in-Refused
-returns-in-Refused c =
+pub returns-in_err-answer : goal.returns-in_err-answer
+returns-in_err-answer c =
     let a = c.args in
-    let both =
-    rw c.looked_at-bytes.ensures.0
-    at (asked_refused c.looked_at-bytes.result.now a.column.now a.kind.now a.t a.question a.literals.now a.field.now
-    (λ i. (c.type_inv.field i).fits) c.find-located.ensures.answer
-    c.in-Refused.is) in
-    record { any_bytes = both.0; as_the_scan = both.1 }
+    let p = err_from_is_err_and c.from_residual-in_err-answer.result c.from_residual-in_err-answer.ensures.1 in
+    let b = rw c.in-Some.is at c.in_ok-body.ensures in
+    let both = asked_fault _ a.column.now a.kind.now a.t a.question a.literals.now a.field.now (λ i. (c.slice_known-1.given i).fits) b.1 b.2 c.in_err-answer.ensures in
+    rw (p.1, p.2) (record { any_bytes = both.0; as_the_scan = both.1 })
 
-pub returns-in-Found : goal.returns-in-Found
-returns-in-Found c =
+pub returns : goal.returns
+returns c =
     let a = c.args in
-    let both =
-    rw c.looked_at-bytes.ensures.0
-    at (asked_found c.looked_at-bytes.result.now a.column.now a.kind.now a.t a.question a.literals.now a.field.now
-    (λ i. (c.slice_known-1.given i).fits) c.find-located.ensures.answer
-    c.in-Found.is c.part-body.ensures.0 c.ask.ensures) in
+    let b = rw c.in-Some.is at c.in_ok-body.ensures in
+    let both = asked_answer _ a.column.now a.kind.now a.t a.question a.literals.now a.field.now (λ i. (c.slice_known-1.given i).fits) b.1 b.2 c.in_ok-answer.ensures in
     record { any_bytes = both.0; as_the_scan = both.1 }

@@ -1,13 +1,11 @@
--- `hash` meets its contract: what is left, hashed from here, gives the whole.
-use Prim.Native.Nat.{◌-◌, ◌/◌, ◌<◌, ◌≤◌}
-use mathlib.Core.Path.{◌≡◌}
-use lib.ListN.{length, drop}
-use Rattle.numbers.specs.Meaning.{four_bytes}
-use Rattle.hash_table.specs.Promises.{hash_words}
+-- What is left, hashed from here, gives the whole: the words first, then the bytes behind them.
+use Rattle.std.proofs.Common.{◌≡◌, drop}
+use Rattle.hash_table.specs.Promises.{hash_of_bytes}
+use Rattle.hash_table.proofs.Hashing.{hash_chunks}
 use Rattle.hash_table.proofs.hash.Given as goal
 
-abbrev pub invariant-loop-i : goal.invariant-loop-i
-invariant-loop-i l = (hash_words ((length l.v - l.i) / 4) l.h (drop l.i l.v) ≡ hash_words (length l.v / 4) 0 l.v) × (l.h < four_bytes) × (l.i ≤ length l.v)
+abbrev pub invariant-loop-word : goal.invariant-loop-word
+invariant-loop-word l = hash_chunks l.h (drop l.word-index l.words) ≡ hash_chunks 0 l.words
 
-abbrev pub decreases-loop-i : goal.decreases-loop-i
-decreases-loop-i l = length l.v - l.i
+abbrev pub invariant-loop-byte : goal.invariant-loop-byte
+invariant-loop-byte l = hash_of_bytes l.h (drop l.byte-index l.bytes) ≡ hash_of_bytes l.initial.h l.bytes

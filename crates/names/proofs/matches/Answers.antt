@@ -1,46 +1,36 @@
-use native.Mathlib.Omega.{arith}
-use Rattle.numbers.specs.Meaning.{position}
-use Rattle.names.specs.declared.Point.{Point}
-use Rattle.names.specs.Reading.{standard_point}
-use Rattle.names.specs.Promises.{PointIsAt}
-use Rattle.names.proofs.Steps.{matched_first, matched_done, matched_broken, matched_short, matched_other, matched_next}
+use Rattle.std.proofs.Common.{ap, ◌∙◌, arith}
+use Rattle.std.specs.Str.Iter.{chars_rest}
+use Rattle.names.proofs.Text.{matches_longer, matches_other, matched_first, matched_done, matched_short, matched_other, matched_next}
 use Rattle.names.proofs.matches.Goals as goal
-use Rattle.names.proofs.matches.Goals.{In-Is}
 
-pub loop-p-init : goal.loop-p-init
-loop-p-init c = let a = c.args in (omega arith, omega arith, matched_first a.asked.now a.stored.now)
+pub returns-then-stored-asked : goal.returns-then-stored-asked
+returns-then-stored-asked c = let a = c.args in matches_longer a.asked.now a.stored.now c.if-stored-asked.true
 
 pub returns-in_default : goal.returns-in_default
-returns-in_default c =
-    matched_broken c.loop-p.invariant.2 c.loop-p-test.true c.point_at-point.ensures c.in_default.is
+returns-in_default c = let a = c.args in matches_other a.asked.now a.stored.now (rw c.in_default.is at c.from_utf8.ensures.cases).0
 
--- the code point that was read takes a byte and ends within the name
-ends : (c : In-Is) → PointIsAt (Point.Is c.in-Is.value c.in-Is.next) standard_point 1
-    (position c.loop-p.p) c.args.asked.now
-ends c = rw c.in-Is.is at c.point_at-point.ensures
+pub loop-c-init : goal.loop-c-init
+loop-c-init c =
+    (omega arith, matched_first c.args.stored.now c.in-Ok.ensures.cases.1 (ap chars_rest c.into_iter-c-iterator.ensures.into_iter_gives ∙ c.chars-c-items.ensures.rest ∙ c.in-Ok.ensures.cases.0))
 
 pub returns-then-stored-q : goal.returns-then-stored-q
 returns-then-stored-q c =
-    matched_short c.loop-p.invariant.2 c.loop-p-test.true c.point_at-point.ensures c.in-Is.is c.modified_size-size.ensures.0 c.if-stored-q.true
+    matched_short c.loop-c.invariant.1 c.in-Some.c _ c.in-Some.ensures.steps.0 (rw c.from-value.ensures at c.modified_size-size.ensures.0) c.if-stored-q.true
 
 pub modified_at-requires : goal.modified_at-requires
 modified_at-requires c = omega (arith, c.modified_size-size.ensures.0)
 
 pub returns-then-not-modified_at : goal.returns-then-not-modified_at
 returns-then-not-modified_at c =
-    matched_other c.loop-p.invariant.2 c.loop-p-test.true c.point_at-point.ensures c.in-Is.is c.modified_size-size.ensures.0
-    c.modified_at.ensures c.if-not-modified_at.true
+    matched_other c.loop-c.invariant.1 c.in-Some.c _ c.in-Some.ensures.steps.0 (rw c.from-value.ensures at c.modified_size-size.ensures.0)
+    (rw c.from-value.ensures at c.modified_at.ensures) c.if-not-modified_at.true
 
-pub loop-p-smaller : goal.loop-p-smaller
-loop-p-smaller c = let n = ends (goal.at.loop-p-smaller c).In-Is in omega (arith, n.0, n.1)
-
-pub loop-p-preserved : goal.loop-p-preserved
-loop-p-preserved c = (
-  (ends (goal.at.loop-p-preserved c).In-Is).1,
+pub loop-c-preserved : goal.loop-c-preserved
+loop-c-preserved c = (
   omega arith,
-  matched_next c.loop-p.invariant.2 c.loop-p-test.true c.point_at-point.ensures c.in-Is.is c.modified_size-size.ensures.0
-      c.modified_at.ensures c.if-not-modified_at.false,
+  matched_next c.loop-c.invariant.1 c.in-Some.c _ c.in-Some.ensures.steps.0 (rw c.from-value.ensures at c.modified_size-size.ensures.0)
+      (rw c.from-value.ensures at c.modified_at.ensures) c.if-not-modified_at.false,
 )
 
 pub returns : goal.returns
-returns c = let l = c.loop-p in matched_done l.invariant.2 c.loop-p-test.false l.invariant.1
+returns c = matched_done c.loop-c.invariant.1 c.in-None.ensures.steps.0.0 c.loop-c.invariant.0

@@ -1,8 +1,6 @@
-use Prim.Native.Nat.{◌-◌}
-use mathlib.Core.Path.{sym, ◌∙◌}
-use native.Mathlib.Omega.{arith}
+-- Where the last words are the same, what is left of both, compared, gives the whole.
+use Rattle.std.proofs.Common.{◌≡◌, ◌+◌, ◌-◌, ◌*◌, length, sym, ◌∙◌, arith}
 use borrow.Author.Tests.{eq-eqb}
-use lib.ListN.{length}
 use Rattle.numbers.specs.Meaning.{Bytes}
 use Rattle.numbers.proofs.SameBytes.{word_other, word_next, word_last}
 use Rattle.numbers.proofs.same_words.Goals as goal
@@ -14,18 +12,18 @@ returns-then-le c =
 
 pub returns-then-le-2 : goal.returns-then-le-2
 returns-then-le-2 c =
-    let l = c.loop-i in
     let a = c.args in
-    sym (word_other 8 a.a.now a.b.now l.i (λ e. c.if-le-2.true (c.le-in-loop-i.ensures.value ∙ e ∙ sym c.le-in-loop-i-2.ensures.value)))
+    sym (word_other 8 a.a.now a.b.now (c.loop-i.i * 8) (λ e. c.if-le-2.true (c.le-in-loop-i.ensures.value ∙ e ∙ sym c.le-in-loop-i-2.ensures.value)))
 
 pub loop-i-preserved : goal.loop-i-preserved
 loop-i-preserved c =
-    let l = c.loop-i in
+    let i = c.loop-i.i in
     let a = c.args in
     let e = sym c.le-in-loop-i.ensures.value ∙ c.if-le-2.false ∙ c.le-in-loop-i-2.ensures.value in
     let p : Bytes a.a.now = λ j. (c.type_inv.a j).fits in
     let q : Bytes a.b.now = λ j. (c.type_inv.b j).fits in
-    (omega arith, sym (word_next 8 a.a.now a.b.now p q (omega arith) l.i (omega arith) e) ∙ l.invariant.1)
+    let n : (i + 1) * 8 ≡ i * 8 + 8 = omega arith in
+    rw n (sym (word_next 8 a.a.now a.b.now p q (omega arith) (i * 8) (omega arith) e) ∙ c.loop-i.invariant)
 
 pub returns : goal.returns
 returns c =
@@ -34,4 +32,4 @@ returns c =
     let p : Bytes a.a.now = λ j. (c.type_inv.a j).fits in
     let q : Bytes a.b.now = λ j. (c.type_inv.b j).fits in
     let e = sym c.le.ensures.value ∙ c.if-le.false ∙ c.le-2.ensures.value in
-    sym (eq-eqb _ _ e) ∙ word_last 8 a.a.now a.b.now p q (omega arith) (length a.a.now - 8) l.i (omega arith) (omega arith) l.invariant.1
+    sym (eq-eqb _ _ e) ∙ word_last 8 a.a.now a.b.now p q (omega arith) (length a.a.now - 8) (l.i * 8) (omega arith) (omega arith) l.invariant

@@ -1,12 +1,7 @@
--- `same_words` meets its contract: where the last words are the same, what is left of both, compared, gives the whole.
-use Prim.Native.Nat.{◌-◌, ◌≤◌}
-use mathlib.Core.Path.{◌≡◌}
-use lib.ListN.{length, drop}
-use Rattle.numbers.specs.Meaning as meaning
+-- The words passed are the same, so that what is left decides.
+use Rattle.std.proofs.Common.{◌≡◌, ◌*◌, drop}
+use Rattle.numbers.specs.Meaning.{same}
 use Rattle.numbers.proofs.same_words.Given as goal
 
 abbrev pub invariant-loop-i : goal.invariant-loop-i
-invariant-loop-i l = (l.i ≤ length l.a) × (meaning.same (drop l.i l.a) (drop l.i l.b) ≡ meaning.same l.a l.b)
-
-abbrev pub decreases-loop-i : goal.decreases-loop-i
-decreases-loop-i l = length l.a - l.i
+invariant-loop-i l = same (drop (l.i * 8) l.a) (drop (l.i * 8) l.b) ≡ same l.a l.b

@@ -2,7 +2,7 @@
 use Prim.Native.Nat.{◌≤◌, ◌*◌, ◌%◌, ◌^◌}
 use mathlib.Core.Path.{◌≡◌}
 use native.Mathlib.Omega.{arith}
-use lib.Pow.{pow_mono, pow_pos, pow-add}
+use lib.Pow.{pow_mono, pow-add}
 use Rattle.row_field.proofs.bits_between.Goals as goal
 
 pub overflow_sub-result : goal.overflow_sub-result
@@ -13,11 +13,6 @@ overflow_sub-result c =
     let x : 1 * 2 ^ c.args.low % 65536 ≡ 2 ^ c.args.low = omega arith in
     let y : 2 * 2 ^ c.args.high % 65536 ≡ 2 * 2 ^ c.args.high = omega arith in
     rw (x, y) (omega arith)
-
-pub overflow_cast-result-3 : goal.overflow_cast-result-3
-overflow_cast-result-3 c =
-    let h : c.args.high ≤ 7 = omega arith in
-    record { fits = omega (arith, pow_mono c.requires.0, pow_mono h, pow_pos c.args.low) }
 
 pub returns : goal.returns
 returns c =

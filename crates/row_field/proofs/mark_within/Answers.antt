@@ -1,8 +1,6 @@
--- `mark_within` meets its contract: what the code computes is what `bit` and `mark` say (`within_answer`, `within_store`).
+-- What the code computes by the table is what `bit` and `mark` say.
 use Rattle.row_field.proofs.Laws.{within_answer, within_store}
 use Rattle.row_field.proofs.mark_within.Goals as goal
 
 pub returns : goal.returns
-returns c =
-    let a = c.args in
-    (within_answer a.field.now a.row.0 c.requires.1, within_store a.field.now a.row.0 c.requires.1)
+returns c = (within_answer c.args.field.now c.args.row.0, within_store c.args.field.now c.args.row.0)

@@ -1,5 +1,4 @@
 use mathlib.Core.Path.{sym, ◌∙◌}
-use mathlib.Core.Logic.{⊎_elim, inl, inr}
 use native.Mathlib.Omega.{arith}
 use Rattle.stored_value.proofs.Steps.{less_end, less-differ, less-next}
 use Rattle.stored_value.proofs.bytes_less.Goals as goal
@@ -20,5 +19,4 @@ pub returns : goal.returns
 returns c =
     let l = c.loop-i in
     let a = c.args in
-    let e = c.least-end.ensures.2 in
-    sym (less_end a.a.now a.b.now l.i (⊎_elim (λ h. inl (omega arith)) (λ h. inr (omega arith)) e)) ∙ l.invariant
+    sym (less_end a.a.now a.b.now l.i (omega arith)) ∙ l.invariant

@@ -1,49 +1,39 @@
-use Prim.Native.Nat.{◌+◌, ◌≤◌}
+use mathlib.Core.Path.{sym, ap, ◌∙◌}
 use native.Mathlib.Omega.{arith}
-use lib.ListN.{length}
-use Rattle.stored_value.proofs.LiteralWalk.{walk_stands, walk_within}
-use Rattle.stored_value.proofs.Comparing.{unlisted_first, unlisted_done, unlisted_found, unlisted_next}
+use Rattle.std.specs.Prelude.{Ok}
+use Rattle.stored_value.specs.Meaning as meaning
+use Rattle.stored_value.proofs.Places.{all_in, inside, unlisted, listed_here, listed_behind}
 use Rattle.stored_value.proofs.listed.Goals as goal
-use Rattle.stored_value.proofs.listed.Goals.{After-known_size}
 
-pub loop-p-init : goal.loop-p-init
-loop-p-init c =
+pub invariant_of-literal-items : goal.invariant_of-literal-items
+invariant_of-literal-items c =
     let a = c.args in
-    (omega arith, unlisted_first a.t a.literals.now a.v.now)
+    record { stand = (omega arith, c.requires.1 ∙ ap Ok (sym (all_in a.t a.literals.now c.requires.0 c.requires.1))) }
 
-pub known_size-requires : goal.known_size-requires
-known_size-requires c =
-    let pre = c.requires in
-    walk_stands c.loop-p.invariant.1.walk pre.0 pre.1 c.loop-p-test.true
-
--- the literal's size, and that it is there
-within : (c : After-known_size)
-    → (1 ≤ c.known_size.result) × (c.loop-p.p + c.known_size.result ≤ length c.args.literals.now)
-within c =
-    let pre = c.requires in
-    walk_within c.loop-p.invariant.1.walk pre.0 pre.1 c.loop-p-test.true c.known_size.result c.known_size.ensures
+pub loop-literal-init : goal.loop-literal-init
+loop-literal-init c =
+    let a = c.args in
+    let x = inside a.t a.literals.now c.requires.0 c.requires.1 in
+    let y = all_in a.t a.literals.now c.requires.0 c.requires.1 in
+    let g = c.into_iter-literal-iterator.ensures.into_iter_gives in
+    record { inside = rw (g, y) x.0; left = rw (g, y) (ap (meaning.listed a.v.now) x.1) }
 
 pub returns-then-same : goal.returns-then-same
-returns-then-same c =
-    unlisted_found c.loop-p.invariant.1 c.loop-p-test.true c.known_size.result c.known_size.ensures c.same.ensures
-    c.if-same.true
+returns-then-same c = λ ls e.
+    let a = c.args in
+    listed_here a.v.now a.literals.now _ _ c.loop-literal.invariant.left c.in-Some.literal _ c.in-Some.ensures.steps c.same.ensures c.if-same.true
+    ∙ ap (meaning.listed a.v.now) (all_in a.t a.literals.now ls e)
 
-pub loop-p-preserved : goal.loop-p-preserved
-loop-p-preserved c =
-    let pre = c.requires in (
-      omega (arith, within (goal.at.loop-p-preserved c).After-known_size),
-      unlisted_next c.loop-p.invariant.1 c.loop-p-test.true c.known_size.result c.known_size.ensures c.same.ensures
-          c.if-same.false pre.0 pre.1,
-    )
+pub loop-literal-preserved : goal.loop-literal-preserved
+loop-literal-preserved c =
+    let a = c.args in
+    let l = c.loop-literal.invariant in
+    record {
+      inside = (rw c.in-Some.ensures.steps at l.inside).2;
+      left = listed_behind a.v.now a.literals.now _ _ l.left c.in-Some.literal _ c.in-Some.ensures.steps c.same.ensures c.if-same.false;
+    }
 
 pub returns : goal.returns
-returns c = unlisted_done c.loop-p.invariant.1 c.loop-p-test.false
-
-pub overflow_add-end : goal.overflow_add-end
-overflow_add-end c = omega (arith, within c)
-
-pub slice_bounds-same-end : goal.slice_bounds-same-end
-slice_bounds-same-end c = omega (arith, within c)
-
-pub loop-p-smaller : goal.loop-p-smaller
-loop-p-smaller c = omega (arith, within (goal.at.loop-p-smaller c).After-known_size)
+returns c = λ ls e.
+    let a = c.args in
+    unlisted a.v.now a.literals.now _ _ c.loop-literal.invariant.left c.in-None.ensures.steps.0 ∙ ap (meaning.listed a.v.now) (all_in a.t a.literals.now ls e)

@@ -1,76 +1,79 @@
 use Prim.Native.Nat.{ℕ, ◌+◌, ◌≤◌}
-use mathlib.Core.Path.{◌≡◌, refl, sym, ◌∙◌}
+use mathlib.Core.Path.{◌≡◌, refl, sym, ap, ◌∙◌}
 use mathlib.Core.List.{List, [], ◌∷◌, ◌++◌}
 use native.Mathlib.Omega.{arith}
+use borrow.Author.Rules.{rules}
 use lib.ListN.{length, take, drop, length-append}
 use Rattle.refusal.specs.declared.Refusal.TheVariants.{Literal}
-use Rattle.std.specs.Prelude.{Ok}
+use Rattle.std.specs.Prelude.{Ok, Err}
 use Rattle.stored_value.specs.Meaning.{most_literals}
+use Rattle.stored_value.specs.Promises.{counted}
 use Rattle.stored_value.specs.Reading as reading
-use Rattle.stored_value.proofs.Steps.{size_refused, size-bytes, size_within, counts_refused, counts_literals, literals_done, turn_full, turn_refused, turn_next}
+use Rattle.stored_value.proofs.Steps.{size_within, literals_done, turn_full, turn_refused, turn_next}
 use Rattle.stored_value.proofs.literals.Goals as goal
-use Rattle.stored_value.proofs.literals.Goals.{In-Bytes}
+use Rattle.stored_value.proofs.literals.Goals.{In_ok-at}
 
-pub loop-p-init : goal.loop-p-init
-loop-p-init c = ([], refl, omega arith, omega arith, refl)
+pub loop-at-init : goal.loop-at-init
+loop-at-init c = ([], refl, omega arith, omega arith, refl)
 
-pub returns-then-i-eq-MOST_LITERALS : goal.returns-then-i-eq-MOST_LITERALS
-returns-then-i-eq-MOST_LITERALS c =
-    let l = c.loop-p in
+pub returns-then-count-eq-MOST_LITERALS : goal.returns-then-count-eq-MOST_LITERALS
+unfolding counted
+returns-then-count-eq-MOST_LITERALS c =
+    let l = c.loop-at in
     let a = c.args in
-    counts_refused (sym l.invariant.4 ∙ turn_full a.t most_literals l.i l.invariant.0 a.s.now l.p (omega arith) (omega arith))
+    ap counted (sym (turn_full a.t most_literals l.count l.invariant.0 a.s.now l.at (omega arith) (omega arith)) ∙ l.invariant.4)
 
-pub returns-in-Refused : goal.returns-in-Refused
-returns-in-Refused c =
-    let l = c.loop-p in
+pub returns-in_err-at : goal.returns-in_err-at
+unfolding counted
+returns-in_err-at c =
+    let l = c.loop-at in
     let a = c.args in
-    let z = c.size in
-    let r = c.in-Refused.r in
-    let v = size_refused (reading.value_size Literal Literal a.t (drop l.p a.s.now)) z.result r z.ensures c.in-Refused.is in
-    counts_refused (sym l.invariant.4 ∙ turn_refused a.t most_literals l.i l.invariant.0 a.s.now l.p (omega arith) (omega arith) r v)
+    let r = c.in_err-at.field-0.0 in
+    let v : reading.value_size Literal Literal a.t (drop l.at a.s.now) ≡ Err r = sym c.size.ensures ∙ c.in_err-at.was in
+    let e : counted (reading.literals a.t most_literals [] a.s.now) ≡ Err r
+    = ap counted (sym l.invariant.4 ∙ turn_refused a.t most_literals l.count l.invariant.0 a.s.now l.at (omega arith) (omega arith) r v) in
+    rw e (search rules)
 
 -- the value that was found
-found : (c : In-Bytes)
-    → let l = c.loop-p in
+found : (c : In_ok-at)
+    → let l = c.loop-at in
     let a = c.args in
-    reading.value_size Literal Literal a.t (drop l.p a.s.now) ≡ Ok c.in-Bytes.n
-found c =
-    let l = c.loop-p in
-    let a = c.args in
-    let z = c.size in
-    size-bytes (reading.value_size Literal Literal a.t (drop l.p a.s.now)) z.result c.in-Bytes.n z.ensures c.in-Bytes.is
+    reading.value_size Literal Literal a.t (drop l.at a.s.now) ≡ Ok c.in_ok-at.field-0
+found c = sym c.size.ensures ∙ c.in_ok-at.was
 
 -- its size, and that it is there
-within : (c : In-Bytes)
-    → let l = c.loop-p in
+within : (c : In_ok-at)
+    → let l = c.loop-at in
     let a = c.args in
-    (1 ≤ c.in-Bytes.n) × (l.p + c.in-Bytes.n ≤ length a.s.now)
+    (1 ≤ c.in_ok-at.field-0) × (l.at + c.in_ok-at.field-0 ≤ length a.s.now)
 within c =
-    let l = c.loop-p in
+    let l = c.loop-at in
     let a = c.args in
-    size_within Literal Literal a.t a.s.now l.p c.in-Bytes.n l.invariant.3 (found c)
+    size_within Literal Literal a.t a.s.now l.at c.in_ok-at.field-0 l.invariant.3 (found c)
 
-pub overflow_add-p : goal.overflow_add-p
-overflow_add-p c = omega (arith, within c)
+pub overflow_add-at : goal.overflow_add-at
+overflow_add-at c = omega (arith, within c)
 
-pub loop-p-smaller : goal.loop-p-smaller
-loop-p-smaller c = omega (arith, within c)
+pub loop-at-smaller : goal.loop-at-smaller
+loop-at-smaller c = omega (arith, within c)
 
-pub loop-p-preserved : goal.loop-p-preserved
-loop-p-preserved c =
-    let l = c.loop-p in
+pub loop-at-preserved : goal.loop-at-preserved
+loop-at-preserved c =
+    let l = c.loop-at in
     let a = c.args in
-    let n = c.in-Bytes.n in
-    let v : List ℕ = take n (drop l.p a.s.now) in (
+    let n = c.in_ok-at.field-0 in
+    let v : List ℕ = take n (drop l.at a.s.now) in (
       l.invariant.0 ++ (v ∷ []),
       simp length-append (omega arith),
       omega arith,
       (within c).1,
-      sym (turn_next a.t most_literals l.i l.invariant.0 a.s.now l.p (omega arith) (omega arith) n (found c)) ∙ l.invariant.4,
+      sym (turn_next a.t most_literals l.count l.invariant.0 a.s.now l.at (omega arith) (omega arith) n (found c)) ∙ l.invariant.4,
     )
 
 pub returns : goal.returns
+unfolding counted
 returns c =
-    let l = c.loop-p in
+    let l = c.loop-at in
     let a = c.args in
-    counts_literals l.invariant.0 l.invariant.1 (sym l.invariant.4 ∙ literals_done a.t most_literals l.i l.invariant.0 a.s.now l.p (omega arith))
+    ap Ok (sym l.invariant.1)
+    ∙ ap counted (sym (literals_done a.t most_literals l.count l.invariant.0 a.s.now l.at (omega arith)) ∙ l.invariant.4)

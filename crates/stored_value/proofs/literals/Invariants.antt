@@ -7,10 +7,10 @@ use Rattle.stored_value.specs.Meaning.{most_literals}
 use Rattle.stored_value.specs.Reading as reading
 use Rattle.stored_value.proofs.literals.Given as goal
 
-abbrev pub invariant-loop-p : goal.invariant-loop-p
-invariant-loop-p l =
-    (ls : List (List ℕ)) × (length ls ≡ l.i) × (l.i ≤ most_literals) × (l.p ≤ length l.s)
-    × (reading.literals l.t (most_literals - l.i) ls (drop l.p l.s) ≡ reading.literals l.t most_literals [] l.s)
+abbrev pub invariant-loop-at : goal.invariant-loop-at
+invariant-loop-at l =
+    (ls : List (List ℕ)) × (length ls ≡ l.count) × (l.count ≤ most_literals) × (l.at ≤ length l.s)
+    × (reading.literals l.t (most_literals - l.count) ls (drop l.at l.s) ≡ reading.literals l.t most_literals [] l.s)
 
-abbrev pub decreases-loop-p : goal.decreases-loop-p
-decreases-loop-p l = length l.s - l.p
+abbrev pub decreases-loop-at : goal.decreases-loop-at
+decreases-loop-at l = length l.s - l.at

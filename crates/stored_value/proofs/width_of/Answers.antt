@@ -8,7 +8,7 @@ use Rattle.stored_value.proofs.width_of.Goals as goal
 
 pub returns-then-t-lt-TYPES : goal.returns-then-t-lt-TYPES
 unfolding width
-returns-then-t-lt-TYPES c = (c.wide.ensures, omega (arith, c.wide.ensures, width-le c.args.t))
+returns-then-t-lt-TYPES c = (c.from.ensures, omega (arith, c.from.ensures, width-le c.args.t))
 
 pub returns : goal.returns
 unfolding width

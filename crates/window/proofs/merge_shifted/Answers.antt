@@ -17,7 +17,7 @@ loop-i-preserved c =
     let bits = c.args.bits.now in
     let i = c.loop-i.i in (
       omega arith,
-      marks_part c.loop-i.invariant.1 (bytes_next bits (λ j. (c.shared_slice_known-1.given j).fits) (length bits - 1) c.args.shift i (omega arith) (omega arith))
+      marks_part c.loop-i.invariant.1 (bytes_next bits (λ j. (c.type_inv.bits j).fits) (length bits - 1) c.args.shift i (omega arith) (omega arith))
           (bits_as (i * 8) c.shifted_byte-byte.ensures c.mark_byte-seen.ensures),
     )
 

@@ -1,8 +1,5 @@
--- `merge_shifted` meets its contract. The loop's invariant: the bits of the bytes that are left, moved and marked from here, give the whole (`bytes_next`,
--- `shifted_done`).
-use Prim.Native.Nat.{◌+◌, ◌-◌, ◌*◌}
-use mathlib.Core.Path.{◌≡◌}
-use lib.ListN.{length}
+-- The bits of the bytes that are left, moved and marked from here, give the whole (`bytes_next`, `shifted_done`).
+use Rattle.std.proofs.Common.{◌≡◌, ◌+◌, ◌-◌, ◌*◌, length}
 use Rattle.row_field.proofs.Loops.{Marks}
 use Rattle.window.specs.Promises.{moved}
 use Rattle.window.proofs.merge_shifted.Given as goal
@@ -11,6 +8,3 @@ abbrev pub invariant-loop-i : goal.invariant-loop-i
 invariant-loop-i l =
     (length l.part ≡ length l.initial.part)
     × Marks (moved l.bits l.shift 0 ((length l.bits - 1) * 8)) l.initial.part (moved l.bits (l.i * 8 + l.shift) (l.i * 8) ((length l.bits - 1 - l.i) * 8)) l.part l.seen
-
-abbrev pub decreases-loop-i : goal.decreases-loop-i
-decreases-loop-i l = l.end - l.i

@@ -8,10 +8,10 @@ returns-then-count-eq0 c =
     let a = c.args in
     within_none a.part.now a.bits.now a.at.0 a.from a.count a.shift c.if-count-eq0.true
 
-pub returns-then-part-p : goal.returns-then-part-p
-returns-then-part-p c =
+pub returns-then-part-at : goal.returns-then-part-at
+returns-then-part-at c =
     let a = c.args in
-    within_past a.part.now a.bits.now a.at.0 a.from a.count a.shift c.if-part-p.true
+    within_past a.part.now a.bits.now a.at.0 a.from a.count a.shift c.if-part-at.true
 
 pub returns : goal.returns
 returns c =

@@ -1,0 +1,51 @@
+-- Laws of bytes that are laid out.
+use Rattle.std.proofs.Common.{◌≡◌, ℕ, zero, suc, ◌+◌, ◌*◌, ◌%◌, ◌<◌, ◌≤◌, min, List, [], ◌∷◌, ◌++◌, length, get_or, take, sym, refl, ap, ◌∙◌, append_assoc, append-nil, take_all, arith}
+use Rattle.std.specs.Int.{w16, to_le_bytes}
+use Rattle.case_lines.specs.Promises.{rising, digit_of, hex_bytes}
+
+-- what is appended to what there was room for has the room that is left
+pub take_again : (r : ℕ) (s more : List ℕ) → take r (take r s ++ more) ≡ take r (s ++ more)
+take_again zero s more = refl
+take_again (suc r) [] more = refl
+take_again (suc r) (x ∷ s) more = ap (λ (l : List ℕ). x ∷ l) (take_again r s more)
+
+-- one step: what is appended is the front of what is to come
+pub appended : (r : ℕ) (s front rest whole : List ℕ) → whole ≡ front ++ rest → take r (take r (s ++ front) ++ rest) ≡ take r (s ++ whole)
+appended r s front rest whole e = take_again r (s ++ front) rest ∙ rw (e, append_assoc) refl
+
+pub appended_all : (r : ℕ) (s : List ℕ) → length s ≤ r → take r (s ++ []) ≡ s
+appended_all r s h = rw append-nil (take_all r s h)
+
+pub rising_next : (n k number step : ℕ) → n ≡ k + 1 → rising n number step ≡ to_le_bytes w16 number ++ rising k ((number + step) % 65536) step
+unfolding rising
+rising_next n k number step e = let f : n ≡ suc k = omega arith in rw f refl
+
+pub rising_done : (n number step : ℕ) → n ≡ 0 → rising n number step ≡ []
+unfolding rising
+rising_done n number step e = rw e refl
+
+-- where nothing is left to append, the bytes are the whole
+pub finished : (r : ℕ) (s left whole : List ℕ) → left ≡ [] → length s ≤ r → take r (s ++ left) ≡ whole → s ≡ whole
+finished r s left whole e h w = let done : take r (s ++ []) ≡ whole = rw e at w in sym (appended_all r s h) ∙ done
+
+pub hex_done : (s : List ℕ) → length s ≡ 0 → hex_bytes s ≡ []
+unfolding hex_bytes
+hex_done [] h = refl
+hex_done (b ∷ s) h = absurd (omega (arith, h))
+
+-- the digits of a byte, at most three bytes of what is left: with fewer than two there is no byte
+pub hex_short : (pair rest : List ℕ) → length pair ≡ min 3 (length (pair ++ rest)) → length pair < 2 → hex_bytes (pair ++ rest) ≡ hex_bytes rest
+unfolding hex_bytes
+hex_short [] rest n h = refl
+hex_short (a ∷ []) [] n h = refl
+hex_short (a ∷ []) (x ∷ rest) n h = absurd (omega (arith, n))
+hex_short (a ∷ b ∷ pair) rest n h = absurd (omega (arith, h))
+
+pub hex_long : (pair rest : List ℕ) → length pair ≡ min 3 (length (pair ++ rest)) → 2 ≤ length pair → hex_bytes (pair ++ rest) ≡ (digit_of (get_or pair 0 0) * 16 + digit_of (get_or pair 1 0)) ∷ hex_bytes rest
+unfolding hex_bytes
+hex_long [] rest n h = absurd (omega (arith, h))
+hex_long (a ∷ []) rest n h = absurd (omega (arith, h))
+hex_long (a ∷ b ∷ []) [] n h = refl
+hex_long (a ∷ b ∷ []) (x ∷ rest) n h = absurd (omega (arith, n))
+hex_long (a ∷ b ∷ c ∷ []) rest n h = refl
+hex_long (a ∷ b ∷ c ∷ d ∷ pair) rest n h = absurd (omega (arith, n))

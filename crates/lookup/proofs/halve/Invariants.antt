@@ -1,9 +1,0 @@
--- `halve` meets its contract by `Halves`: each turn leaves fewer blocks in doubt.
-use Rattle.lookup.proofs.HalveLoop.{Halves}
-use Rattle.lookup.proofs.halve.Given as goal
-
-abbrev pub invariant-loop-many : goal.invariant-loop-many
-invariant-loop-many l = Halves l.t l.literal l.table l.body l.blocks l.low l.many l.at l.compared
-
-abbrev pub decreases-loop-many : goal.decreases-loop-many
-decreases-loop-many l = l.many
