@@ -36,9 +36,10 @@ pub fn le<const N: usize>(s: &[u8], at: Position) -> u64
     ensures value { result ≡ le_at N s.now at.0 }
     ensures below { result < 256 ^ N }
 {
+    // Each byte at its own place, and not 256 times what is there and one more: of eight bytes the compiler then makes one load.
     let mut x = 0;
     for i in 0..N {
-        x = x * 256 + u64::from(s[at.0 + (N - 1 - i)]);
+        x += u64::from(s[at.0 + i]) << (8 * i);
     }
     x
 }
@@ -71,6 +72,7 @@ const WORD: usize = 8;
 const HALF: usize = 4;
 
 // The last word may overlap the one before, here and in `same_halves`. Here it is compared first: names often differ in their last bytes alone.
+#[inline]
 fn same_words(a: &[u8], b: &[u8]) -> bool
     requires { (length a.now ≡ length b.now) × (8 ≤ length a.now) }
     ensures { result ≡ meaning.same a.now b.now }
@@ -87,6 +89,7 @@ fn same_words(a: &[u8], b: &[u8]) -> bool
     true
 }
 
+#[inline]
 fn same_halves(a: &[u8], b: &[u8]) -> bool
     requires { (length a.now ≡ length b.now) × (4 ≤ length a.now) × (length a.now ≤ 8) }
     ensures { result ≡ meaning.same a.now b.now }
@@ -100,6 +103,7 @@ fn same_halves(a: &[u8], b: &[u8]) -> bool
 
 /// Whether two slices have the same bytes.
 // Not `a == b` throughout: for names of 4 to 64 bytes that begin alike it took 5.6 to 7.5 ns, this 0.7 to 5.6.
+#[inline]
 pub fn same(a: &[u8], b: &[u8]) -> bool
     ensures { result ≡ meaning.same a.now b.now }
 {

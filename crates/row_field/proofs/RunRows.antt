@@ -89,13 +89,14 @@ or-full x h = omega (arith, or_add_and x 255, and_mask x 8, mod-eq_of_lt h)
 and-full : (x : ℕ) → x < 256 → bit_and x 255 ≡ x
 and-full x h = and_mask x 8 ∙ mod-eq_of_lt h
 
-pub full_marked : (f : List ℕ) (i : ℕ) → i < length f → get_or f i 0 < 256 → MarkedInTurn f (set f i 255) (byte_rows 255 (i * 8) 8) (not (eqb (get_or f i 0) 0))
-full_marked f i l b = rw (or-full (get_or f i 0) b, and-full (get_or f i 0) b) at (byte_marked f i 255 l (omega arith))
+pub full_marked : (f : List ℕ) (i : ℕ) → i < length f → get_or f i 0 < 256 → {v : ℕ} → v ≡ 255
+    → MarkedInTurn f (set f i v) (byte_rows 255 (i * 8) 8) (not (eqb (get_or f i 0) 0))
+full_marked f i l b e = rw e (rw (or-full (get_or f i 0) b, and-full (get_or f i 0) b) at (byte_marked f i 255 l (omega arith)))
 
-pub fill_next : (f : List ℕ) (to i : ℕ) → i < to → i < length f → get_or f i 0 < 256
-    → mark_all (set f i 255) (up_to ((i + 1) * 8) ((to - (i + 1)) * 8)) ≡ mark_all f (up_to (i * 8) ((to - i) * 8))
-fill_next f to i h l b =
-    let m : set f i 255 ≡ mark_all f (byte_rows 255 (i * 8) 8) = (full_marked f i l b).marked in
+pub fill_next : (f : List ℕ) (to i : ℕ) → i < to → i < length f → get_or f i 0 < 256 → {v : ℕ} → v ≡ 255
+    → mark_all (set f i v) (up_to ((i + 1) * 8) ((to - (i + 1)) * 8)) ≡ mark_all f (up_to (i * 8) ((to - i) * 8))
+fill_next f to i h l b {v} e =
+    let m : set f i v ≡ mark_all f (byte_rows 255 (i * 8) 8) = (full_marked f i l b e).marked in
     rw (bytes_next to i h, mark_all-append f (byte_rows 255 (i * 8) 8) (up_to ((i + 1) * 8) ((to - (i + 1)) * 8)), m)
 
 -- ---- a run: within one byte, or in a first byte, whole bytes and a last byte

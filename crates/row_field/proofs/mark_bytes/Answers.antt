@@ -16,10 +16,10 @@ loop-i-preserved g c =
     let l = c.loop-i in
     let to = c.args.to.0 in (
       simp length-set l.invariant.0,
-      bytes-set l.field l.i 255 l.invariant.1 (omega arith),
-      fill_next l.field to l.i (omega arith) (omega arith) (l.invariant.1 l.i) ∙ l.invariant.2,
+      bytes-set l.field l.i _ l.invariant.1 (omega arith),
+      fill_next l.field to l.i (omega arith) (omega arith) (l.invariant.1 l.i) (omega arith) ∙ l.invariant.2,
       elim c.if-this-ne0.branch [
-        | then-this-ne0 w ↦ λ told. rw w.seen-is (marks_bits l.seen (get_or l.field l.i 0) (l.invariant.3 told) (bytes_next to l.i (omega arith)) (full_marked l.field l.i (omega arith) (l.invariant.1 l.i)))
+        | then-this-ne0 w ↦ λ told. rw w.seen-is (marks_bits l.seen (get_or l.field l.i 0) (l.invariant.3 told) (bytes_next to l.i (omega arith)) (full_marked l.field l.i (omega arith) (l.invariant.1 l.i) (omega arith)))
         | else-this-ne0 w ↦ λ told. absurd (search (rules, told, w.if-this-ne0.false))
       ],
     )
