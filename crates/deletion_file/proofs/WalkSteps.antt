@@ -1,18 +1,22 @@
 -- The search for a bin by steps.
 use Prim.Native.Nat.{ℕ, zero, suc, ◌+◌, ◌-◌, ◌<◌, ◌≤◌}
-use mathlib.Core.Path.{◌≡◌, refl, sym, ◌∙◌}
+use mathlib.Core.Path.{◌≡◌, refl, sym, ap, ◌∙◌}
 use mathlib.Core.Logic.{◌≢◌}
 use mathlib.Core.List.{List, ◌∷◌}
 use native.Mathlib.Omega.{arith}
 use lib.ListN.{length, take, drop, length-drop}
+use lib.Seq.{drop-drop}
 use Rattle.std.proofs.Math.Seq.{take-length}
+use Rattle.numbers.specs.Meaning.{be_at, big}
+use Rattle.numbers.proofs.Laws.{number_at-drop}
 use Rattle.refusal.specs.declared.Refusal.{Refusal}
 use Rattle.refusal.specs.declared.Refusal.TheVariants.{NoBin}
 use Rattle.std.specs.Prelude.{Option, Some, None, Result, Err, Ok}
+use Rattle.std.specs.Option.{ok_or}
 use Rattle.refusal.specs.Reading.{and_then}
 use Rattle.refusal.proofs.Laws.{then_same}
 use Rattle.deletion_file.specs.declared.bins.Bin as code
-use Rattle.deletion_file.specs.Promises.{plain_of}
+use Rattle.deletion_file.specs.Promises.{part, bin_from, BinFits, plain_of, StandsIn, BinAt}
 use Rattle.deletion_file.specs.Layout.{Bin}
 use Rattle.deletion_file.specs.Reading.{Next, over, bin, step_to_next_bin, bins_by, bins, bin_numbered, bin_in}
 
@@ -31,6 +35,48 @@ plain_found (Some x) = Some (plain_of x)
 -- what stands behind n bytes
 pub rest_of : {A : Type 0} (n : ℕ) (s : List A) → take (length s - n) (drop n s) ≡ drop n s
 rest_of n s = rw (sym (length-drop n s)) (take-length (drop n s))
+
+-- the number that stands behind n bytes
+pub number_behind : (n : ℕ) (s : List ℕ) → be_at 4 (drop n s) 0 ≡ be_at 4 s n
+number_behind n s = number_at-drop big 4 s n
+
+bin_same : {s t : List ℕ} {m n : ℕ} → s ≡ t → m ≡ n → ◌≡◌ {A = Bin} (record { bytes = s; sum = m }) (record { bytes = t; sum = n })
+bin_same e f = rw (e, f)
+
+-- what is left behind m bytes reaches to the end of the file
+pub left_to-end : (file : List ℕ) (m : ℕ) {left : List ℕ} → left ≡ drop m file → m ≤ length file → left ≡ drop (length file - length left) file
+left_to-end file m {left} is h =
+    let e : length file - length left ≡ m = rw is (simp length-drop (omega arith)) in
+    rw e is
+
+-- ---- the place of a bin, where k bytes of the file were passed
+
+module _ (file bytes : List ℕ) (k : ℕ) {left behind : List ℕ} (is : left ≡ drop k file) (rest : behind ≡ drop (4 + length bytes) left) where
+  behind-in : behind ≡ drop (k + (4 + length bytes)) file
+  behind-in = rest ∙ rw (is, drop-drop (4 + length bytes) k file)
+
+  pub left_behind : drop 4 behind ≡ drop (k + (4 + length bytes) + 4) file
+  left_behind = rw (behind-in, drop-drop 4 (k + (4 + length bytes)) file)
+
+  module _ (own : bytes ≡ take (length bytes) (drop 4 left)) (fits : BinFits 4 (4 + length bytes) (length left)) (all : k + length left ≡ length file) where
+    bytes-in : bytes ≡ part (k + 4) (k + 4 + length bytes) file
+    bytes-in =
+        let e : k + 4 + length bytes - (k + 4) ≡ length bytes = omega arith in
+        own ∙ rw (is, drop-drop 4 k file, e)
+
+    sum-in : be_at 4 behind 0 ≡ be_at 4 file (k + 4 + length bytes)
+    sum-in =
+        let e : k + (4 + length bytes) ≡ k + 4 + length bytes = omega arith in
+        ap (λ (s : List ℕ). be_at 4 s 0) behind-in ∙ number_behind (k + (4 + length bytes)) file ∙ rw e
+
+    pub stands_there : (record { bytes = bytes; sum = be_at 4 behind 0 } ≡ bin_from (k + 4) (k + 4 + length bytes) file)
+        × BinFits (k + 4) (k + 4 + length bytes) (length file)
+    stands_there = (bin_same bytes-in sum-in, record { magic_fits = omega arith; sum_fits = omega (arith, fits.sum_fits) })
+
+-- what was found stands in the file
+abbrev pub FoundIn : List ℕ → Option code.Bin → Type 0
+FoundIn file None = Unit
+FoundIn file (Some x) = StandsIn file x
 
 -- ---- the search: what the bins that are left say of bin b, where `passed` were passed and gave `found`
 
@@ -60,6 +106,11 @@ walk_first s b h =
 abbrev pub in_the_end : Option Bin → Result Bin Refusal
 in_the_end None = Err NoBin
 in_the_end (Some x) = Ok x
+
+pub found_there : (file : List ℕ) {whole : Result Bin Refusal} (found : Option code.Bin) → whole ≡ in_the_end (plain_found found) → FoundIn file found
+    → BinAt whole file (ok_or found NoBin)
+found_there file None e w = e
+found_there file (Some x) e w = (e, w)
 
 module _ {b : ℕ} {whole : Result Bin Refusal} {left : List ℕ} {passed : ℕ} where
   -- a step, and then the others

@@ -4,8 +4,8 @@
 ghost use Rattle.std.specs.Prelude.{◌≤◌, ◌≡◌, length};
 ghost use Rattle.row_field.specs.Meaning.{cleared};
 ghost use Rattle.deletion_file.specs.Layout.{number_size};
-ghost use Rattle.deletion_file.specs.Reading.{begins_with_magic, is_true_checksum, after_magic, bitmap_in, bin_in, bin_asked_for, bitmap_marked, bin_marked, deletions_ready, deletions, deletions_buffer, left_by, counted};
-ghost use Rattle.deletion_file.specs.Promises.{FindsNext, BinIs, BytesAre, Prepares, plain_of, bitmap_shape};
+ghost use Rattle.deletion_file.specs.Reading.{begins_with_magic, is_true_checksum, after_magic, bitmap_in, bin_in, bitmap_marked, bin_marked, deletions_ready, deletions, deletions_buffer, left_by, counted};
+ghost use Rattle.deletion_file.specs.Promises.{FindsNext, BinAt, AsksBin, BytesAre, Prepares, plain_of, bitmap_shape};
 
 mod bins;
 
@@ -26,10 +26,10 @@ pub const NUMBER_SIZE: usize = 4;
 /// The entry's number in a bin's refusals.
 pub const BIN_ENTRY: u64 = 0;
 
-// One step of the walk over the bins: the bin at the front of the bytes that are left, and what stands behind its checksum; none at their end. A bin's size counts
-// its bytes alone.
-#[tactic(auto, using(std::proofs::lemmas::Grind::common_steps, crate::proofs::WalkSteps::rest_of), unfolding(refusal::specs::Reading::check, numbers::specs::Meaning::number, crate::specs::Reading::step_to_next_bin))]
-fn next_bin<'a>(left: &'a [u8]) -> Result<Option<(Bin<'a>, &'a [u8])>, Refusal>
+// One step of the walk over the bins: the bytes of the bin at the front of those that are left, and what stands behind them, its checksum first; none at their end.
+// A bin's size counts its bytes alone.
+#[tactic(auto, using(std::proofs::lemmas::Grind::common_steps, crate::proofs::WalkSteps::rest_of, crate::proofs::WalkSteps::number_behind), unfolding(refusal::specs::Reading::check, numbers::specs::Meaning::number, crate::specs::Reading::step_to_next_bin))]
+fn next_bin<'a>(left: &'a [u8]) -> Result<Option<(&'a [u8], &'a [u8])>, Refusal>
     ensures { FindsNext left.now result }
 {
     if left.is_empty() {
@@ -43,26 +43,26 @@ fn next_bin<'a>(left: &'a [u8]) -> Result<Option<(Bin<'a>, &'a [u8])>, Refusal>
     if size < NUMBER_SIZE || left.len() < size + NUMBER_SIZE {
         return Err(Refusal::Short);
     }
-    let bin = Bin {
-        bytes: &left[..size],
-        sum: numbers::be::<4>(left, Position(size)),
-    };
-    Ok(Some((bin, &left[size + NUMBER_SIZE..])))
+    Ok(Some((&left[..size], &left[size..])))
 }
 
-// The bin of this number, from 0. Every size to the end of the file is walked first.
+// The bin of this number, from 0. Every size to the end of the file is walked first; the checksums of the other bins are not read.
 fn find_bin<'a>(file: &'a [u8], bin: u64) -> Result<Bin<'a>, Refusal>
     requires { 1 ≤ length file.now }
-    ensures { BinIs (bin_in bin file.now) result }
+    ensures { BinAt (bin_in bin file.now) file.now result }
 {
     let mut left = &file[VERSION_SIZE..];
     let mut number: u64 = 0;
     let mut found = None;
-    while let Some((next, behind)) = next_bin(left)? {
+    while let Some((bytes, behind)) = next_bin(left)? {
         if number == bin {
-            found = Some(next);
+            found = Some(Bin {
+                at: Position(file.len() - left.len() + NUMBER_SIZE),
+                bytes,
+                sum: numbers::be::<4>(behind, Position(0)),
+            });
         }
-        left = behind;
+        left = &behind[NUMBER_SIZE..];
         number += 1;
     }
     found.ok_or(Refusal::NoBin)
@@ -96,9 +96,9 @@ fn behind_magic<'a>(bin: Bin<'a>) -> Result<&'a [u8], Refusal>
     Ok(&bin.bytes[NUMBER_SIZE..])
 }
 
-/// The bin of this number, from 0, of a file that isn't empty and has version 1. What the bin holds is not looked at.
+/// The bin of this number, from 0, of a file that isn't empty and has version 1, and where it stands. What the bin holds is not looked at.
 pub fn asked_bin<'a>(file: &'a [u8], bin: u64) -> Result<Bin<'a>, Refusal>
-    ensures { BinIs (bin_asked_for bin file.now) result }
+    ensures { AsksBin bin file.now result }
 {
     if file.is_empty() {
         return Err(Refusal::Short);

@@ -82,4 +82,6 @@ module _ (lo : ℕ) (s : List ℕ) where
                 is_read = rw bitmap is;
                 so = rw (i, behind, rest) (opened ∙ rw (le-leb lo index a, lt-ltb index index_end b, is));
                 below = rw i b;
+                starts = bitmap;
+                ends = (found.length, rw bitmap room, rw bitmap behind);
               }

@@ -1,20 +1,22 @@
 -- What the contracts say, in the reading's terms.
-use Rattle.std.specs.Prelude.{ℕ, ◌*◌, ◌<◌, ◌≡◌, Bool, true, false, List, Option, Some, None, Err, Ok}
+use Rattle.std.specs.Prelude.{ℕ, ◌*◌, ◌<◌, ◌≤◌, ◌≡◌, Bool, true, false, List, length, drop, Option, Some, None, Err, Ok}
 use Rattle.row_field.specs.Meaning.{mark_all, cleared, above, Below}
 use Rattle.window.specs.Meaning.{rows_in_window}
 use Rattle.roaring.specs.Reading.{Parsed, read}
 use Rattle.deletion_window.specs.declared.Indexed.{Indexed}
-use Rattle.deletion_window.specs.Layout.{index_end, index_rows}
+use Rattle.deletion_window.specs.Layout.{index_size, index_end, index_rows}
 use Rattle.deletion_window.specs.Reading.{wrong, indexed_bitmap, rows64}
 
 -- ---- a bitmap of a 64-bit bin
 
--- what was found at the front of s, behind an index of at least lo, and what is read there
+-- what was found at the front of s, right behind an index of at least lo, what is read there, and what is left behind it
 pub record FoundBitmap (lo : ℕ) (s : List ℕ) (x : Indexed) : Type 0 where
   pub bitmap : Parsed
   pub is_read : read x.bitmap.now ≡ Ok bitmap
   pub so : indexed_bitmap lo s ≡ Ok (record { index = x.index; rows = above (x.index * index_rows) bitmap.rows; behind = x.behind.now })
   pub below : x.index < index_end
+  pub starts : x.bitmap.now ≡ drop index_size s
+  pub ends : (long : ℕ) × (long ≤ length x.bitmap.now) × (x.behind.now ≡ drop long x.bitmap.now)
 
 -- `next_bitmap`: none where that is refused, or what was found
 abbrev pub FindsIndexed : ℕ → List ℕ → Option Indexed → Type 0
