@@ -4,4 +4,5 @@ pub mod ModifiedForm
 pub mod Lists
 pub mod Theorems
 pub mod Steps
+pub mod Decoding
 pub mod Text

@@ -1,13 +1,10 @@
 use Rattle.std.proofs.Common.{ap, ◌∙◌, arith}
 use Rattle.std.specs.Str.Iter.{chars_rest}
-use Rattle.names.proofs.Text.{size-long, size-other, sized_first, sized_done, sized_over, sized_next}
+use Rattle.names.proofs.Text.{size-long, sized_first, sized_done, sized_over, sized_next}
 use Rattle.names.proofs.asked_size.Goals as goal
 
 pub returns-then-asked-gt-NAME_LIMIT : goal.returns-then-asked-gt-NAME_LIMIT
 returns-then-asked-gt-NAME_LIMIT c = size-long c.args.asked.now c.if-asked-gt-NAME_LIMIT.true
-
-pub returns-in_default : goal.returns-in_default
-returns-in_default c = size-other c.args.asked.now (rw c.in_default.is at c.from_utf8.ensures.cases).0
 
 pub loop-c-init : goal.loop-c-init
 loop-c-init c = (omega arith, sized_first c.in-Ok.ensures.cases.1 (ap chars_rest c.into_iter-c-iterator.ensures.into_iter_gives ∙ c.chars-c-items.ensures.rest ∙ c.in-Ok.ensures.cases.0))

@@ -1,36 +1,39 @@
-use Rattle.std.proofs.Common.{ap, ◌∙◌, arith}
-use Rattle.std.specs.Str.Iter.{chars_rest}
-use Rattle.names.proofs.Text.{matches_longer, matches_other, matched_first, matched_done, matched_short, matched_other, matched_next}
+use Rattle.std.proofs.Common.{arith}
+use Rattle.std.proofs.lemmas.Bool.Decides.{nat_tests}
+use Rattle.names.proofs.Decoding.{first_smaller}
+use Rattle.names.proofs.Text.{matches_longer, matched_first, matched_done, matched_broken, matched_short, matched_other, matched_next}
 use Rattle.names.proofs.matches.Goals as goal
 
 pub returns-then-stored-asked : goal.returns-then-stored-asked
 returns-then-stored-asked c = let a = c.args in matches_longer a.asked.now a.stored.now c.if-stored-asked.true
 
-pub returns-in_default : goal.returns-in_default
-returns-in_default c = let a = c.args in matches_other a.asked.now a.stored.now (rw c.in_default.is at c.from_utf8.ensures.cases).0
+pub loop-rest-init : goal.loop-rest-init
+loop-rest-init c = (omega arith, matched_first c.args.asked.now c.args.stored.now)
 
-pub loop-c-init : goal.loop-c-init
-loop-c-init c =
-    (omega arith, matched_first c.args.stored.now c.in-Ok.ensures.cases.1 (ap chars_rest c.into_iter-c-iterator.ensures.into_iter_gives ∙ c.chars-c-items.ensures.rest ∙ c.in-Ok.ensures.cases.0))
+pub returns-in_default : goal.returns-in_default
+returns-in_default c = matched_broken c.loop-rest.invariant.1 (grind (arith, nat_tests)) (rw c.in_default.is at c.first_point.ensures)
 
 pub returns-then-stored-q : goal.returns-then-stored-q
 returns-then-stored-q c =
-    matched_short c.loop-c.invariant.1 c.in-Some.c _ c.in-Some.ensures.steps.0 (rw c.from-value.ensures at c.modified_size-size.ensures.0) c.if-stored-q.true
+    matched_short c.loop-rest.invariant.1 c.in-Some.value c.in-Some.left.now (rw c.in-Some.is at c.first_point.ensures) c.modified_size-size.ensures.0 c.if-stored-q.true
 
 pub modified_at-requires : goal.modified_at-requires
 modified_at-requires c = omega (arith, c.modified_size-size.ensures.0)
 
 pub returns-then-not-modified_at : goal.returns-then-not-modified_at
 returns-then-not-modified_at c =
-    matched_other c.loop-c.invariant.1 c.in-Some.c _ c.in-Some.ensures.steps.0 (rw c.from-value.ensures at c.modified_size-size.ensures.0)
-    (rw c.from-value.ensures at c.modified_at.ensures) c.if-not-modified_at.true
+    matched_other c.loop-rest.invariant.1 c.in-Some.value c.in-Some.left.now (rw c.in-Some.is at c.first_point.ensures) c.modified_size-size.ensures.0
+    c.modified_at.ensures c.if-not-modified_at.true
 
-pub loop-c-preserved : goal.loop-c-preserved
-loop-c-preserved c = (
+pub loop-rest-smaller : goal.loop-rest-smaller
+loop-rest-smaller c = first_smaller c.in-Some.value c.in-Some.left.now c.loop-rest.rest.now (rw c.in-Some.is at c.first_point.ensures)
+
+pub loop-rest-preserved : goal.loop-rest-preserved
+loop-rest-preserved c = (
   omega arith,
-  matched_next c.loop-c.invariant.1 c.in-Some.c _ c.in-Some.ensures.steps.0 (rw c.from-value.ensures at c.modified_size-size.ensures.0)
-      (rw c.from-value.ensures at c.modified_at.ensures) c.if-not-modified_at.false,
+  matched_next c.loop-rest.invariant.1 c.in-Some.value c.in-Some.left.now (rw c.in-Some.is at c.first_point.ensures) c.modified_size-size.ensures.0
+      c.modified_at.ensures c.if-not-modified_at.false,
 )
 
 pub returns : goal.returns
-returns c = matched_done c.loop-c.invariant.1 c.in-None.ensures.steps.0.0 c.loop-c.invariant.0
+returns c = matched_done c.loop-rest.invariant.1 (grind (arith, nat_tests)) c.loop-rest.invariant.0
