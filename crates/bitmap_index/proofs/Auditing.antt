@@ -15,12 +15,12 @@ use Rattle.refusal.specs.declared.Refusal.TheVariants.{Missing, Room, Limit}
 use Rattle.row_field.specs.Meaning.{cleared, size, count, first_clear_row}
 use Rattle.row_field.proofs.Counts.{none_counted, count-le, length-zeroed, zeroed-again, bit-zeroed}
 use Rattle.std.specs.Prelude.{Result, Err, Ok}
-use Rattle.refusal.specs.Reading.{check, and_then}
+use Rattle.refusal.specs.Reading.{check, and_then, numbers_of, fault_in}
 use Rattle.dictionary.specs.declared.Summary.{Summary}
 use Rattle.dictionary.specs.Reading.{Dictionary, dictionary}
 use Rattle.dictionary.specs.Layout.{Entry}
 use Rattle.dictionary.specs.Promises.{dictionary_of, Summarizes, IsRead, ReadsDictionary}
-use Rattle.bitmap_index.specs.Reading.{first_number, room_for, prepared, audited, audit, zeroed_from, audit_buffer, audit_out, audit_fault}
+use Rattle.bitmap_index.specs.Reading.{first_number, room_for, prepared, audited, audit, zeroed_from, audit_buffer, audit_out, audit_numbers, audit_fault}
 use Rattle.bitmap_index.specs.Promises.{AuditPromise, ForDictionary, Prepares, Ready, Places, place_in, PlacesNull, AuditsZero, AuditsField}
 use Rattle.bitmap_index.proofs.PlacingEntries.{null_refused, values_refused, both_placed}
 use Rattle.bitmap_index.proofs.NullRows.{nulls_counted}
@@ -110,10 +110,20 @@ module _ (t : ℕ) (s f : List ℕ) where
 
 -- ---- the whole
 
+-- the numbers are those of the answer, and so is the fault
+audit_numbers_lem : (o : Result ℕ Refusal) → audit_out o ≡ numbers_of 0 audit_numbers o
+unfolding audit_out numbers_of
+audit_numbers_lem (Err r) = refl
+audit_numbers_lem (Ok n) = refl
+
+audit_fault_lem : (o : Result ℕ Refusal) → audit_fault o ≡ fault_in o
+unfolding audit_fault fault_in
+audit_fault_lem (Err r) = refl
+audit_fault_lem (Ok n) = refl
+
 module _ (t : ℕ) (s f : List ℕ) where
   audit_says : {r : Result ℕ Refusal} {after : List ℕ} → r ≡ audit t s f → after ≡ audit_buffer t s f → AuditPromise t s f after r
-  unfolding audit_out audit_fault
-  audit_says e b = record { answer = e; buffer = b; numbers = rw e refl; fault = rw e refl }
+  audit_says e b = record { answer = e; buffer = b; numbers = rw e (audit_numbers_lem (audit t s f)); fault = rw e (audit_fault_lem (audit t s f)) }
 
   pub is_ready : {h : Summary} → Prepares t s f (Ok h) → Ready t s h f
   is_ready d = record { is_read = d.0; room = (prepared_back t s f _ d.1).2 }

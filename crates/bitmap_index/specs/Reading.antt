@@ -3,7 +3,7 @@
 use Rattle.std.specs.Prelude.{ℕ, ◌+◌, not, ◌&&◌, cond, List, [], ◌∷◌, eqb, ltb, leb, ℤ, pos, negsuc, length, drop, Result, Err, Ok}
 use Rattle.numbers.specs.Meaning.{signed32, minus_one_32, row}
 use Rattle.refusal.specs.declared.Refusal.{Refusal}
-use Rattle.refusal.specs.Meaning.{limit}
+use Rattle.refusal.specs.Meaning.{limit, number_of, fault_of, no_fault}
 use Rattle.refusal.specs.declared.Refusal.TheVariants.{Bitmap, Range, Twice, Missing, Room, Literal, Limit}
 use Rattle.row_field.specs.Meaning.{size, bit, mark, mark_all, any_set, count, first_clear_row, cleared}
 use Rattle.subtract.specs.declared.Answer.{Answer as Said}
@@ -12,7 +12,7 @@ use Rattle.subtract.specs.Meaning.{numbers_of_record, no_record, answer_of, said
 use Rattle.roaring.specs.declared.Extent.{Extent}
 use Rattle.roaring.specs.declared.Extent.TheVariants.{AsLong, Exactly}
 use Rattle.roaring.specs.Reading.{container_of, read, measured, end_of, rows_read}
-use Rattle.refusal.specs.Reading.{check, and_then, refused_as, numbers_of, fault_in}
+use Rattle.refusal.specs.Reading.{check, and_then, refused_as}
 use Rattle.stored_value.specs.Meaning.{types, most_literals, Cell, null, value}
 use Rattle.stored_value.specs.Reading.{literals}
 use Rattle.dictionary.specs.Layout.{Entry}
@@ -164,11 +164,13 @@ abbrev pub audit_numbers : ℕ → ℕ × ℕ
 audit_numbers n = (0, n)
 
 unfoldable pub audit_out : Result ℕ Refusal → ℕ × ℕ
-audit_out r = numbers_of 0 audit_numbers r
+audit_out (Err r) = (number_of r, 0)
+audit_out (Ok n) = (0, n)
 
--- where the answer's fault is, in three numbers
+-- where the answer's fault is, in three numbers: refusal's `fault_in` of the reading
 unfoldable pub audit_fault : Result ℕ Refusal → List ℕ
-audit_fault r = fault_in r
+audit_fault (Err r) = fault_of r
+audit_fault (Ok n) = no_fault
 
 -- Ask's: a refusal, or skip or keep with the record
 unfoldable pub answered_by : Result Answer Refusal → Result Said Refusal
@@ -183,7 +185,9 @@ abbrev pub said_numbers : Said → ℕ × List ℕ
 said_numbers a = (0, numbers_of_record (said_of a))
 
 unfoldable pub ask_out : Result Said Refusal → ℕ × List ℕ
-ask_out r = numbers_of no_record said_numbers r
+ask_out (Err r) = (number_of r, no_record)
+ask_out (Ok a) = (0, numbers_of_record (said_of a))
 
 unfoldable pub ask_fault : Result Said Refusal → List ℕ
-ask_fault r = fault_in r
+ask_fault (Err r) = fault_of r
+ask_fault (Ok a) = no_fault

@@ -275,12 +275,13 @@ pub fn place_at<const TELL: bool>(
     }
 }
 
-/// Places null's rows, if it has an entry, in a field that is clear, and says how many they are: with `COUNTED` by the ones in the field, else by what the bitmap
+/// Places null's rows, if it has an entry, in a field that is clear, and says how many they are: if `counted` by the ones in the field, else by what the bitmap
 /// says of itself.
-pub fn place_null<const COUNTED: bool>(
+pub fn place_null(
     field: &mut [u8],
     body: &[u8],
     summary: Summary,
+    counted: bool,
 ) -> Result<u64, Refusal>
     requires { (summary.region.0 ≤ length body.now) × (size summary.rows ≤ length field.old) × (count field.old summary.rows ≡ 0) }
     ensures { PlacesNull body.now summary field.old field.new result }
@@ -297,7 +298,7 @@ pub fn place_null<const COUNTED: bool>(
         summary.rows,
         NULL_NUMBER,
     )?;
-    if !COUNTED {
+    if !counted {
         return Ok(placed);
     }
     Ok(row_field::count(field, summary.rows))
@@ -344,20 +345,29 @@ fn place_values<const TELL: bool>(
 // Audits the bitmaps of a dictionary in a field that is clear, and says how many rows null has: null's rows are placed, then the values' in their order. With
 // `TELL` none is placed twice, so none is missing exactly if the values have as many rows as null leaves. Without, nothing is known where it refuses; where the
 // rows are as many as there are, and all rows are set then, none was set twice and none is missing.
-fn audit_clear<const TELL: bool, const COUNTED: bool>(
+fn audit_clear<const TELL: bool>(
     field: &mut [u8],
     body: &[u8],
     summary: Summary,
     t: u32,
+    counted: bool,
 ) -> Result<u64, Refusal>
     requires { Ready t body.now summary field.old × (count field.old summary.rows ≡ 0) }
     ensures told { IsTrue TELL → ForDictionary t body.now summary (λ d. AuditsZero d field.old field.new result) }
     ensures quick { ForDictionary t body.now summary (λ d. AuditsQuick d field.old field.new result) }
 {
     let rows = summary.rows;
-    let nulls = place_null::<COUNTED>(field, body, summary)?;
+    let nulls = place_null(field, body, summary, counted)?;
+    let left = rows - nulls;
     let others = place_values::<TELL>(field, body, summary, t)?;
-    if others != rows - nulls || (!TELL && !row_field::all_set(field, rows)) {
+    if !TELL {
+        if others != left || !row_field::all_set(field, rows) {
+            // nothing is known where it refuses, so any refusal will do, and no pass over the field looks for the row
+            return Err(Refusal::Missing { row: Row(rows) });
+        }
+        return Ok(nulls);
+    }
+    if others != left {
         return Err(Refusal::Missing {
             row: row_field::first_clear(field, rows),
         });
@@ -367,23 +377,24 @@ fn audit_clear<const TELL: bool, const COUNTED: bool>(
 
 /// Audits the bitmaps of a dictionary in a field that has room, leaves the field zero, and says how many rows null has, by `place_null`. Most bodies are sound,
 /// and the whole tells it; only where it doesn't, every row is tested, to find the refusal.
-pub fn audit_field<const COUNTED: bool>(
+pub fn audit_field(
     field: &mut [u8],
     body: &[u8],
     summary: Summary,
     t: u32,
+    counted: bool,
 ) -> Result<u64, Refusal>
     requires { Ready t body.now summary field.old }
     ensures { ForDictionary t body.now summary (λ d. AuditsField d field.old field.new result) }
 {
     let rows = summary.rows;
     row_field::clear(field, rows);
-    let quick = audit_clear::<false, COUNTED>(field, body, summary, t);
+    let quick = audit_clear::<false>(field, body, summary, t, counted);
     row_field::clear(field, rows);
     if let Ok(nulls) = quick {
         return Ok(nulls);
     }
-    let told = audit_clear::<true, COUNTED>(field, body, summary, t);
+    let told = audit_clear::<true>(field, body, summary, t, counted);
     row_field::clear(field, rows);
     told
 }
@@ -408,7 +419,7 @@ pub fn audit(body: &[u8], t: u32, field: &mut [u8]) -> Result<u64, Refusal>
     ensures { AuditPromise t body.now field.old field.new result }
 {
     let summary = prepare(body, t, field)?;
-    audit_field::<SUM_NULLS>(field, body, summary, t)?;
+    audit_field(field, body, summary, t, SUM_NULLS)?;
     Ok(summary.rows)
 }
 
@@ -671,6 +682,6 @@ pub fn ask(
 {
     let question = typed_question(body, t, question, literals)?;
     let summary = prepare(body, t, field)?;
-    let nulls = audit_field::<COUNT_NULLS>(field, body, summary, t)?;
+    let nulls = audit_field(field, body, summary, t, COUNT_NULLS)?;
     Ok(answer_zero(field, body, summary, t, question, literals, nulls))
 }

@@ -278,7 +278,7 @@ fn null_rows(field: &mut [u8], body: &[u8], summary: Summary) -> Result<u64, Ref
     if summary.null.is_none() {
         return Ok(0);
     }
-    let placed = bitmap_index::place_null::<{ bitmap_index::COUNT_NULLS }>(field, body, summary);
+    let placed = bitmap_index::place_null(field, body, summary, bitmap_index::COUNT_NULLS);
     row_field::clear(field, summary.rows);
     placed
 }

@@ -3,27 +3,29 @@
 use Prim.Native.Nat.{ℕ, ◌+◌, ◌≤◌, ◌<◌}
 use mathlib.Core.Path.{◌≡◌, sym, ap, ◌∙◌}
 use mathlib.Core.Bool.{Bool, true, false, cond}
-use mathlib.Core.List.{List, []}
+use mathlib.Core.List.{List, [], ◌∷◌}
 use native.Mathlib.Omega.{arith}
 use lib.Dec.{eqb, ltb, leb}
 use lib.ListN.{length, drop, get_or}
 use borrow.Author.Tests.{le-leb, lt-leb, eq-eqb, ne_eqb}
 use Rattle.numbers.specs.declared.Position.{Position}
-use Rattle.numbers.specs.Meaning.{big, be_at, number, sign_bit, position}
+use Rattle.numbers.specs.Meaning.{Bytes, big, be_at, number, sign_bit, position}
+use Rattle.numbers.proofs.ByteLists.{bytes_drop}
+use Rattle.numbers.proofs.Laws.{be_at-lt}
 use Rattle.refusal.specs.Meaning.{limit}
 use Rattle.refusal.specs.declared.Refusal.{Refusal}
 use Rattle.refusal.specs.declared.Refusal.TheVariants.{Short, Version, Dict, Limit}
-use Rattle.std.specs.Prelude.{Option, Result, Err, Ok}
+use Rattle.std.specs.Prelude.{Option, None, Some, Result, Err, Ok}
 use Rattle.refusal.specs.Reading.{check}
 use Rattle.refusal.proofs.Laws.{not-ok, ok_same}
 use Rattle.dictionary.specs.declared.NullEntry.{NullEntry}
 use Rattle.dictionary.specs.Layout.{Entry, most_values2, most_blocks}
 use Rattle.dictionary.specs.Reading.{Dictionary, count_at_most, null_of}
-use Rattle.dictionary.specs.Promises.{AfterCount, AfterEntries, nulls, CountAt, NullAt}
+use Rattle.dictionary.specs.Promises.{AfterCount, AfterEntries, pattern, nulls, CountAt, NullAt}
 use Rattle.dictionary.proofs.Fields.{byte_at}
 use Rattle.dictionary.proofs.Steps.{word_at, word_short}
 use Rattle.opening.specs.Reading.{Front, rest_of_front, front}
-use Rattle.opening.specs.Promises.{FrontIs}
+use Rattle.opening.specs.Promises.{NullFits, FrontIs}
 
 -- ---- a count, whatever follows
 
@@ -96,6 +98,29 @@ module _ {B : Type 0} (s : List ℕ) (g : List Entry → List ℕ → Result B R
   null_passed false {ns} {rest} h = kept ns rest [] s true true (h (λ ns rest. told 0 ns rest))
   null_passed true {ns} {rest} h =
       kept ns rest _ _ (leb 4 (length s)) (leb 4 (length (drop 4 s))) (h (λ ns rest. told 0 ns rest))
+
+-- its offset is one of four bytes, as that which is read
+first_offset : List Entry → ℕ
+first_offset [] = 0
+first_offset (e ∷ es) = e.offset
+
+module _ (s : List ℕ) (bytes : Bytes s) where
+  is_first : (ns : List Entry) (rest : List ℕ) (x : List Entry) (y : List ℕ) (a b : Bool)
+      → cond a (cond b (told 0 x y) (Err Short)) (Err Short) ≡ told 0 ns rest → x ≡ ns
+  is_first ns rest x y false b e = absurd (not-ok e)
+  is_first ns rest x y true false e = absurd (not-ok e)
+  is_first ns rest x y true true e = ap (λ (d : Dictionary). d.entries) (ok_same _ _ e)
+
+  null_fits : (has : Bool) (null : Option NullEntry) {rest : List ℕ} → ((f : AfterEntries) → null_of true has s f ≡ f (nulls null) rest) → NullFits null
+  unfolding null_of number first_offset
+  null_fits has None h = tt
+  null_fits false (Some n) h =
+      let none : ◌≡◌ {A = List Entry} [] (nulls (Some n)) = ap (λ (d : Dictionary). d.entries) (ok_same _ _ (h (λ ns rest. told 0 ns rest))) in
+      cc
+  null_fits true (Some n) {rest} h =
+      let same = is_first (nulls (Some n)) rest _ _ (leb 4 (length s)) (leb 4 (length (drop 4 s))) (h (λ ns rest. told 0 ns rest)) in
+      let offset : be_at 4 s 0 ≡ pattern n.offset = ap first_offset same in
+      rw (← offset) (be_at-lt 4 s 0 bytes)
 
 -- ---- the fields in turn
 
@@ -177,6 +202,6 @@ module _ (s : List ℕ) where
                   unfolding check
                   front_unfit z = tested ∙ rw z
 
-                  pub front_read : fit ≡ true → FrontIs s (Ok (record { rows = rows; values = n; null = null; blocks = b; directory = position (p.0 + 4) }))
+                  pub front_read : fit ≡ true → Bytes s → FrontIs s (Ok (record { rows = rows; values = n; null = null; blocks = b; directory = position (p.0 + 4) }))
                   unfolding check
-                  front_read z = (tested ∙ rw z, (y.1, y.2))
+                  front_read z bytes = (tested ∙ rw z, (y.1, y.2, null_fits (drop 10 s) (bytes_drop 10 s bytes) (eqb h 1) null x.0))

@@ -2,10 +2,10 @@
 -- passed.
 use Rattle.std.specs.Prelude.{ℕ, zero, suc, ◌+◌, Bool, true, cond, List, [], ◌∷◌, ◌++◌, eqb, ltb, leb, length, drop, Result, Err, Ok}
 use Rattle.numbers.specs.Meaning.{big, number}
-use Rattle.refusal.specs.Meaning.{limit}
+use Rattle.refusal.specs.Meaning.{limit, number_of, fault_of, no_fault}
 use Rattle.refusal.specs.declared.Refusal.{Refusal}
 use Rattle.refusal.specs.declared.Refusal.TheVariants.{Short, Version, Dict, Room, Literal, Limit}
-use Rattle.refusal.specs.Reading.{check, and_then, numbers_of, fault_in}
+use Rattle.refusal.specs.Reading.{check, and_then}
 use Rattle.row_field.specs.Meaning.{cleared}
 use Rattle.stored_value.specs.Meaning.{types}
 use Rattle.stored_value.specs.Reading.{value_size}
@@ -104,11 +104,13 @@ abbrev pub opened_of : Table → Opened
 opened_of a = record { rows = a.rows; blocks = a.blocks }
 
 unfoldable pub open_out : Result Opened Refusal → ℕ × (ℕ × ℕ)
-open_out r = numbers_of (0, 0) (λ a. (0, (a.rows, a.blocks))) r
+open_out (Err r) = (number_of r, (0, 0))
+open_out (Ok a) = (0, (a.rows, a.blocks))
 
 abbrev pub open_numbers : Table → ℕ × (ℕ × ℕ)
 open_numbers a = (0, (a.rows, a.blocks))
 
 -- where the answer's fault is, in three numbers
 unfoldable pub open_fault : Result Opened Refusal → List ℕ
-open_fault r = fault_in r
+open_fault (Err r) = fault_of r
+open_fault (Ok a) = no_fault

@@ -110,7 +110,7 @@ pub fn open(body: &[u8], t: u32, field: &mut [u8], table: &mut [u32]) -> Result<
     if (table.len() as u64) < fields.blocks {
         return Err(Refusal::Room);
     }
-    bitmap_index::audit_field::<{ bitmap_index::SUM_NULLS }>(field, body, summary, t)?;
+    bitmap_index::audit_field(field, body, summary, t, bitmap_index::SUM_NULLS)?;
     fill(body, t, fields.blocks, fields.directory, table);
     Ok(Opened {
         rows: summary.rows,

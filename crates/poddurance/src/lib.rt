@@ -9,7 +9,7 @@ ghost use Rattle.refusal.specs.Meaning.{number_of, fault_of};
 ghost use Rattle.refusal.specs.Reading.{numbers_of, fault_in};
 ghost use Rattle.subtract.specs.Meaning.{numbers_of_record, no_record};
 ghost use Rattle.bitmap_index.specs.Meaning.{question};
-ghost use Rattle.bitmap_index.specs.Reading.{said_numbers};
+ghost use Rattle.bitmap_index.specs.Reading.{ask_out, ask_fault};
 ghost use Rattle.file_to_answers.specs.Reading.{bytes_looked_at};
 ghost use Rattle.file_to_answers.specs.Promises.{FileAsScan};
 ghost use Rattle.poddurance.specs.Promises.{ReadDeletions, ReadWindow, Subtract, SubtractRecord, Locate, Audit, Ask, Open, LookUp, AskFile};
@@ -47,8 +47,9 @@ fn counted(answer: Result<u64, Refusal>, count: &mut u64, fault: &mut [u64; 3]) 
 }
 
 // The number of an answer to a question, and through pointers its record and where its fault is.
+#[tactic(auto, unfolding(bitmap_index::specs::Reading::ask_out, bitmap_index::specs::Reading::ask_fault))]
 fn answered(answer: Result<Answer, Refusal>, said: &mut [u64; 4], fault: &mut [u64; 3]) -> u8
-    ensures { ((result, said.new) ≡ numbers_of no_record said_numbers answer) × (fault.new ≡ fault_in answer) }
+    ensures { ((result, said.new) ≡ ask_out answer) × (fault.new ≡ ask_fault answer) }
 {
     match answer {
         Ok(answer) => {
@@ -194,7 +195,6 @@ pub fn poddurance_audit(
 }
 
 /// The rows of a body that a question chooses, set in the field.
-#[tactic(auto, unfolding(bitmap_index::specs::Reading::ask_out, bitmap_index::specs::Reading::ask_fault))]
 pub fn poddurance_ask(
     body: &[u8],
     t: u32,
@@ -245,7 +245,6 @@ pub fn poddurance_open(
 }
 
 /// A lookup: EQUAL, without an audit. `compared` are the values that were compared.
-#[tactic(auto, unfolding(bitmap_index::specs::Reading::ask_out, bitmap_index::specs::Reading::ask_fault))]
 pub fn poddurance_look_up(
     body: &[u8],
     t: u32,

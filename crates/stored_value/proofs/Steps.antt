@@ -1,6 +1,6 @@
 -- What the code's answers and the turns of its loops see of the definitions.
 use Prim.Native.Nat.{ℕ, suc, min, ◌+◌, ◌-◌, ◌*◌, ◌<◌, ◌≤◌}
-use mathlib.Core.Path.{◌≡◌, ap, sym, ◌∙◌}
+use mathlib.Core.Path.{◌≡◌, refl, ap, sym, ◌∙◌}
 use mathlib.Core.Bool.{Bool, true, false, ◌&&◌, ◌||◌, or-false}
 use mathlib.Core.List.{List, [], ◌∷◌, ◌++◌}
 use native.Mathlib.Nat.{add-zero}
@@ -21,10 +21,11 @@ use Rattle.numbers.proofs.Laws.{be_at-lt, be_at_split, number_at_lem, number_sho
 use Rattle.refusal.specs.declared.Refusal.{Refusal}
 use Rattle.refusal.specs.declared.Refusal.TheVariants.{Literal, Limit}
 use Rattle.stored_value.specs.Meaning.{types, width, is_string, longest_string, boolean_ok, signed_number, is_less_bytewise, less}
-use Rattle.std.specs.Prelude.{Err, Ok}
-use Rattle.refusal.specs.Reading.{check}
+use Rattle.std.specs.Prelude.{Result, Err, Ok}
+use Rattle.refusal.specs.Reading.{check, numbers_of}
 use Rattle.refusal.proofs.Laws.{check-ok, ok_same, not-ok}
 use Rattle.stored_value.specs.Reading.{string_size, value_size, literals}
+use Rattle.stored_value.specs.Promises.{size_out, size_numbers, counted, count_out, count_numbers}
 use Rattle.stored_value.proofs.Laws.{size_number, size-string, value_read, literals_end, literals-full, literals_refused, literals-next}
 
 -- ---- `bytes_less`
@@ -249,3 +250,21 @@ module _ (t m i : ℕ) (ls : List (List ℕ)) (s : List ℕ) (p : ℕ) where
       pub turn_next : (n : ℕ) → value_size Literal Literal t (drop p s) ≡ Ok n
           → literals t (m - i) ls (drop p s) ≡ literals t (m - (i + 1)) (ls ++ (take n (drop p s) ∷ [])) (drop (p + n) s)
       turn_next n e = rw (more, ← drop-drop n p s) (literals-next t ls (drop p s) left (m - (i + 1)) n e)
+
+-- ---- the numbers of an answer are those of what was read
+
+size_so : (o : Result ℕ Refusal) → size_out o ≡ numbers_of 0 size_numbers o
+unfolding size_out numbers_of
+size_so (Err r) = refl
+size_so (Ok n) = refl
+
+pub size_numbers_so : {r o : Result ℕ Refusal} → r ≡ o → size_out r ≡ numbers_of 0 size_numbers o
+size_numbers_so {r} {o} e = ap size_out e ∙ size_so o
+
+count_so : (o : Result (List (List ℕ)) Refusal) → count_out (counted o) ≡ numbers_of 0 count_numbers o
+unfolding counted count_out numbers_of
+count_so (Err r) = refl
+count_so (Ok ls) = refl
+
+pub count_numbers_so : {r : Result ℕ Refusal} (o : Result (List (List ℕ)) Refusal) → r ≡ counted o → count_out r ≡ numbers_of 0 count_numbers o
+count_numbers_so o e = ap count_out e ∙ count_so o

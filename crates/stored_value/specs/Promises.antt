@@ -1,7 +1,7 @@
 -- What the functions that serve other crates answer, in the reading's terms, and in numbers.
 use Rattle.std.specs.Prelude.{◌≡◌, ℕ, ◌<◌, ◌≤◌, Bool, List, [], length, drop, Result, Err, Ok}
 use Rattle.refusal.specs.declared.Refusal.{Refusal}
-use Rattle.refusal.specs.Reading.{numbers_of}
+use Rattle.refusal.specs.Meaning.{number_of}
 use Rattle.numbers.specs.Meaning.{four_bytes}
 use Rattle.hash_table.specs.Promises.{slot, among, Holds}
 use Rattle.stored_value.specs.Meaning.{listed, most_literals}
@@ -10,11 +10,12 @@ use Rattle.stored_value.specs.Reading.{value_size, literals}
 -- ---- `size`: how many bytes a value takes
 
 -- 0 or the refusal's number, and the bytes
+unfoldable pub size_out : Result ℕ Refusal → ℕ × ℕ
+size_out (Err r) = (number_of r, 0)
+size_out (Ok n) = (0, n)
+
 abbrev pub size_numbers : ℕ → ℕ × ℕ
 size_numbers n = (0, n)
-
-abbrev pub size_out : Result ℕ Refusal → ℕ × ℕ
-size_out r = numbers_of 0 size_numbers r
 
 -- ---- `known_size`: how many bytes a value takes that was accepted, whatever it would have been refused with
 
@@ -33,11 +34,12 @@ counted (Err r) = Err r
 counted (Ok ls) = Ok (length ls)
 
 -- 0 or the refusal's number, and the number of literals
-abbrev pub count_numbers : ℕ → ℕ × ℕ
-count_numbers n = (0, n)
+unfoldable pub count_out : Result ℕ Refusal → ℕ × ℕ
+count_out (Err r) = (number_of r, 0)
+count_out (Ok n) = (0, n)
 
-abbrev pub count_out : Result ℕ Refusal → ℕ × ℕ
-count_out r = numbers_of 0 count_numbers r
+abbrev pub count_numbers : List (List ℕ) → ℕ × ℕ
+count_numbers ls = (0, length ls)
 
 -- ---- `listed`: whether a value is one of the literals
 

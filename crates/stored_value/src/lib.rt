@@ -7,7 +7,9 @@ ghost use Rattle.std.specs.Int.{w64};
 ghost use Rattle.std.proofs.Common.{SFits};
 ghost use Rattle.stored_value.specs.Meaning.{width, signed_number, is_less_bytewise, most_literals};
 ghost use Rattle.stored_value.specs.Meaning as meaning;
-ghost use Rattle.stored_value.specs.Promises.{Stands, Takes, counted, Standing, Accepted, Lists, Enterable, Enters};
+ghost use Rattle.refusal.specs.Reading.{numbers_of};
+ghost use Rattle.stored_value.specs.Promises.{Stands, Takes, size_out, size_numbers, counted, count_out, count_numbers};
+ghost use Rattle.stored_value.specs.Promises.{Standing, Accepted, Lists, Enterable, Enters};
 ghost use Rattle.stored_value.specs.Reading.{value_size};
 ghost use Rattle.stored_value.specs.Reading as reading;
 
@@ -69,7 +71,8 @@ pub fn size(
     short: Refusal,
     broken: Refusal,
 ) -> Result<usize, Refusal>
-    ensures { result ≡ value_size short broken t (drop at.0 s.now) }
+    ensures answer { result ≡ value_size short broken t (drop at.0 s.now) }
+    ensures numbers { size_out result ≡ numbers_of 0 size_numbers (value_size short broken t (drop at.0 s.now)) }
 {
     if TYPES <= t {
         return Err(Refusal::Literal);
@@ -199,7 +202,8 @@ pub fn less(t: u32, a: &[u8], b: &[u8]) -> bool
 
 /// How many literals of type `t` stand in `s`, one after another to its end. One that is cut or broken is LITERAL, and a byte behind the 1,024th LIMIT.
 pub fn literals(s: &[u8], t: u32) -> Result<u64, Refusal>
-    ensures { result ≡ counted (reading.literals t most_literals [] s.now) }
+    ensures answer { result ≡ counted (reading.literals t most_literals [] s.now) }
+    ensures numbers { count_out result ≡ numbers_of 0 count_numbers (reading.literals t most_literals [] s.now) }
 {
     // No `for`: where the next literal begins is known from the size of this one, which may be refused.
     let mut count: u64 = 0;

@@ -1,8 +1,8 @@
 -- What Subtract, with a row count and with a record, answers for any two fields, and what the first buffer holds after it ("Subtract checks LIMIT, then ROOM,
 -- and changes nothing when it refuses").
 use Rattle.std.specs.Prelude.{ℕ, List, leb, length, Result, Err, Ok}
-use Rattle.refusal.specs.Meaning.{limit}
-use Rattle.refusal.specs.Reading.{check, and_then, numbers_of}
+use Rattle.refusal.specs.Meaning.{limit, number_of}
+use Rattle.refusal.specs.Reading.{check, and_then}
 use Rattle.refusal.specs.declared.Refusal.{Refusal}
 use Rattle.refusal.specs.declared.Refusal.TheVariants.{Limit, Room}
 use Rattle.row_field.specs.Meaning.{size, count}
@@ -28,13 +28,14 @@ buffer_by (Ok c) n f g = subtracted n f g
 abbrev pub subtract_buffer : ℕ → List ℕ → List ℕ → List ℕ
 subtract_buffer n f g = buffer_by (subtraction n f g) n f g
 
--- accepted counts in numbers: 0 for accepted, then rows left and rows removed
+-- an answer's number, 0 for accepted and else the refusal's; then rows left and rows removed, 0 with a refusal
+unfoldable pub subtract_out : Result Counts Refusal → ℕ × (ℕ × ℕ)
+subtract_out (Err r) = (number_of r, (0, 0))
+subtract_out (Ok c) = (0, (c.left, c.removed))
+
+-- the same of accepted counts
 abbrev pub subtract_numbers : Counts → ℕ × (ℕ × ℕ)
 subtract_numbers c = (0, (c.left, c.removed))
-
--- an answer's number, 0 for accepted and else the refusal's; then rows left and rows removed, 0 with a refusal
-abbrev pub subtract_out : Result Counts Refusal → ℕ × (ℕ × ℕ)
-subtract_out r = numbers_of (0, 0) subtract_numbers r
 
 -- ---- with a record: "a second Subtract takes the record, uses its row count and hands it back with rows removed"
 
@@ -49,10 +50,11 @@ record_subtraction given f g =
     and_then (subtraction given.rows f g) (λ counts.
     Ok (record { answer = answer_of (replaced given (count g given.rows) counts.left); removed = counts.removed }))
 
--- what is accepted, in numbers: 0 for accepted, then the record's four and rows removed
+-- the answer's number; then the record's four and rows removed, all 0 with a refusal
+unfoldable pub record_subtract_out : Result Subtracted Refusal → ℕ × (List ℕ × ℕ)
+record_subtract_out (Err r) = (number_of r, (no_record, 0))
+record_subtract_out (Ok a) = (0, (numbers_of_record (said_of a.answer), a.removed))
+
+-- the same of what was accepted
 abbrev pub record_subtract_numbers : Subtracted → ℕ × (List ℕ × ℕ)
 record_subtract_numbers a = (0, (numbers_of_record (said_of a.answer), a.removed))
-
--- the answer's number; then the record's four and rows removed, all 0 with a refusal
-abbrev pub record_subtract_out : Result Subtracted Refusal → ℕ × (List ℕ × ℕ)
-record_subtract_out r = numbers_of (no_record, 0) record_subtract_numbers r

@@ -1,11 +1,13 @@
 // Clears in one row field the rows of another; and the record of an answer, which says how many rows it is drawn from.
-#![tactic(auto, unfolding(refusal::specs::Reading::check, refusal::specs::Reading::and_then, crate::specs::Meaning::keeps, crate::specs::Meaning::said_of, crate::specs::Meaning::skips, crate::specs::Reading::subtraction, crate::specs::Reading::buffer_by, crate::specs::Reading::record_subtraction))]
+#![tactic(auto, unfolding(refusal::specs::Reading::check, refusal::specs::Reading::and_then, refusal::specs::Reading::numbers_of, crate::specs::Meaning::keeps, crate::specs::Meaning::said_of, crate::specs::Meaning::skips, crate::specs::Reading::subtraction, crate::specs::Reading::buffer_by, crate::specs::Reading::subtract_out, crate::specs::Reading::record_subtraction, crate::specs::Reading::record_subtract_out))]
 
 ghost use Rattle.std.specs.Prelude.{◌≡◌, ◌-◌, ◌*◌, ◌<◌, ◌≤◌, length, get_or, set};
 ghost use Rattle.std.specs.Int.Bits.{bit_and};
 ghost use Rattle.row_field.specs.Meaning.{size};
-ghost use Rattle.subtract.specs.Meaning.{subtracted, numbers_of_record, record_from_numbers, answer_of, said_of, skips};
-ghost use Rattle.subtract.specs.Reading.{subtraction, subtract_buffer, record_subtraction};
+ghost use Rattle.refusal.specs.Reading.{numbers_of};
+ghost use Rattle.subtract.specs.Meaning.{subtracted, numbers_of_record, no_record, record_from_numbers, answer_of, said_of, skips};
+ghost use Rattle.subtract.specs.Reading.{subtraction, subtract_buffer, subtract_out, subtract_numbers};
+ghost use Rattle.subtract.specs.Reading.{record_subtraction, record_subtract_out, record_subtract_numbers};
 
 use numbers::Position;
 use refusal::{LIMIT, Refusal};
@@ -133,6 +135,7 @@ fn subtract_rows(first: &mut [u8], second: &[u8], rows: u64)
 pub fn subtract(first: &mut [u8], second: &[u8], rows: u64) -> Result<Counts, Refusal>
     ensures answer { result ≡ subtraction rows first.old second.now }
     ensures buffer { first.new ≡ subtract_buffer rows first.old second.now }
+    ensures numbers { subtract_out result ≡ numbers_of (0, 0) subtract_numbers (subtraction rows first.old second.now) }
 {
     if LIMIT < rows {
         return Err(Refusal::Limit);
@@ -160,6 +163,7 @@ pub fn subtract_record(
 ) -> Result<Subtracted, Refusal>
     ensures answer { result ≡ record_subtraction given first.old second.now }
     ensures buffer { first.new ≡ subtract_buffer given.rows first.old second.now }
+    ensures numbers { record_subtract_out result ≡ numbers_of (no_record, 0) record_subtract_numbers (record_subtraction given first.old second.now) }
 {
     let counts = subtract(first, second, given.rows)?;
     let said = Record {

@@ -6,18 +6,18 @@ use Rattle.dictionary.specs.Promises.{dictionary_of}
 use Rattle.bitmap_index.proofs.audit_field.Goals as goal
 
 pub audit_clear-quick-requires : goal.audit_clear-quick-requires
-audit_clear-quick-requires g c =
+audit_clear-quick-requires c =
     let a = c.args in
     zero_ready a.t a.body.now a.summary a.field.now c.clear.ensures c.requires
 
 pub returns-in-Ok : goal.returns-in-Ok
-returns-in-Ok g c =
+returns-in-Ok c =
     let a = c.args in
     λ es l. told_quickly (dictionary_of a.body.now a.summary es) a.field.now c.audit_clear-quick.new.field c.clear.ensures
     (c.audit_clear-quick.ensures.quick es l) c.clear-2.ensures c.in-Ok.is
 
 pub audit_clear-told-requires : goal.audit_clear-told-requires
-audit_clear-told-requires g c =
+audit_clear-told-requires c =
     let a = c.args in
     let y = c.requires.is_read in
     zero_ready a.t a.body.now a.summary a.field.now
@@ -26,7 +26,7 @@ audit_clear-told-requires g c =
     c.requires
 
 pub returns : goal.returns
-returns g c =
+returns c =
     let a = c.args in
     λ es l. then_zero (dictionary_of a.body.now a.summary es) a.field.now c.audit_clear-told.new.field
     (clear-again (dictionary_of a.body.now a.summary es) a.field.now c.audit_clear-quick.new.field c.clear.ensures

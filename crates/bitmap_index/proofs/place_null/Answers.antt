@@ -5,25 +5,25 @@ use Rattle.bitmap_index.proofs.PlacingEntries.{no_null, with_null, null-refused,
 use Rattle.bitmap_index.proofs.place_null.Goals as goal
 
 pub returns-in_default : goal.returns-in_default
-returns-in_default g c =
+returns-in_default c =
     let a = c.args in
     no_null a.summary a.body.now a.field.now c.in_default.is
 
 pub returns-in_err-placed : goal.returns-in_err-placed
-returns-in_err-placed g c =
+returns-in_err-placed c =
     let a = c.args in
     let p = with_null a.summary a.body.now a.field.now c.in-Some.is (rw (to_end a.summary.region.0 a.body.now) at c.place_at.ensures.placed refl) in
     let h = null-refused a.summary a.body.now a.field.now p in
     search (rules, h)
 
-pub returns-then-not-this : goal.returns-then-not-this
-returns-then-not-this g c =
+pub returns-then-not-counted : goal.returns-then-not-counted
+returns-then-not-counted c =
     let a = c.args in
     let p = with_null a.summary a.body.now a.field.now c.in-Some.is (rw (to_end a.summary.region.0 a.body.now) at c.place_at.ensures.placed refl) in
     null-kept a.summary a.body.now a.field.now p c.in_ok-placed.was
 
 pub returns : goal.returns
-returns g c =
+returns c =
     let a = c.args in
     let p = with_null a.summary a.body.now a.field.now c.in-Some.is (rw (to_end a.summary.region.0 a.body.now) at c.place_at.ensures.placed refl) in
     null_counted a.summary a.body.now a.field.now p c.in_ok-placed.was c.requires.2 c.count.ensures

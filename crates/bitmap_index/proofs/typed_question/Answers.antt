@@ -36,16 +36,16 @@ returns-in_err-count c =
     let a = c.args in
     let refused : c.from_residual-in_err-count.result ≡ Err c.in_err-count.field-0.0 = search rules in
     rw refused (misfit a.t a.question a.literals.now a.body.now c.if-body-gt-LIMIT.false c.if-literals-gt-LIMIT.false c.if-t-ge-TYPES.false c.in_ok-edition.edition c.in_ok-edition.ensures
-    c.in_ok-name.name c.in_ok-name.ensures c.in_err-count.ensures)
+    c.in_ok-name.name c.in_ok-name.ensures c.in_err-count.ensures.answer)
 
 pub returns-then-not-takes : goal.returns-then-not-takes
 returns-then-not-takes c =
     let a = c.args in
     wrong-number a.t a.question a.literals.now a.body.now c.if-body-gt-LIMIT.false c.if-literals-gt-LIMIT.false c.if-t-ge-TYPES.false c.in_ok-edition.edition c.in_ok-edition.ensures
-    c.in_ok-name.name c.in_ok-name.ensures c.in_ok-count.ensures c.takes.ensures c.if-not-takes.true
+    c.in_ok-name.name c.in_ok-name.ensures c.in_ok-count.ensures.answer c.takes.ensures c.if-not-takes.true
 
 pub returns : goal.returns
 returns c =
     let a = c.args in
     fits_question a.t a.question a.literals.now a.body.now c.if-body-gt-LIMIT.false c.if-literals-gt-LIMIT.false c.if-t-ge-TYPES.false c.in_ok-edition.edition c.in_ok-edition.ensures
-    c.in_ok-name.name c.in_ok-name.ensures c.in_ok-count.ensures c.takes.ensures c.if-not-takes.false
+    c.in_ok-name.name c.in_ok-name.ensures c.in_ok-count.ensures.answer c.takes.ensures c.if-not-takes.false

@@ -2,6 +2,7 @@
 use Rattle.std.proofs.Common.{◌∙◌}
 use Rattle.refusal.specs.Reading.{numbers_of, fault_in}
 use Rattle.bitmap_index.specs.Meaning.{question}
+use Rattle.bitmap_index.specs.Reading.{ask_out, ask_fault}
 use Rattle.file_to_answers.specs.Reading.{bytes_looked_at, ask_file_out, file_said_numbers, ask_file_fault}
 use Rattle.poddurance.proofs.Laws.{ask_file_lem}
 use Rattle.poddurance.proofs.poddurance_ask_file.Goals as goal
@@ -17,7 +18,7 @@ returns-in-Ok-None c =
     record { any_bytes = both.0; as_the_scan = both.1 }
 
 pub returns-in-Ok-Some : goal.returns-in-Ok-Some
-unfolding ask_file_out file_said_numbers ask_file_fault numbers_of fault_in
+unfolding ask_file_out file_said_numbers ask_file_fault numbers_of fault_in ask_out ask_fault
 returns-in-Ok-Some c =
     let a = c.args in
     let g = rw c.in-Ok-Some.field-0-is at c.in-Ok-Some.ensures.any_bytes in
@@ -27,7 +28,7 @@ returns-in-Ok-Some c =
     record { any_bytes = both.0; as_the_scan = both.1 }
 
 pub returns-in-Err : goal.returns-in-Err
-unfolding ask_file_out ask_file_fault numbers_of fault_in
+unfolding ask_file_out ask_file_fault numbers_of fault_in ask_out ask_fault
 returns-in-Err c =
     let a = c.args in
     let g = c.in-Err.ensures.any_bytes in

@@ -1,12 +1,14 @@
 -- Rows left and rows removed are those that were (`left-removed`).
-use Rattle.std.proofs.Common.{ℕ, ◌≡◌, ◌+◌, ◌-◌, List, true, leb, length, Ok, ap, sym, ◌∙◌}
+use Rattle.std.proofs.Common.{ℕ, ◌≡◌, ◌+◌, ◌-◌, List, true, leb, length, Result, Ok, Err, refl, ap, sym, ◌∙◌}
 use native.Mathlib.Omega.{arith}
 use borrow.Author.Tests.{le-leb}
 use Rattle.row_field.specs.Meaning.{size, count}
 use Rattle.subtract.specs.Meaning.{subtracted, removed}
-use Rattle.subtract.specs.Reading.{subtraction}
+use Rattle.subtract.specs.declared.Counts.{Counts}
+use Rattle.subtract.specs.Reading.{subtraction, subtract_out, subtract_numbers}
 use Rattle.refusal.specs.Meaning.{limit}
-use Rattle.refusal.specs.Reading.{check}
+use Rattle.refusal.specs.declared.Refusal.{Refusal}
+use Rattle.refusal.specs.Reading.{check, numbers_of}
 use Rattle.subtract.proofs.Laws.{left-removed}
 use Rattle.subtract.proofs.subtract.Goals as goal
 use Rattle.subtract.proofs.subtract.Goals.{After-count-left}
@@ -33,3 +35,14 @@ returns-clause-answer c =
     let first = sym c.has_room.ensures ∙ c.if-not-has_room.false in
     let second = sym c.has_room-2.ensures ∙ c.if-not-has_room-2.false in
     rw (r, left c) (sym (accepted a.rows a.first.now a.second.now (le-leb _ limit c.if-rows-gt-LIMIT.false) first second))
+
+-- the numbers of an answer are those that each of its cases has
+numbers_so : (o : Result Counts Refusal) → subtract_out o ≡ numbers_of (0, 0) subtract_numbers o
+unfolding subtract_out numbers_of
+numbers_so (Err r) = refl
+numbers_so (Ok counts) = refl
+
+pub returns-clause-numbers : goal.returns-clause-numbers
+returns-clause-numbers c =
+    let a = c.args in
+    ap subtract_out (returns-clause-answer c) ∙ numbers_so (subtraction a.rows a.first.now a.second.now)
