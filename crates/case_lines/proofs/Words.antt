@@ -1,5 +1,5 @@
 -- Laws of lines, words and numbers.
-use Rattle.std.proofs.Common.{◌≡◌, ℕ, zero, suc, ◌+◌, ◌-◌, ◌*◌, ◌%◌, ◌^◌, ◌<◌, ◌≤◌, Bool, true, false, cond, not, nat_lt, eqb, Option, Some, None, List, [], ◌∷◌, ◌==◌, length, get_or, take, drop, sym, refl, ap, ◌∙◌, add-one, arith, length-drop, take_all, drop_of_length-le, drop-cons, position}
+use Rattle.std.proofs.Common.{◌≡◌, ℕ, suc, ◌+◌, ◌-◌, ◌<◌, ◌≤◌, Bool, true, false, cond, not, nat_lt, Some, None, List, [], ◌∷◌, ◌==◌, length, take, drop, sym, refl, ap, ◌∙◌, add-one, arith, length-drop, take_all, drop_of_length-le, position}
 use Rattle.std.specs.List.{position_or_len}
 use Rattle.std.proofs.lemmas.Bool.Decides.{nat_tests}
 use Rattle.case_lines.specs.Promises.{until, beyond, begun, lines_of, line_from_word}

@@ -15,7 +15,10 @@ fn digits() {
 
 fn main(rt: HostRuntime) -> io::Result<()> {
     digits();
-    let rising: Vec<u8> = (0..=u8::MAX).collect(rt.alloc())?;
+    let mut rising = [0u8; 256];
+    for byte in 0..=u8::MAX {
+        rising[usize::from(byte)] = byte;
+    }
     show(&rt, "empty", b"")?;
     show(&rt, "a", b"a")?;
     show(&rt, "123456789", b"123456789")?;

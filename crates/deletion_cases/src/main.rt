@@ -95,9 +95,9 @@ fn read_window(rt: &(impl Print + AllocGlobal), file: &[u8], asked: Asked) -> io
 
 // Appends a bin to the file.
 fn append(file: &mut Laid, bin: &[u8], turned: u32) {
-    file.append_number((bin.len() % 4_294_967_296) as u32);
+    file.append_number(bin.len() as u64);
     file.append(bin);
-    file.append_number(crc32::checksum(bin) ^ turned);
+    file.append_number(u64::from(crc32::checksum(bin) ^ turned));
 }
 
 // Does the call that a line says, unless the buffer that it asks for is too large.

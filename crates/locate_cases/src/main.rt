@@ -133,6 +133,8 @@ impl Files<'_> {
     fn each(self, rt: &(impl Print + AllocGlobal), line: Line<'_>) -> io::Result<()> {
         let most = self.file.len().min(MOST_CHANGED);
         let mut changed = self.file[..most].to_vec(rt.alloc())?;
+        let column = line.word(1);
+        let kind = line.word(2);
         let at = line.number(3) as usize;
         for number in 0..line.number(4) {
             if at < changed.len() {
@@ -143,7 +145,7 @@ impl Files<'_> {
                 embedded: self.embedded,
                 file: &changed,
             };
-            files.find(rt, line.word(1), line.word(2))?;
+            files.find(rt, column, kind)?;
         }
         Ok(())
     }
@@ -168,13 +170,17 @@ fn call(
     }
     match command {
         Command::Find => files.find(rt, line.word(1), line.word(2)),
-        Command::Cuts => case_lines::cuts(rt, files.file, |file| {
-            let cut = Files {
-                embedded: files.embedded,
-                file,
-            };
-            cut.find(rt, line.word(1), line.word(2))
-        }),
+        Command::Cuts => {
+            let column = line.word(1);
+            let kind = line.word(2);
+            case_lines::cuts(rt, files.file, |file| {
+                let cut = Files {
+                    embedded: files.embedded,
+                    file,
+                };
+                cut.find(rt, column, kind)
+            })
+        }
         Command::Each => files.each(rt, line),
         Command::Named => files.find(rt, &spelled(rt, line)?.bytes, line.word(1)),
         Command::Kind => files.find(rt, line.word(1), &spelled(rt, line)?.bytes),

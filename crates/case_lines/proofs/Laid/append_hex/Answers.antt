@@ -22,7 +22,7 @@ loop-pair-preserved c =
     let byte = c.digit.result * 16 + c.digit-in-len2-up.result in
     let n : length pair ≡ min 3 (length (pair ++ rest)) = rw (l.invariant.1, cut) at many in
     let e : hex_bytes l.pair-iterator.rest.now ≡ byte ∷ hex_bytes rest = rw (cut, c.digit.ensures.value, c.digit-in-len2-up.ensures.value) (hex_long pair rest n c.in-len2-up.len_at_least) in
-    (c.append.ensures.1 ∙ l.invariant.0, size ∙ l.invariant.1, rw (c.append.ensures.1, c.append.ensures.0) (appended l.self.room l.self.bytes.items (byte ∷ []) (hex_bytes rest) _ e ∙ l.invariant.2))
+    (c.push.ensures.1 ∙ l.invariant.0, size ∙ l.invariant.1, rw (c.push.ensures.1, c.push.ensures.0) (appended l.self.room l.self.bytes.items (byte ∷ []) (hex_bytes rest) _ e ∙ l.invariant.2))
 
 pub returns : goal.returns
 returns c =
