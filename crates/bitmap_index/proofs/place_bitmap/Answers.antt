@@ -1,6 +1,5 @@
 -- `place_bitmap` meets its contract: what measuring and marking promise of the part that begins at the bitmap's place, put into the reading.
 use Rattle.std.proofs.Common.{rules, arith, ◌≡◌, Ok}
-use Rattle.std.proofs.lemmas.Grind.{common_steps}
 use Rattle.bitmap_index.proofs.PlacingRows.{to_end, behind_region, bitmap-unsound, bitmap_range, bitmap-sound, bitmap_twice, bitmap_done}
 use Rattle.bitmap_index.proofs.QuickAudit.{bitmap-set, refused-set}
 use Rattle.bitmap_index.proofs.place_bitmap.Goals as goal
@@ -21,53 +20,53 @@ returns-then-rows-shape-clause-placed g c =
     let a = c.args in
     let t : c.measure.result ≡ Ok c.in_ok-shape.shape = search rules in
     λ told. bitmap_range a.entry a.at.0 a.extent a.rows a.region.now a.field.now (to_end a.at.0 a.region.now)
-    c.extent_of.ensures c.measure.ensures t (grind (arith, common_steps))
+    c.extent_of.ensures c.measure.ensures t (omega arith)
 
 pub set-requires : goal.set-requires
 set-requires g c =
     let a = c.args in
     let t : c.measure.result ≡ Ok c.in_ok-shape.shape = search rules in
     bitmap-sound a.entry a.at.0 a.extent a.rows a.region.now a.field.now (to_end a.at.0 a.region.now)
-    c.extent_of.ensures c.measure.ensures t (λ i. (c.type_inv.region i).fits) (grind (arith, common_steps))
+    c.extent_of.ensures c.measure.ensures t (λ i. (c.type_inv.region i).fits) (omega arith)
 
 pub returns-then-not-this-clause-set : goal.returns-then-not-this-clause-set
 returns-then-not-this-clause-set g c =
     let a = c.args in
     let t : c.measure.result ≡ Ok c.in_ok-shape.shape = search rules in
     bitmap-set a.at.0 a.extent a.rows a.region.now a.field.now (to_end a.at.0 a.region.now)
-    c.extent_of.ensures c.measure.ensures t (λ i. (c.type_inv.region i).fits) (grind (arith, common_steps)) c.requires c.set.ensures a.entry
+    c.extent_of.ensures c.measure.ensures t (λ i. (c.type_inv.region i).fits) (omega arith) c.requires c.set.ensures a.entry
 
 pub mark-requires : goal.mark-requires
 mark-requires g c =
     let a = c.args in
     let t : c.measure.result ≡ Ok c.in_ok-shape.shape = search rules in
     bitmap-sound a.entry a.at.0 a.extent a.rows a.region.now a.field.now (to_end a.at.0 a.region.now)
-    c.extent_of.ensures c.measure.ensures t (λ i. (c.type_inv.region i).fits) (grind (arith, common_steps))
+    c.extent_of.ensures c.measure.ensures t (λ i. (c.type_inv.region i).fits) (omega arith)
 
 pub returns-then-mark-clause-placed : goal.returns-then-mark-clause-placed
 returns-then-mark-clause-placed g c =
     let a = c.args in
     let t : c.measure.result ≡ Ok c.in_ok-shape.shape = search rules in
     λ told. bitmap_twice a.entry a.at.0 a.extent a.rows a.region.now a.field.now (to_end a.at.0 a.region.now)
-    c.extent_of.ensures c.measure.ensures t (λ i. (c.type_inv.region i).fits) (grind (arith, common_steps)) c.mark.ensures c.if-mark.true
+    c.extent_of.ensures c.measure.ensures t (λ i. (c.type_inv.region i).fits) (omega arith) c.mark.ensures c.if-mark.true
 
 pub returns-then-mark-clause-set : goal.returns-then-mark-clause-set
 returns-then-mark-clause-set g c =
     let a = c.args in
     let t : c.measure.result ≡ Ok c.in_ok-shape.shape = search rules in
     refused-set (bitmap_twice a.entry a.at.0 a.extent a.rows a.region.now a.field.now (to_end a.at.0 a.region.now)
-    c.extent_of.ensures c.measure.ensures t (λ i. (c.type_inv.region i).fits) (grind (arith, common_steps)) c.mark.ensures c.if-mark.true)
+    c.extent_of.ensures c.measure.ensures t (λ i. (c.type_inv.region i).fits) (omega arith) c.mark.ensures c.if-mark.true)
 
 pub returns-clause-placed : goal.returns-clause-placed
 returns-clause-placed g c =
     let a = c.args in
     let t : c.measure.result ≡ Ok c.in_ok-shape.shape = search rules in
     λ told. bitmap_done a.entry a.at.0 a.extent a.rows a.region.now a.field.now (to_end a.at.0 a.region.now)
-    c.extent_of.ensures c.measure.ensures t (λ i. (c.type_inv.region i).fits) (grind (arith, common_steps)) c.mark.ensures c.requires c.if-mark.false
+    c.extent_of.ensures c.measure.ensures t (λ i. (c.type_inv.region i).fits) (omega arith) c.mark.ensures c.requires c.if-mark.false
 
 pub returns-clause-set : goal.returns-clause-set
 returns-clause-set g c =
     let a = c.args in
     let t : c.measure.result ≡ Ok c.in_ok-shape.shape = search rules in
     bitmap-set a.at.0 a.extent a.rows a.region.now a.field.now (to_end a.at.0 a.region.now)
-    c.extent_of.ensures c.measure.ensures t (λ i. (c.type_inv.region i).fits) (grind (arith, common_steps)) c.requires c.mark.ensures.marked a.entry
+    c.extent_of.ensures c.measure.ensures t (λ i. (c.type_inv.region i).fits) (omega arith) c.requires c.mark.ensures.marked a.entry
