@@ -42,10 +42,6 @@ returns-then-number-ge-SIGN_BIT c = λ d ds l es f.
     = record { from = c.requires.0; to = c.requires.1; value = c.known_end-end.ensures; listed = l } in
     block_negative here es f c.be-offset.ensures.value c.if-offset-at.false (omega arith) c.be-number.ensures.value c.if-number-lt1.false c.if-number-ge-SIGN_BIT.true
 
-pub block_entries-requires : goal.block_entries-requires
-block_entries-requires c =
-    (omega arith, c.requires.2, (omega (arith, c.known_end-end.ensures.1), c.known_end-end.ensures.2))
-
 pub returns-in_err-entries : goal.returns-in_err-entries
 returns-in_err-entries c =
     let a = c.args in
