@@ -146,6 +146,10 @@ matches_longer asked stored l =
     (λ x. sym (telling false _ asked x.0 x.1 x.2 ∙ same-other (modified x.0) stored (λ e. omega (arith, e, ap length x.2, standard-short x.0))))
     (λ e. rw e) (read-or asked)
 
+pub matches_other : (asked stored : List ℕ) → (IsUtf8 asked → ⊥) → false ≡ matches asked stored
+unfolding matches
+matches_other asked stored n = sym (other_told asked false _ n)
+
 front_rest : (x y l : List ℕ) → same l (x ++ y) ≡ same (take (length x) l) x && same (drop (length x) l) y
 unfolding same
 front_rest [] y l = refl

@@ -25,7 +25,8 @@ use Rattle.dictionary.specs.Promises.{AfterCount, AfterEntries, pattern, nulls, 
 use Rattle.dictionary.proofs.Fields.{byte_at}
 use Rattle.dictionary.proofs.Steps.{word_at, word_short}
 use Rattle.opening.specs.Reading.{Front, rest_of_front, front}
-use Rattle.opening.specs.Promises.{NullFits, FrontIs}
+use Rattle.opening.specs.declared.Fields.{Fields}
+use Rattle.opening.specs.Promises.{front_found, NullFits, FrontIs}
 
 -- ---- a count, whatever follows
 
@@ -202,6 +203,16 @@ module _ (s : List ℕ) where
                   unfolding check
                   front_unfit z = tested ∙ rw z
 
-                  pub front_read : fit ≡ true → Bytes s → FrontIs s (Ok (record { rows = rows; values = n; null = null; blocks = b; directory = position (p.0 + 4) }))
+                  abbrev fields : Fields
+                  fields = record { rows = rows; values = n; null = null; blocks = b; directory = position (p.0 + 4) }
+
+                  -- of any numbers, also where they are no bytes
+                  pub front_read : fit ≡ true → (front s ≡ Ok (front_found s fields)) × ((fields.directory.0 ≤ length s) × (fields.blocks ≤ most_blocks))
                   unfolding check
-                  front_read z bytes = (tested ∙ rw z, (y.1, y.2, null_fits (drop 10 s) (bytes_drop 10 s bytes) (eqb h 1) null x.0))
+                  front_read z = (tested ∙ rw z, (y.1, y.2))
+
+                  -- of bytes null's offset has 32 bits, too
+                  pub front_fits : fit ≡ true → Bytes s → FrontIs s (Ok fields)
+                  front_fits z bytes =
+                      let (read, fits) = front_read z in
+                      (read, (fits.0, fits.1, null_fits (drop 10 s) (bytes_drop 10 s bytes) (eqb h 1) null x.0))

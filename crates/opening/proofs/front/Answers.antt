@@ -1,7 +1,7 @@
 -- `front` meets its contract: each way out is a law of the reading of the fields in front.
 use Rattle.std.proofs.Common.{◌≡◌, Err, rules}
 use Rattle.numbers.specs.Meaning.{Bytes}
-use Rattle.opening.proofs.FrontSteps.{front_empty, front-version, front-rows, front-values, front_cut, front-wrong, front-null, front-blocks, front_unfit, front_read}
+use Rattle.opening.proofs.FrontSteps.{front_empty, front-version, front-rows, front-values, front_cut, front-wrong, front-null, front-blocks, front_unfit, front_fits}
 use Rattle.opening.proofs.front.Goals as goal
 
 pub returns-then-body-lt-ROWS_AT : goal.returns-then-body-lt-ROWS_AT
@@ -52,6 +52,6 @@ pub returns : goal.returns
 returns c =
     let s = c.args.body.now in
     let bytes : Bytes s = λ i. (c.type_inv.body i).fits in
-    front_read s c.if-body-lt-ROWS_AT.false c.byte.ensures.0 c.if-byte-ne-VERSION.false c.in_ok-rows.ensures c.in_ok-values.ensures
+    front_fits s c.if-body-lt-ROWS_AT.false c.byte.ensures.0 c.if-byte-ne-VERSION.false c.in_ok-rows.ensures c.in_ok-values.ensures
     c.if-body-lt-NULL_AT.false c.byte-has.ensures.0 c.if-has-gt1.false c.in_ok-null.null c.in_ok-null.ensures c.in_ok-blocks.ensures c.blocks_fit.ensures
     c.if-not-blocks_fit.false bytes
