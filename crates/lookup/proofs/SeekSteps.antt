@@ -24,7 +24,7 @@ use Rattle.bitmap_index.specs.Promises.{Asked}
 use Rattle.bitmap_index.proofs.Asking.{ask_numbers_lem, ask_fault_lem}
 use Rattle.opening.specs.declared.Fields.{Fields}
 use Rattle.opening.specs.Reading.{front}
-use Rattle.opening.specs.Promises.{front_found, FieldsFit, FrontIs}
+use Rattle.opening.specs.Promises.{front_found}
 use Rattle.lookup.specs.declared.Base.{Base}
 use Rattle.lookup.specs.declared.Halving.{Halving}
 use Rattle.lookup.specs.declared.Found.{Found}
@@ -41,11 +41,9 @@ then_is o a k e = rw e
 
 -- ---- what comes before ROOM
 
-module _ (t : ℕ) (literal table s : List ℕ) {x : Result Fields Refusal} (w : FrontIs s x) where
-  module _ {g : Fields} (e : x ≡ Ok g) where
-    is_front : front s ≡ Ok (front_found s g)
-    is_front = (rw e at w).0
-
+-- of the front it is asked alone that it is what is read of s
+module _ (t : ℕ) (literal table s : List ℕ) (g : Fields) where
+  module _ (is_front : front s ≡ Ok (front_found s g)) where
     module _ (l : g.blocks ≤ length table) where
       pub seek_base : {b : Result Base Refusal} → BaseIs t table s g b → {r : Refusal} → b ≡ Err r → SoughtIs t literal table s (Err r)
       unfolding sought and_then check
