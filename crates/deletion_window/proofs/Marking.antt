@@ -26,7 +26,7 @@ use Rattle.window.proofs.Windows.{windowed-append, windowed-below, windowed-none
 use Rattle.window.proofs.Clipping.{clipped-rows, clipped_ordered, clipped_inside}
 use Rattle.roaring.specs.declared.Extent.TheVariants.{Exactly}
 use Rattle.roaring.specs.declared.Shape.{Shape}
-use Rattle.roaring.specs.Reading.{read, rows_read}
+use Rattle.roaring.specs.Reading.{Parsed, read, rows_read}
 use Rattle.roaring.proofs.Measuring.{read_rises, rows-measured, measured-read}
 use Rattle.roaring_mark.specs.Promises.{Accepts}
 use Rattle.roaring_mark.proofs.ContainerMarks.{rows_of}
@@ -36,7 +36,7 @@ use Rattle.deletion_file.proofs.WalkSteps.{then_then}
 use Rattle.deletion_window.specs.declared.Indexed.{Indexed}
 use Rattle.deletion_window.specs.Layout.{index_rows, end_of_all_rows}
 use Rattle.deletion_window.specs.Reading.{wrong, indexed_bitmap, bitmaps_in, rows64, rows32}
-use Rattle.deletion_window.specs.Promises.{FoundBitmap, MarksEach, IsClear}
+use Rattle.deletion_window.specs.Promises.{MarksEach, IsClear}
 
 -- ---- one bitmap
 
@@ -128,17 +128,18 @@ module _ (first n : ℕ) (bytes : List ℕ) where
       unfolding and_then
       each_unsound e = some_marked (turn ∙ rw e)
 
-      pub each_next : {x : Indexed} (w : FoundBitmap least left x) {f' : List ℕ}
+      pub each_next : (x : Indexed) {bitmap : Parsed} → read x.bitmap.now ≡ Ok bitmap
+          → indexed_bitmap least left ≡ Ok (record { index = x.index; rows = above (x.index * index_rows) bitmap.rows; behind = x.behind.now }) → {f' : List ℕ}
           → f' ≡ mark_all f (rows_in_window first n (above (x.index * index_rows) (rows_read (read x.bitmap.now))))
           → Each first n bytes f₀ f' k x.behind.now (x.index + 1)
       unfolding and_then
-      each_next {x} w {f'} m =
-          let rows : List ℕ = above (x.index * index_rows) w.bitmap.rows in
+      each_next x {bitmap} is_read so {f'} m =
+          let rows : List ℕ = above (x.index * index_rows) bitmap.rows in
           let rest : Result (List ℕ) Refusal = bitmaps_in k (x.index + 1) x.behind.now in
-          let g : f' ≡ mark_all f (rows_in_window first n rows) = rw (rows_of (read x.bitmap.now) w.bitmap w.is_read) at m in
+          let g : f' ≡ mark_all f (rows_in_window first n rows) = rw (rows_of (read x.bitmap.now) bitmap is_read) at m in
           record {
             so_far = st.so_far ++ rows;
-            so = turn ∙ rw w.so (then_then rest _ _ ∙ then_same rest _ _ (λ more. ap Ok (sym (append_assoc st.so_far rows more))));
+            so = turn ∙ rw so (then_then rest _ _ ∙ then_same rest _ _ (λ more. ap Ok (sym (append_assoc st.so_far rows more))));
             marked = g ∙ rw st.marked (sym (mark_all-append f₀ (rows_in_window first n st.so_far) (rows_in_window first n rows)))
                 ∙ ap (mark_all f₀) (sym (windowed-append (row_window first n) st.so_far rows));
           }

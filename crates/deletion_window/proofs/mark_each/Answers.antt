@@ -29,7 +29,7 @@ loop-preserved c =
     let l = c.loop in
     let more : c.le-count.result - l.counter ≡ suc (c.le-count.result - (l.counter + 1)) = omega arith in (
       c.mark_indexed.auto.field ∙ l.invariant.0,
-      each_next a.shown.first a.shown.rows a.bytes.now l.invariant.1 more c.in-Some.ensures c.mark_indexed.ensures,
+      each_next a.shown.first a.shown.rows a.bytes.now l.invariant.1 more c.in-Some.next c.in-Some.ensures.is_read c.in-Some.ensures.so c.mark_indexed.ensures,
     )
 
 pub returns : goal.returns
