@@ -41,75 +41,74 @@ then_is o a k e = rw e
 
 -- ---- what comes before ROOM
 
--- of the front it is asked alone that it is what is read of s
-module _ (t : ℕ) (literal table s : List ℕ) (g : Fields) where
-  module _ (is_front : front s ≡ Ok (front_found s g)) where
-    module _ (l : g.blocks ≤ length table) where
-      pub seek_base : {b : Result Base Refusal} → BaseIs t table s g b → {r : Refusal} → b ≡ Err r → SoughtIs t literal table s (Err r)
+-- g are the fields that are read; nothing else is asked of them
+module _ (t : ℕ) (literal table s : List ℕ) (g : Fields) (is_front : front s ≡ Ok (front_found s g)) where
+  module _ (l : g.blocks ≤ length table) where
+    pub seek_base : {b : Result Base Refusal} → BaseIs t table s g b → {r : Refusal} → b ≡ Err r → SoughtIs t literal table s (Err r)
+    unfolding sought and_then check
+    seek_base v {r} j =
+        let k : BaseIs t table s g (Err r) = rw j at v in
+        rw (is_front, le-leb g.blocks (length table) l) (k _)
+
+    module _ {b : Result Base Refusal} (v : BaseIs t table s g b) {base region : ℕ} (j : b ≡ Ok (record { base = position base; region = position region })) where
+      is_base : BaseIs t table s g (Ok (record { base = position base; region = position region }))
+      is_base = rw j at v
+
+      based : sought t literal table s ≡ and_then (halving t literal table s g.blocks 0 g.blocks 0 0) (λ h.
+          and_then (cond (eqb h.below 0) (Ok no_block) (searched t literal (drop h.at (drop base s)))) (λ b.
+          Ok (record { rows = g.rows; nulls = (front_found s g).nulls; region = drop region s; directory = h; block = b })))
       unfolding sought and_then check
-      seek_base v {r} j =
-          let k : BaseIs t table s g (Err r) = rw j at v in
-          rw (is_front, le-leb g.blocks (length table) l) (k _)
+      based =
+          let z : base + (region - base) ≡ region = omega (arith, is_base.1) in
+          let d : drop (region - base) (drop base s) ≡ drop region s = drop-drop (region - base) base s ∙ rw z in
+          rw (is_front, le-leb g.blocks (length table) l) (is_base.0 _ ∙ rw d)
 
-      module _ {b : Result Base Refusal} (v : BaseIs t table s g b) {base region : ℕ} (j : b ≡ Ok (record { base = position base; region = position region })) where
-        is_base : BaseIs t table s g (Ok (record { base = position base; region = position region }))
-        is_base = rw j at v
+      pub seek_halved : {h : Result Halving Refusal} → HalvedIs t literal table s g.blocks h → {r : Refusal} → h ≡ Err r → SoughtIs t literal table s (Err r)
+      unfolding and_then
+      seek_halved u {r} k =
+          let i : HalvedIs t literal table s g.blocks (Err r) = rw k at u in
+          based ∙ rw i
 
-        based : sought t literal table s ≡ and_then (halving t literal table s g.blocks 0 g.blocks 0 0) (λ h.
-            and_then (cond (eqb h.below 0) (Ok no_block) (searched t literal (drop h.at (drop base s)))) (λ b.
-            Ok (record { rows = g.rows; nulls = (front_found s g).nulls; region = drop region s; directory = h; block = b })))
-        unfolding sought and_then check
-        based =
-            let z : base + (region - base) ≡ region = omega (arith, is_base.1) in
-            let d : drop (region - base) (drop base s) ≡ drop region s = drop-drop (region - base) base s ∙ rw z in
-            rw (is_front, le-leb g.blocks (length table) l) (is_base.0 _ ∙ rw d)
+      module _ {h : Result Halving Refusal} (u : HalvedIs t literal table s g.blocks h) {below offset compared : ℕ} (k : h ≡ Ok (record { below = below; offset = offset; compared = compared })) where
+        is_halved : HalvedIs t literal table s g.blocks (Ok (record { below = below; offset = offset; compared = compared }))
+        is_halved = rw k at u
 
-        pub seek_halved : {h : Result Halving Refusal} → HalvedIs t literal table s g.blocks h → {r : Refusal} → h ≡ Err r → SoughtIs t literal table s (Err r)
+        halved : sought t literal table s ≡ and_then (cond (eqb below 0) (Ok no_block) (searched t literal (drop offset (drop base s)))) (λ b.
+            Ok (record {
+              rows = g.rows;
+              nulls = (front_found s g).nulls;
+              region = drop region s;
+              directory = record { below = below; at = offset; compared = compared };
+              block = b;
+            }))
         unfolding and_then
-        seek_halved u {r} k =
-            let i : HalvedIs t literal table s g.blocks (Err r) = rw k at u in
-            based ∙ rw i
+        halved = based ∙ rw is_halved.0
 
-        module _ {h : Result Halving Refusal} (u : HalvedIs t literal table s g.blocks h) {below offset compared : ℕ} (k : h ≡ Ok (record { below = below; offset = offset; compared = compared })) where
-          is_halved : HalvedIs t literal table s g.blocks (Ok (record { below = below; offset = offset; compared = compared }))
-          is_halved = rw k at u
+        pub seek_searched : {f : Result Found Refusal} → BlockAt t literal s base below offset f → {r : Refusal} → f ≡ Err r → SoughtIs t literal table s (Err r)
+        unfolding and_then
+        seek_searched c {r} m =
+            let i : BlockAt t literal s base below offset (Err r) = rw m at c in
+            halved ∙ rw i
 
-          halved : sought t literal table s ≡ and_then (cond (eqb below 0) (Ok no_block) (searched t literal (drop offset (drop base s)))) (λ b.
-              Ok (record {
+        pub seek_found : {y : Result Found Refusal} (c : BlockAt t literal s base below offset y) {f : Found} → y ≡ Ok f → {at : Cursor} {version : Version} {values : ℕ}
+            → SoughtIs t literal table s (Ok (record {
+              summary = record { rows = g.rows; values = values; version = version; null = g.null; first = at; region = position region };
+              found = f;
+              compared = compared + f.compared;
+            }))
+        unfolding and_then
+        seek_found c {f} m =
+            let i : BlockAt t literal s base below offset (Ok f) = rw m at c in (
+              record {
                 rows = g.rows;
                 nulls = (front_found s g).nulls;
                 region = drop region s;
                 directory = record { below = below; at = offset; compared = compared };
-                block = b;
-              }))
-          unfolding and_then
-          halved = based ∙ rw is_halved.0
-
-          pub seek_searched : {f : Result Found Refusal} → BlockAt t literal s base below offset f → {r : Refusal} → f ≡ Err r → SoughtIs t literal table s (Err r)
-          unfolding and_then
-          seek_searched c {r} m =
-              let i : BlockAt t literal s base below offset (Err r) = rw m at c in
-              halved ∙ rw i
-
-          pub seek_found : {y : Result Found Refusal} (c : BlockAt t literal s base below offset y) {f : Found} → y ≡ Ok f → {at : Cursor} {version : Version} {values : ℕ}
-              → SoughtIs t literal table s (Ok (record {
-                summary = record { rows = g.rows; values = values; version = version; null = g.null; first = at; region = position region };
-                found = f;
-                compared = compared + f.compared;
-              }))
-          unfolding and_then
-          seek_found c {f} m =
-              let i : BlockAt t literal s base below offset (Ok f) = rw m at c in (
-                record {
-                  rows = g.rows;
-                  nulls = (front_found s g).nulls;
-                  region = drop region s;
-                  directory = record { below = below; at = offset; compared = compared };
-                  block = searched_of i.0 literal f;
-                },
-                halved ∙ then_is _ (searched_of i.0 literal f) _ i.1,
-                record { rows = refl; nulls = refl; region = refl; hit = refl; number = refl; compared = refl; inside = is_base.2 },
-              )
+                block = searched_of i.0 literal f;
+              },
+              halved ∙ then_is _ (searched_of i.0 literal f) _ i.1,
+              record { rows = refl; nulls = refl; region = refl; hit = refl; number = refl; compared = refl; inside = is_base.2 },
+            )
 
 -- ---- the whole
 

@@ -146,6 +146,7 @@ matches_longer asked stored l =
     (λ x. sym (telling false _ asked x.0 x.1 x.2 ∙ same-other (modified x.0) stored (λ e. omega (arith, e, ap length x.2, standard-short x.0))))
     (λ e. rw e) (read-or asked)
 
+-- an asked name that is no text is no stored one. No proof here needs it: it is for those who cite these laws
 pub matches_other : (asked stored : List ℕ) → (IsUtf8 asked → ⊥) → false ≡ matches asked stored
 unfolding matches
 matches_other asked stored n = sym (other_told asked false _ n)

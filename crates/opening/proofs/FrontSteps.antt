@@ -206,12 +206,12 @@ module _ (s : List ℕ) where
                   abbrev fields : Fields
                   fields = record { rows = rows; values = n; null = null; blocks = b; directory = position (p.0 + 4) }
 
-                  -- of any numbers, also where they are no bytes
+                  -- of any numbers, bytes or not
                   pub front_read : fit ≡ true → (front s ≡ Ok (front_found s fields)) × ((fields.directory.0 ≤ length s) × (fields.blocks ≤ most_blocks))
                   unfolding check
                   front_read z = (tested ∙ rw z, (y.1, y.2))
 
-                  -- of bytes null's offset has 32 bits, too
+                  -- of bytes, where null's offset has 32 bits
                   pub front_fits : fit ≡ true → Bytes s → FrontIs s (Ok fields)
                   front_fits z bytes =
                       let (read, fits) = front_read z in
